@@ -1,0 +1,8 @@
+//! Instructions, faults, records and the state of a thread, as data.
+#![tactic(auto)]
+
+mod instructions;
+mod threads;
+
+pub use instructions::{AluOp, Base, Cond, Count, Instr, Mem, Operand, Reg, Size};
+pub use threads::{Arch, End, Fault, FaultName, Record, What};

@@ -1,0 +1,76 @@
+ghost use Rattle.std.specs.Prelude.{◌≡◌, ◌<◌, ◌+◌, ◌^◌, find, All, IfSome};
+ghost use Rattle.std.specs.Option.{option_copied};
+ghost use Rattle.cet_words.specs.Job.{covers, IsSegment};
+ghost use Rattle.cet_words.specs.Layout.{entry_of, entry_with, segment_entry, no_execute};
+
+use crate::images::{Image, Segment};
+
+const NO_EXECUTE: u64 = 1 << 63;
+
+/// Whether the segment has a byte in the page that begins at 4096 * `number`.
+fn covers(segment: &Segment, number: u64) -> bool
+    requires { IsSegment segment.now }
+    ensures { result ≡ covers number segment.now }
+{
+    segment.size > 0
+        && segment.start / 4096 <= number
+        && number <= (segment.start + segment.size - 1) / 4096
+}
+
+/// The first segment that has a byte in the page that begins at 4096 * `number`.
+fn segment_of(segments: &[Segment], number: u64) -> Option<&Segment>
+    requires { All IsSegment segments.now }
+    ensures { option_copied result ≡ find (covers number) segments.now }
+{
+    segments.iter().find(|segment| covers(segment, number))
+}
+
+fn entry_with(page: u32, bits: u64) -> u64
+    requires page { page < 3154 }
+    requires bits { bits < 4096 }
+    ensures value { result ≡ entry_with page bits }
+    ensures small { result < 2 ^ 63 }
+{
+    4096 * (u64::from(page) + 256) + bits
+}
+
+/// The entry of a page in a segment, by the segment's rights.
+fn segment_entry(page: u32, segment: &Segment) -> u64
+    requires { page < 3154 }
+    ensures { result ≡ segment_entry page (Some segment.now) }
+{
+    if segment.exec {
+        entry_with(page, 0x25)
+    } else if segment.write {
+        NO_EXECUTE + entry_with(page, 0x67)
+    } else {
+        NO_EXECUTE + entry_with(page, 0x25)
+    }
+}
+
+fn image_entry(image: &Image, page: u32) -> u64
+    requires { page < 1024 }
+    ensures { result ≡ segment_entry page (find (covers (1024 + page)) image.now.segments) }
+{
+    match segment_of(image.segments.as_slice(), u64::from(1024 + page)) {
+        Some(segment) => segment_entry(page, segment),
+        None => 0,
+    }
+}
+
+/// The one present entry of a page, with bits as in the Intel SDM (4-level paging); 0 for a page that
+/// is never present.
+#[tactic(auto, unfolding(crate::specs::Layout::entry_of))]
+pub fn present(image: &Image, page: u32) -> u64
+    requires { page < 3154 }
+    ensures { result ≡ entry_of image.now page }
+{
+    match page {
+        0..1024 => image_entry(image, page),
+        1024..2112 => NO_EXECUTE + entry_with(page, 0x67),
+        2112..3136 => NO_EXECUTE + entry_with(page, 0x65),
+        3136 => NO_EXECUTE + entry_with(page, 0x63),
+        _ if page % 2 == 0 => NO_EXECUTE + entry_with(page, 0x61),
+        _ => 0,
+    }
+}

@@ -1,0 +1,62 @@
+ghost use Rattle.std.specs.Prelude.{◌≡◌, ℕ, length, List};
+
+use crate::accesses::{Access, Perform};
+use std::marker::Model;
+
+/// The words of a machine that one thread of the program works on.
+#[derive(Drop)]
+pub struct Plain {
+    words: Vec<u64>,
+}
+
+impl Model for Plain {
+    ghost Value = { List ℕ };
+
+    ghost view = { λ p. p.words.items };
+
+    ghost invariant = { λ p. length p.words.items ≡ 1618002 };
+}
+
+const FIRST_ENTRY: usize = 1_614_848;
+
+impl Perform for Plain {
+    ghost words = { λ p. p };
+
+    fn perform(&mut self, access: Access) -> u64 {
+        match access {
+            Access::Look(page) => self.words[FIRST_ENTRY + page as usize],
+            Access::Load(word) => self.words[word as usize],
+            Access::Store(word, value) => {
+                self.words[word as usize] = value;
+                0
+            }
+            Access::Swap(word, value) => {
+                let old = self.words[word as usize];
+                self.words[word as usize] = value;
+                old
+            }
+            Access::FetchAdd(word, value) => {
+                let old = self.words[word as usize];
+                self.words[word as usize] = old.wrapping_add(value);
+                old
+            }
+            Access::FetchOr(word, value) => {
+                let old = self.words[word as usize];
+                self.words[word as usize] = old | value;
+                old
+            }
+            Access::FetchAnd(word, value) => {
+                let old = self.words[word as usize];
+                self.words[word as usize] = old & value;
+                old
+            }
+            Access::CompareExchange(word, expected, value) => {
+                let old = self.words[word as usize];
+                if old == expected {
+                    self.words[word as usize] = value;
+                }
+                old
+            }
+        }
+    }
+}
