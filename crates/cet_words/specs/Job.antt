@@ -1,5 +1,5 @@
 -- An image and a job as plain data, and what holds of each. Source: System V ABI for x86-64; limits are own.
-use Rattle.std.specs.Prelude.{◌≡◌, ℕ, ◌+◌, ◌-◌, ◌/◌, ◌<◌, ◌≤◌, Bool, false, ◌&&◌, ◌==◌, nat_lt, nat_le, List, length, All, AllPairs, Any, IsTrue, ◌⊎◌}
+use Rattle.std.specs.Prelude.{◌≡◌, ℕ, ◌+◌, ◌-◌, ◌/◌, ◌<◌, ◌≤◌, Bool, false, ◌&&◌, nat_lt, nat_le, List, length, All, AllPairs, Any, IsTrue, ◌⊎◌}
 use Rattle.cet_words.specs.declared.images.Segment.{Segment}
 use Rattle.cet_words.specs.declared.images.Signal.{Signal}
 

@@ -1,3 +1,4 @@
 pub mod Job
 pub mod Layout
+pub mod Bytes
 pub mod Access

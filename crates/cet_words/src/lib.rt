@@ -5,6 +5,7 @@
 #![tactic(auto)]
 
 mod accesses;
+mod bytes;
 mod entries;
 mod images;
 mod lists;
@@ -12,6 +13,7 @@ mod memory;
 mod places;
 
 pub use accesses::{Access, Perform};
+pub use bytes::code_byte;
 pub use entries::present;
 pub use images::{Image, Job, Segment, Segments, Signal, Signals};
 pub use lists::{Bytes, Items, NoMemory, Words};

@@ -1,0 +1,27 @@
+ghost use Rattle.std.specs.Prelude.{◌≡◌};
+ghost use Rattle.cet_words.specs.Bytes.{segment_byte, code_byte};
+
+use crate::entries::segment_of;
+use crate::images::{Image, Segment};
+
+/// The byte at an address of one of the segment's pages: 0 outside its file bytes.
+fn segment_byte(segment: &Segment, addr: u64) -> u8
+    ensures { result ≡ segment_byte segment.now addr }
+{
+    if addr < segment.start {
+        return 0;
+    }
+    let at = (addr - segment.start) as usize;
+    segment.bytes.get(at).copied().unwrap_or(0)
+}
+
+/// The byte of code at an address, or none where no executable segment covers the address's page.
+#[tactic(auto, unfolding(crate::specs::Bytes::code_byte))]
+pub fn code_byte(image: &Image, addr: u64) -> Option<u8>
+    ensures { result ≡ code_byte image.now.segments addr }
+{
+    match segment_of(image.segments.as_slice(), addr / 4096) {
+        Some(segment) if segment.exec => Some(segment_byte(segment, addr)),
+        _ => None,
+    }
+}
