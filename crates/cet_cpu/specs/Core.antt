@@ -1,0 +1,165 @@
+-- A thread without its trace, and what one access does to it. Source: own: this is the atomic step of the machine.
+use Rattle.std.proofs.Common.{zero, suc}
+use Rattle.std.specs.Prelude.{◌≡◌, ℕ, ◌+◌, ◌%◌, ◌^◌, List, [], ◌∷◌, Bool, ◌&&◌, Option, Some, None, ◌==◌, if◌then◌else◌, slice_index, slice_set}
+use Rattle.cet_words.specs.Job.{JobData}
+use Rattle.cet_words.specs.declared.accesses.Access.{Access}
+use Rattle.cet_words.specs.declared.accesses.Access.TheVariants as access
+use Rattle.cet_isa.specs.declared.threads.Fault.{Fault}
+use Rattle.cet_isa.specs.declared.threads.Record.{Record}
+use Rattle.cet_isa.specs.declared.threads.What.TheVariants as what
+use Rattle.cet_isa.specs.declared.threads.Arch.{Arch}
+use Rattle.cet_isa.specs.declared.threads.End.{End}
+use Rattle.cet_isa.specs.declared.threads.End.TheVariants as ending
+use Rattle.cet_cpu.specs.Change.{Change, birth}
+use Rattle.cet_cpu.specs.Script.{Script, Came, Over, Faulted, Wants, play, changes_at}
+use Rattle.cet_cpu.specs.Seen.{Seen, nothing_seen, seen_after}
+use Rattle.cet_cpu.specs.Finish.{above, counted}
+use Rattle.cet_cpu.specs.Gate.{stack_of, token, token_word}
+use Rattle.cet_cpu.specs.Row.{row}
+use Rattle.cet_cpu.specs.declared.rows.Finish.{Finish}
+use Rattle.cet_cpu.specs.declared.rows.Finish.TheVariants.{Noted, Posted, Exited, Stopped}
+
+-- the state, what was seen in the present row, and the end
+pub record Core : Type 0 where
+  pub arch : Arch
+  pub seen : Seen
+  pub over : Option End
+
+-- what an access leaves: the thread, the record that it completed, and the thread that it bore
+pub record After : Type 0 where
+  pub core : Core
+  pub noted : Option Record
+  pub child : Option Core
+
+-- the sixteen registers of thread 0: RSP stands below the end of the main stack
+abbrev pub first_regs : List ℕ
+first_regs = 0 ∷ 0 ∷ 0 ∷ 0 ∷ 0x7fffffc0 ∷ 0 ∷ 0 ∷ 0 ∷ 0 ∷ 0 ∷ 0 ∷ 0 ∷ 0 ∷ 0 ∷ 0 ∷ 0 ∷ []
+
+-- thread 0, whose shadow stack is from 0x200001000 to 0x200009000
+abbrev pub first_core : JobData → Core
+first_core job = record {
+  arch = record {
+    regs = first_regs;
+    rip = job.image.entry;
+    flags = 2;
+    ssp = 0x200009000;
+    mask = 0;
+    count = 0;
+    posted = 0;
+    number = 0;
+    made = 0x200001000;
+    due = None;
+    held = None;
+  };
+  seen = nothing_seen;
+  over = None;
+}
+
+-- Nothing within a row depends on the supervisor stack that is held: a row is that of the state without it.
+abbrev pub unheld : Arch → Arch
+unheld arch = record arch { held = None }
+
+-- what a row has come to
+abbrev pub come : JobData → Arch → Seen → Came Finish
+come job arch seen = play (row job (unheld arch)) seen.count seen.kept
+
+abbrev pub wanted : Came Finish → Option Access
+wanted (Wants a) = Some a
+wanted (Faulted e) = None
+wanted (Over x left values) = None
+
+abbrev pub access_of : JobData → Core → Option End → Option Access
+access_of job core (Some e) = None
+access_of job core None = wanted (come job core.arch core.seen)
+
+-- the next access; none exactly where the thread has ended
+unfoldable pub next_access : JobData → Core → Option Access
+next_access job core = access_of job core core.over
+
+-- The exchange of the token of supervisor stack k from free to busy takes the stack where it was free, and the exchange
+-- from busy to free gives it back.
+abbrev pub held_after : (k : ℕ) → Access → (answer : ℕ) → Option ℕ → Option ℕ
+held_after k (access.CompareExchange word expected value) answer held =
+    if word == token_word k
+    then (if expected == token k then (if answer == token k then Some k else held) else None)
+    else held
+held_after k (access.Look page) answer held = held
+held_after k (access.Load word) answer held = held
+held_after k (access.Store word value) answer held = held
+held_after k (access.Swap word value) answer held = held
+held_after k (access.FetchAdd word value) answer held = held
+held_after k (access.FetchOr word value) answer held = held
+held_after k (access.FetchAnd word value) answer held = held
+
+-- the child of a clone: the parent's registers after SYSCALL with RAX 0 and the stack of RSI, and its own shadow stack
+abbrev pub child_arch : Arch → (child start : ℕ) → Arch
+child_arch arch child start = record arch {
+  regs = slice_set (slice_set (slice_set (slice_set arch.regs 1 (above arch.rip 2)) 11 arch.flags) 0 0) 4 (slice_index arch.regs 6);
+  rip = above arch.rip 2;
+  ssp = start + 32768;
+  count = 0;
+  posted = 0;
+  number = child;
+  made = start;
+  due = None;
+  held = None;
+}
+
+abbrev pub child_core : Arch → (child start : ℕ) → Core
+child_core arch child start = record { arch = child_arch arch child start; seen = nothing_seen; over = None }
+
+-- a birth appends the child
+abbrev pub born : Arch → Option (ℕ × ℕ) → Option Core
+born arch None = None
+born arch (Some b) = Some (child_core arch b.0 b.1)
+
+abbrev pub child_of : Arch → List Change → Option Core
+child_of arch changes = born arch (birth changes)
+
+-- a new state keeps the thread's number, and holds what the access left it
+abbrev pub kept_by : Arch → Option ℕ → Arch → Arch
+kept_by arch held next = record next { number = arch.number; held = held }
+
+-- after a record the thread goes on, unless it has reached the limit
+abbrev pub recorded : JobData → Arch → Core
+recorded job next = record { arch = next; seen = nothing_seen; over = if next.count == job.limit then Some ending.Limit else None }
+
+abbrev pub fault_record : Arch → Fault → Record
+fault_record arch e = record { rip = arch.rip; what = what.Fault e.name; code = e.code; a = e.a; b = e.b }
+
+-- a fault changes no register, flag, SSP or mask; it is due
+abbrev pub faulted : Arch → Fault → Arch
+faulted arch e = record arch { due = Some e; count = arch.count + 1 }
+
+-- the thread, by what its row has come to
+abbrev pub core_by : JobData → Arch → Option ℕ → Seen → Came Finish → Core
+core_by job arch held seen (Wants a) = record { arch = kept_by arch held arch; seen = seen; over = None }
+core_by job arch held seen (Faulted e) = recorded job (kept_by arch held (faulted arch e))
+core_by job arch held seen (Over (Noted next noted) left values) = recorded job (kept_by arch held next)
+core_by job arch held seen (Over (Posted next) left values) = record { arch = kept_by arch held next; seen = nothing_seen; over = None }
+core_by job arch held seen (Over (Exited next noted status) left values) =
+    record { arch = kept_by arch held next; seen = nothing_seen; over = Some (ending.Exit status) }
+core_by job arch held seen (Over Stopped left values) = record { arch = kept_by arch held arch; seen = nothing_seen; over = Some ending.Group }
+
+-- the record that came with it
+abbrev pub noted_by : Arch → Came Finish → Option Record
+noted_by arch (Wants a) = None
+noted_by arch (Faulted e) = Some (fault_record arch e)
+noted_by arch (Over (Noted next noted) left values) = Some noted
+noted_by arch (Over (Posted next) left values) = None
+noted_by arch (Over (Exited next noted status) left values) = Some noted
+noted_by arch (Over Stopped left values) = None
+
+-- what the answer to a wanted access leaves
+abbrev pub answered : JobData → Core → (answer : ℕ) → Came Finish → After
+answered job core answer (Wants a) = record {
+  core = core_by job core.arch (held_after (stack_of job core.arch) a answer core.arch.held) (seen_after core.seen a answer) (come job core.arch (seen_after core.seen a answer));
+  noted = noted_by core.arch (come job core.arch (seen_after core.seen a answer));
+  child = child_of core.arch (changes_at (row job (unheld core.arch)) core.seen.count core.seen.kept answer);
+}
+answered job core answer (Faulted e) = record { core = core; noted = None; child = None }
+answered job core answer (Over x left values) = record { core = core; noted = None; child = None }
+
+-- what the answer to its next access makes of a thread that hasn't ended
+unfoldable pub taken : JobData → Core → (answer : ℕ) → After
+taken job core answer = answered job core answer (come job core.arch core.seen)

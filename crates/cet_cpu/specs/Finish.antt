@@ -1,0 +1,41 @@
+-- What rows come to, and the arithmetic of addresses. Source: own.
+use Rattle.std.specs.Prelude.{◌≡◌, ℕ, ◌+◌, ◌-◌, ◌%◌, ◌^◌, ◌≤◌, List, slice_index}
+use Rattle.cet_isa.specs.declared.threads.Arch.{Arch}
+use Rattle.cet_isa.specs.declared.threads.Record.{Record}
+use Rattle.cet_cpu.specs.declared.rows.Finish.{Finish}
+use Rattle.cet_cpu.specs.declared.rows.Finish.TheVariants as finish
+use Rattle.cet_cpu.specs.Script.{Script, done}
+
+-- the part of an instruction or a kernel call: the state after it, and its record
+abbrev pub Row : Type 0
+Row = Script (Arch × Record)
+
+abbrev pub noted : Arch × Record → Script Finish
+noted x = done (finish.Noted x.0 x.1)
+
+-- sums and differences of addresses go modulo 2 ^ 64
+abbrev pub above : ℕ → ℕ → ℕ
+above addr bytes = (addr + bytes) % 2 ^ 64
+
+abbrev pub below : ℕ → ℕ → ℕ
+below addr bytes = (addr + (2 ^ 64 - bytes)) % 2 ^ 64
+
+-- the general registers that the machine names itself, by their encodings
+abbrev pub rax : Arch → ℕ
+rax arch = slice_index arch.regs 0
+
+abbrev pub rsp : Arch → ℕ
+rsp arch = slice_index arch.regs 4
+
+abbrev pub rdi : Arch → ℕ
+rdi arch = slice_index arch.regs 7
+
+-- one record more
+abbrev pub counted : Arch → Arch
+counted arch = record arch { count = arch.count + 1 }
+
+-- the start of eight whole pages of the shadow area
+pub record IsMade (made : ℕ) : Type 0 where
+  pub low : 0x200000000 ≤ made
+  pub high : made + 32768 ≤ 0x200400000
+  pub whole : made % 4096 ≡ 0

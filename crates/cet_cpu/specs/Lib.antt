@@ -1,0 +1,15 @@
+pub mod Change
+pub mod Script
+pub mod Seen
+pub mod Page
+pub mod Parts
+pub mod Finish
+pub mod Flow
+pub mod Gate
+pub mod Fetch
+pub mod Row
+pub mod Core
+pub mod Plays
+pub mod Orderly
+pub mod OrderlyRows
+pub mod Within

@@ -1,0 +1,204 @@
+-- Every row is orderly: at most 4,096 accesses and 31 kept answers, and it begins with an access.
+use Rattle.std.proofs.Common.{zero, suc, true, false, cond, refl}
+use Rattle.std.specs.Prelude.{◌≡◌, ℕ, ◌+◌, ◌-◌, Bool, ◌||◌, ◌&&◌, ◌==◌, nat_le, List, [], ◌∷◌, ◌++◌, length, Option, Some, None, ℤ}
+use Rattle.std.specs.Int.{w32, w64, cast_unsigned}
+use Rattle.cet_words.specs.Job.{JobData}
+use Rattle.cet_words.specs.Layout.{page_at}
+use Rattle.cet_words.specs.declared.accesses.Access.{Access}
+use Rattle.cet_isa.specs.Address.{canonical}
+use Rattle.cet_isa.specs.Reading.{Decoding, Read, Short, Unknown, decoded}
+use Rattle.cet_isa.specs.declared.instructions.Instr.{Instr}
+use Rattle.cet_isa.specs.declared.instructions.Instr.TheVariants as instr
+use Rattle.cet_isa.specs.declared.instructions.Operand.{Operand}
+use Rattle.cet_isa.specs.declared.instructions.Operand.TheVariants as operand
+use Rattle.cet_isa.specs.declared.instructions.Size.{Size}
+use Rattle.cet_isa.specs.declared.instructions.Size.TheVariants as size
+use Rattle.cet_isa.specs.declared.threads.Fault.{Fault}
+use Rattle.cet_isa.specs.declared.threads.Record.{Record}
+use Rattle.cet_isa.specs.declared.threads.Arch.{Arch}
+use Rattle.cet_cpu.specs.Change.{Change, birth, Busied, Returned, Freed, Ended}
+use Rattle.cet_cpu.specs.Script.{Script, done, fault, ask, tell, ◌>>=◌, Wants, play}
+use Rattle.cet_cpu.specs.Parts.{load_as, peek, exchange_as}
+use Rattle.cet_cpu.specs.Finish.{Row, noted, above}
+use Rattle.cet_cpu.specs.Flow.{call, call_next, call_relative, ret, returned_if}
+use Rattle.cet_cpu.specs.Gate.{gate_in, gate_out, inside, clears, exit, no_call, service, syscall, kill, deliver, stack_of, signal_of, token, busied_if, rax}
+use Rattle.cet_cpu.specs.Fetch.{missing, missing_in}
+use Rattle.cet_cpu.specs.Row.{move, execute, fetched, instruction, instruction_bytes, boundary, row, row_from}
+use Rattle.cet_cpu.specs.Orderly.{Orderly, Results, orderly_bind, orderly_cond, tested_then, look_then, peek_then, load_then, store_then, exchange_then}
+use Rattle.cet_cpu.specs.declared.rows.Finish.{Finish}
+use Rattle.cet_cpu.specs.declared.rows.Finish.TheVariants.{Noted, Posted, Exited, Stopped}
+
+-- a record raises the count by one, and nothing changes where the kernel-made shadow stack is
+abbrev pub Ends : Arch → Finish → Type 0
+Ends arch (Noted next noted) = (next.count ≡ arch.count + 1) × (next.made ≡ arch.made)
+Ends arch (Posted next) = (next.count ≡ arch.count) × (next.made ≡ arch.made)
+Ends arch (Exited next noted status) = (next.count ≡ arch.count + 1) × (next.made ≡ arch.made)
+Ends arch Stopped = Unit {0}
+
+-- the same of the part of an instruction
+abbrev pub EndsRow : Arch → Arch × Record → Type 0
+EndsRow arch x = (x.0.count ≡ arch.count + 1) × (x.0.made ≡ arch.made)
+
+no_birth_returned : (word shadow_word : ℕ) (b : Bool) → birth (cond b (Returned ∷ []) []) ≡ None
+no_birth_returned word shadow_word true = refl
+no_birth_returned word shadow_word false = refl
+
+no_birth_busied : (k : ℕ) (b : Bool) → birth (cond b (Busied k ∷ []) []) ≡ None
+no_birth_busied k true = refl
+no_birth_busied k false = refl
+
+orderly_noted : (n k : ℕ) (w : Bool) (arch : Arch) (m : Row) → Orderly n k w (λ n' k' w' x. EndsRow arch x) m → Orderly n k w (Results (Ends arch)) (m >>= noted)
+orderly_noted n k w arch m h = orderly_bind n k w (Results (Ends arch)) m noted h
+
+orderly_call : (arch : Arch) (back target : ℕ) → Orderly 4094 29 false (λ n k w x. EndsRow arch x) (call arch back target)
+unfolding call
+orderly_call arch back target =
+    tested_then 4094 29 _ _ 8 _
+    (look_then 4094 29 _ _ _ _ _ refl refl (λ page.
+    look_then 4093 28 _ _ _ _ _ refl refl (λ shadow.
+    store_then 4092 27 false _ _ _ _ _ refl refl
+    (store_then 4091 27 true _ _ _ _ _ refl refl (refl, refl)))))
+
+orderly_call_next : (arch : Arch) (back : ℕ) → Orderly 4094 29 false (λ n k w x. EndsRow arch x) (call_next arch back)
+unfolding call_next
+orderly_call_next arch back =
+    tested_then 4094 29 _ _ 8 _
+    (look_then 4094 29 _ _ _ _ _ refl refl (λ page.
+    store_then 4093 28 false _ _ _ _ _ refl refl (refl, refl)))
+
+orderly_call_relative : (arch : Arch) (disp : ℤ) (next : ℕ) → Orderly 4094 29 false (λ n k w x. EndsRow arch x) (call_relative arch disp next)
+orderly_call_relative arch disp next =
+    orderly_cond 4094 29 false _ (cast_unsigned w64 disp == 0) _ _ (λ _. orderly_call_next arch next) (λ _. orderly_call arch next _)
+
+orderly_ret : (arch : Arch) → Orderly 4094 29 false (λ n k w x. EndsRow arch x) (ret arch)
+unfolding ret
+orderly_ret arch =
+    tested_then 4094 29 _ _ 8 _
+    (look_then 4094 29 _ _ _ _ _ refl refl (λ page.
+    look_then 4093 28 _ _ _ _ _ refl refl (λ shadow.
+    load_then 4092 27 false _ _ _ _ refl refl (λ word. (refl,
+    load_then 4091 26 false _ _ _ _ refl refl (λ shadow_word. (no_birth_returned word shadow_word ((word == shadow_word) && canonical word),
+    orderly_cond 4090 25 false _ (word == shadow_word) _ _
+        (λ _. orderly_cond 4090 25 false _ (canonical word) _ _ (λ _. (refl, refl)) (λ _. refl))
+        (λ _. refl))))))))
+
+-- ---- within the gate nothing faults, so whether something was written doesn't matter
+
+-- room for the accesses of the way in
+pub record Room (n k : ℕ) : Type 0 where
+  pub first : nat_le 1 n ≡ true
+  pub second : nat_le 1 (n - 1) ≡ true
+  pub third : nat_le 1 (n - 1 - 1) ≡ true
+  pub one : nat_le 1 k ≡ true
+  pub two : nat_le 1 (k - 1) ≡ true
+
+orderly_gate_in : {A : Type 0} (n k : ℕ) (Q : ℕ → ℕ → Bool → A → Type 0) (s : ℕ) (f : Option ℕ → Script A) → Room n k → (free : (w : Bool) → Orderly (n - 1 - 1 - 1) (k - 1 - 1) w Q (f None)) → (busy : (w : Bool) (found : ℕ) → Orderly (n - 1 - 1) (k - 1 - 1) w Q (f (Some found))) → Orderly n k false Q (gate_in s >>= f)
+unfolding gate_in
+orderly_gate_in n k Q s f room free busy =
+    orderly_bind n k false Q (gate_in s) f
+    (peek_then n k false _ _ _ room.first room.one (λ v.
+    exchange_then (n - 1) (k - 1) false _ _ _ _ _ _ room.second room.two (λ found. (no_birth_busied s (found == token s),
+    orderly_cond (n - 1 - 1) (k - 1 - 1) (false || (found == token s)) _ (found == token s) _ _
+        (λ _. store_then (n - 1 - 1) (k - 1 - 1) (false || (found == token s)) _ _ _ _ _ room.third refl (free true))
+        (λ _. busy (false || (found == token s)) found)))))
+
+orderly_gate_out : {A : Type 0} (n k : ℕ) (wrote : Bool) (Q : ℕ → ℕ → Bool → A → Type 0) (ends : List Change) (s : ℕ) (f : Unit {0} → Script A) → birth (ends ++ Freed s ∷ []) ≡ None → nat_le 1 n ≡ true → nat_le 1 (n - 1) ≡ true → nat_le 1 k ≡ true → nat_le 1 (k - 1) ≡ true → ((w : Bool) → Orderly (n - 1 - 1) (k - 1 - 1) w Q (f tt)) → Orderly n k wrote Q (gate_out ends s >>= f)
+unfolding gate_out
+orderly_gate_out n k wrote Q ends s f b p q r t h =
+    orderly_bind n k wrote Q (gate_out ends s) f
+    (load_then n k wrote _ _ _ _ p r (λ v. (refl,
+    exchange_then (n - 1) (k - 1) (wrote || false) _ _ _ _ _ _ q t (λ found. (b, h ((wrote || false) || (found == token s + 1)))))))
+
+orderly_clears : (wrote : Bool) (Q : ℕ → ℕ → Bool → Unit {0} → Type 0) (page : ℕ) → Q 4083 27 true tt → Orderly 4091 27 wrote Q (clears 8 page)
+unfolding clears
+orderly_clears wrote Q page h = (refl, refl, refl, refl, refl, refl, refl, refl, refl, refl, refl, refl, refl, refl, refl, refl, h)
+
+orderly_exit : (arch : Arch) (k : ℕ) (w : Bool) → Orderly 4091 27 w (Results (Ends arch)) (exit arch k)
+unfolding exit
+orderly_exit arch k w =
+    orderly_bind 4091 27 w _ (clears 8 _) _ (orderly_clears w _ _
+    (orderly_gate_out 4083 27 true _ _ _ _ refl refl refl refl refl (λ w'. (refl, refl))))
+
+orderly_no_call : (arch : Arch) (next k : ℕ) (w : Bool) → Orderly 4091 27 w (Results (Ends arch)) (no_call arch next k)
+unfolding no_call
+orderly_no_call arch next k w = orderly_gate_out 4091 27 w _ _ _ _ refl refl refl refl refl (λ w'. (refl, refl))
+
+orderly_service : (arch : Arch) (next k : ℕ) (w : Bool) → Orderly 4091 27 w (Results (Ends arch)) (service arch next k)
+orderly_service arch next k w = orderly_cond 4091 27 w _ (rax arch == 60) _ _ (λ _. orderly_exit arch k w) (λ _. orderly_no_call arch next k w)
+
+orderly_syscall : (job : JobData) (arch : Arch) (next : ℕ) → Orderly 4094 29 false (Results (Ends arch)) (syscall job arch next)
+unfolding syscall
+orderly_syscall job arch next =
+    orderly_gate_in 4094 29 _ _ _ (record { first = refl; second = refl; third = refl; one = refl; two = refl })
+    (λ w. orderly_service arch next (stack_of job arch) w) (λ w found. (refl, refl))
+
+orderly_kill : (arch : Arch) (signal k : ℕ) (w : Bool) → Orderly 4093 29 w (Results (Ends arch)) (kill arch signal k)
+unfolding kill
+orderly_kill arch signal k w =
+    load_then 4093 29 w _ _ _ _ refl refl (λ handler. (refl,
+    exchange_then 4092 28 (w || false) _ _ _ _ _ _ refl refl (λ before. (refl,
+    orderly_gate_out 4091 27 ((w || false) || (before == 0)) _ _ _ _ refl refl refl refl refl (λ w'. (refl, refl))))))
+
+orderly_deliver : (job : JobData) (arch : Arch) (e : Fault) → Orderly 4096 31 false (Results (Ends arch)) (deliver job arch e)
+unfolding deliver
+orderly_deliver job arch e =
+    orderly_gate_in 4096 31 _ _ _ (record { first = refl; second = refl; third = refl; one = refl; two = refl })
+    (λ w. orderly_kill arch (signal_of e.name) (stack_of job arch) w) (λ w found. (refl, refl))
+
+-- ---- the instruction and the boundary
+
+orderly_move : (arch : Arch) (s : Size) (dst src : Operand) (next : ℕ) → Orderly 4094 29 false (Results (Ends arch)) (move arch s dst src next)
+orderly_move arch size.Dword (operand.Reg r) (operand.Imm z) next = (refl, refl)
+orderly_move arch size.Dword (operand.Reg r) (operand.Reg q) next = refl
+orderly_move arch size.Dword (operand.Reg r) (operand.Mem m) next = refl
+orderly_move arch size.Dword (operand.Mem m) src next = refl
+orderly_move arch size.Dword (operand.Imm z) src next = refl
+orderly_move arch size.Qword dst src next = refl
+
+orderly_execute : (job : JobData) (arch : Arch) (i : Instr) (next : ℕ) → Orderly 4094 29 false (Results (Ends arch)) (execute job arch i next)
+orderly_execute job arch (instr.Mov s dst src) next = orderly_move arch s dst src next
+orderly_execute job arch (instr.CallRel disp) next = orderly_noted 4094 29 false arch _ (orderly_call_relative arch disp next)
+orderly_execute job arch instr.Ret next = orderly_noted 4094 29 false arch _ (orderly_ret arch)
+orderly_execute job arch instr.Syscall next = orderly_syscall job arch next
+orderly_execute job arch i next = refl
+
+orderly_missing : (Q : ℕ → ℕ → Bool → Finish → Type 0) (at : Option ℕ) (addr : ℕ) → Orderly 4094 29 false Q (missing_in at addr)
+orderly_missing Q None addr = refl
+orderly_missing Q (Some page) addr = (refl, refl, refl, λ v. (refl, refl))
+
+orderly_fetched : (job : JobData) (arch : Arch) (bytes : List ℕ) (d : Decoding) → Orderly 4094 29 false (Results (Ends arch)) (fetched job arch bytes d)
+unfolding missing
+orderly_fetched job arch bytes (Read i len) = orderly_execute job arch i (above arch.rip len)
+orderly_fetched job arch bytes Short = orderly_missing (Results (Ends arch)) (page_at (arch.rip + length bytes)) (arch.rip + length bytes)
+orderly_fetched job arch bytes Unknown = refl
+
+orderly_instruction : (job : JobData) (arch : Arch) → Orderly 4094 29 false (Results (Ends arch)) (instruction job arch)
+unfolding instruction
+orderly_instruction job arch =
+    orderly_cond 4094 29 false _ (canonical arch.rip) _ _
+    (λ _. orderly_fetched job arch (instruction_bytes job arch) (decoded (instruction_bytes job arch)))
+    (λ _. refl)
+
+orderly_boundary : (job : JobData) (arch : Arch) → Orderly 4096 31 false (Results (Ends arch)) (boundary job arch)
+unfolding boundary
+orderly_boundary job arch =
+    load_then 4096 31 false _ _ _ _ refl refl (λ ending. (refl,
+    orderly_cond 4095 30 false _ (ending == 0) _ _
+        (λ _. load_then 4095 30 false _ _ _ _ refl refl (λ pending. (refl, orderly_instruction job arch)))
+        (λ _. tt)))
+
+orderly_from : (job : JobData) (arch : Arch) (due : Option Fault) → Orderly 4096 31 false (Results (Ends arch)) (row_from job arch due)
+orderly_from job arch (Some e) = orderly_deliver job arch e
+orderly_from job arch None = orderly_boundary job arch
+
+pub orderly_row : (job : JobData) (arch : Arch) → Orderly 4096 31 false (Results (Ends arch)) (row job arch)
+orderly_row job arch = orderly_from job arch arch.due
+
+begins_from : (job : JobData) (arch : Arch) (due : Option Fault) → (a : Access) × (play (row_from job arch due) 0 [] ≡ Wants a)
+unfolding boundary deliver gate_in load_as peek ◌>>=◌
+begins_from job arch (Some e) = (_, refl)
+begins_from job arch None = (_, refl)
+
+-- a row with nothing seen wants an access
+pub row_begins : (job : JobData) (arch : Arch) → (a : Access) × (play (row job arch) 0 [] ≡ Wants a)
+row_begins job arch = begins_from job arch arch.due

@@ -1,0 +1,84 @@
+-- The parts that scripts are made of. Source: own; the faults are those of the Intel SDM (volume 3A, the chapter on
+-- interrupts and exceptions), but a stack address that isn't canonical is #GP too, and every data access is aligned.
+use Rattle.std.proofs.Common.{zero, suc}
+use Rattle.std.specs.Prelude.{◌≡◌, ℕ, ◌+◌, ◌%◌, List, [], ◌∷◌, refl, Bool, Option, Some, None, ◌==◌, if◌then◌else◌}
+use Rattle.cet_words.specs.Layout.{page_at, word_in}
+use Rattle.cet_words.specs.declared.accesses.Access.{Access}
+use Rattle.cet_words.specs.declared.accesses.Access.TheVariants as access
+use Rattle.cet_isa.specs.Address.{canonical}
+use Rattle.cet_isa.specs.declared.threads.Fault.{Fault}
+use Rattle.cet_isa.specs.declared.threads.FaultName.TheVariants.{Gp, Ac, Ud}
+use Rattle.cet_cpu.specs.Change.{Change, silent}
+use Rattle.cet_cpu.specs.Script.{Script, done, fault, ask, tell, play}
+use Rattle.cet_cpu.specs.Page.{allows, page_fault}
+use Rattle.cet_cpu.specs.declared.checks.Kind.{Kind}
+use Rattle.cet_cpu.specs.declared.checks.Who.{Who}
+
+abbrev pub general_protection : Fault
+general_protection = record { name = Gp; code = 0; a = 0; b = 0 }
+
+abbrev pub invalid_opcode : Fault
+invalid_opcode = record { name = Ud; code = 0; a = 0; b = 0 }
+
+abbrev pub misaligned : ℕ → Fault
+misaligned addr = record { name = Ac; code = 0; a = addr; b = 0 }
+
+-- the canonical test, and then the test for a multiple of the size
+unfoldable pub tested : (addr size : ℕ) → Script (Unit {0})
+tested addr size =
+    if canonical addr
+    then (if addr % size == 0 then done tt else fault (misaligned addr))
+    else fault general_protection
+
+-- the look at a page and the page check, with the page's number as result; no page has entry 0, and costs no access
+unfoldable pub look_in : Option ℕ → Kind → Who → (addr : ℕ) → Script ℕ
+look_in None k w addr = fault (page_fault 0 k w addr)
+look_in (Some page) k w addr =
+    ask (access.Look page) silent (λ entry. if allows entry k w then done page else fault (page_fault entry k w addr))
+
+-- the look at the page of an address
+unfoldable pub look : Who → Kind → (addr : ℕ) → Script ℕ
+look w k addr = look_in (page_at addr) k w addr
+
+-- the look at a page of which no test is made
+unfoldable pub peek : (page : ℕ) → Script ℕ
+peek page = ask (access.Look page) silent done
+
+-- the load of a word, with its changes for each answer
+unfoldable pub load_as : (ℕ → List Change) → (word : ℕ) → Script ℕ
+load_as changes word = ask (access.Load word) changes done
+
+abbrev pub load : (word : ℕ) → Script ℕ
+load word = load_as silent word
+
+-- the store of a value
+unfoldable pub store_as : List Change → (word value : ℕ) → Script (Unit {0})
+store_as changes word value = tell word value changes (done tt)
+
+abbrev pub store : (word value : ℕ) → Script (Unit {0})
+store word value = store_as [] word value
+
+-- the compare-and-exchange of a word, with the word found as result
+unfoldable pub exchange_as : (ℕ → List Change) → (word expected value : ℕ) → Script ℕ
+exchange_as changes word expected value = ask (access.CompareExchange word expected value) changes done
+
+abbrev pub exchange : (word expected value : ℕ) → Script ℕ
+exchange word expected value = exchange_as silent word expected value
+
+-- the changes don't matter for the accesses
+pub play_load_as : (changes : ℕ → List Change) (word n : ℕ) (values : List ℕ) → play (load_as changes word) n values ≡ play (load word) n values
+unfolding load_as
+play_load_as changes word zero values = refl
+play_load_as changes word (suc n) [] = refl
+play_load_as changes word (suc n) (value ∷ values) = refl
+
+pub play_store_as : (changes : List Change) (word value n : ℕ) (values : List ℕ) → play (store_as changes word value) n values ≡ play (store word value) n values
+unfolding store_as
+play_store_as changes word value zero values = refl
+play_store_as changes word value (suc n) values = refl
+
+pub play_exchange_as : (changes : ℕ → List Change) (word expected value n : ℕ) (values : List ℕ) → play (exchange_as changes word expected value) n values ≡ play (exchange word expected value) n values
+unfolding exchange_as
+play_exchange_as changes word expected value zero values = refl
+play_exchange_as changes word expected value (suc n) [] = refl
+play_exchange_as changes word expected value (suc n) (v ∷ values) = refl

@@ -1,0 +1,71 @@
+-- The row of a thread: what it does from a boundary, or from a due fault, to its next record. Source: Intel SDM volume 2
+-- for the instructions, own for the order.
+use Rattle.std.specs.Prelude.{◌≡◌, ℕ, ◌+◌, List, length, Bool, Option, Some, None, ◌==◌, if◌then◌else◌, ℤ}
+use Rattle.std.specs.Int.{w32, cast_unsigned}
+use Rattle.cet_words.specs.Job.{JobData}
+use Rattle.cet_isa.specs.Address.{canonical}
+use Rattle.cet_isa.specs.Code.{reg_number}
+use Rattle.cet_isa.specs.Reading.{Decoding, Read, Short, Unknown, decoded}
+use Rattle.cet_isa.specs.declared.instructions.Instr.{Instr}
+use Rattle.cet_isa.specs.declared.instructions.Instr.TheVariants as instr
+use Rattle.cet_isa.specs.declared.instructions.Operand.{Operand}
+use Rattle.cet_isa.specs.declared.instructions.Operand.TheVariants as operand
+use Rattle.cet_isa.specs.declared.instructions.Size.{Size}
+use Rattle.cet_isa.specs.declared.instructions.Size.TheVariants as size
+use Rattle.cet_isa.specs.declared.threads.Fault.{Fault}
+use Rattle.cet_isa.specs.declared.threads.Arch.{Arch}
+use Rattle.cet_cpu.specs.Script.{Script, done, fault, ◌>>=◌}
+use Rattle.cet_cpu.specs.Parts.{general_protection, invalid_opcode, load}
+use Rattle.cet_cpu.specs.Finish.{Row, noted, above}
+use Rattle.cet_cpu.specs.Flow.{moved, call_relative, ret}
+use Rattle.cet_cpu.specs.Gate.{exit_word, pend_word, syscall, deliver}
+use Rattle.cet_cpu.specs.Fetch.{fetchable, missing}
+use Rattle.cet_cpu.specs.declared.rows.Finish.{Finish}
+use Rattle.cet_cpu.specs.declared.rows.Finish.TheVariants as finish
+
+-- MOV; its forms but that of a 32-bit immediate to a register aren't built
+abbrev pub move : Arch → Size → Operand → Operand → (next : ℕ) → Script Finish
+move arch size.Dword (operand.Reg r) (operand.Imm z) next = noted (moved arch (reg_number r) (cast_unsigned w32 z) next)
+move arch s dst src next = fault invalid_opcode
+
+-- An instruction, with the address of the next one. One that isn't built is an invalid opcode.
+abbrev pub execute : JobData → Arch → Instr → (next : ℕ) → Script Finish
+execute job arch (instr.Mov s dst src) next = move arch s dst src next
+execute job arch (instr.CallRel disp) next = call_relative arch disp next >>= noted
+execute job arch instr.Ret next = ret arch >>= noted
+execute job arch instr.Syscall next = syscall job arch next
+execute job arch i next = fault invalid_opcode
+
+-- by what the fetchable bytes at RIP are
+abbrev pub fetched : JobData → Arch → List ℕ → Decoding → Script Finish
+fetched job arch bytes (Read i len) = execute job arch i (above arch.rip len)
+fetched job arch bytes Short = missing (arch.rip + length bytes)
+fetched job arch bytes Unknown = fault invalid_opcode
+
+abbrev pub instruction_bytes : JobData → Arch → List ℕ
+instruction_bytes job arch = fetchable job.image.segments arch.rip 15
+
+-- the instruction at RIP
+unfoldable pub instruction : JobData → Arch → Script Finish
+instruction job arch =
+    if canonical arch.rip
+    then fetched job arch (instruction_bytes job arch) (decoded (instruction_bytes job arch))
+    else fault general_protection
+
+-- Between instructions: EXIT, then PEND, then the instruction. Pending signals aren't delivered while handlers aren't built.
+unfoldable pub boundary : JobData → Arch → Script Finish
+boundary job arch = do
+  ending ← load exit_word
+  if ending == 0
+      then (do
+        _ ← load (pend_word arch.number)
+        instruction job arch)
+      else done finish.Stopped
+
+abbrev pub row_from : JobData → Arch → Option Fault → Script Finish
+row_from job arch (Some e) = deliver job arch e
+row_from job arch None = boundary job arch
+
+-- the row of a thread in this state
+abbrev pub row : JobData → Arch → Script Finish
+row job arch = row_from job arch arch.due

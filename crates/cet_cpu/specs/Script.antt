@@ -1,0 +1,70 @@
+-- A script: which accesses are made one after another, what each means for the book, and what is done with the answers.
+-- Source: own. It is the form in which each instruction and each kernel call is written.
+use Rattle.std.proofs.Common.{zero, suc}
+use Rattle.std.specs.Prelude.{◌≡◌, ℕ, List, [], ◌∷◌, refl}
+use Rattle.cet_words.specs.declared.accesses.Access.{Access}
+use Rattle.cet_words.specs.declared.accesses.Access.TheVariants as access
+use Rattle.cet_isa.specs.declared.threads.Fault.{Fault}
+use Rattle.cet_cpu.specs.Change.{Change}
+
+pub data Script (A : Type 0) : Type 0 where
+  -- it is over, with this result
+  done : A → Script A
+  -- it ends in a fault
+  fault : Fault → Script A
+  -- an access whose answer is kept, the changes that come with each answer, and what follows
+  ask : Access → (ℕ → List Change) → (ℕ → Script A) → Script A
+  -- a store, its changes, and what follows
+  tell : (word value : ℕ) → List Change → Script A → Script A
+
+-- one script after another
+infixl 10 ◌>>=◌
+unfoldable pub ◌>>=◌ : {A B : Type 0} → Script A → (A → Script B) → Script B
+(done x) >>= f = f x
+(fault e) >>= f = fault e
+(ask a changes k) >>= f = ask a changes (λ value. k value >>= f)
+(tell word value changes k) >>= f = tell word value changes (k >>= f)
+
+-- what a script has come to after some accesses
+pub data Came (A : Type 0) : Type 0 where
+  -- it was over before this number of accesses and these answers were used
+  Over : A → (left : ℕ) → List ℕ → Came A
+  Faulted : Fault → Came A
+  -- it wants this access next
+  Wants : Access → Came A
+
+-- what a script has come to after so many accesses, of which those that are no store gave these answers
+abbrev pub play : {A : Type 0} → Script A → ℕ → List ℕ → Came A
+play (done x) n values = Over x n values
+play (fault e) n values = Faulted e
+play (ask a changes k) zero values = Wants a
+play (ask a changes k) (suc n) [] = Wants a
+play (ask a changes k) (suc n) (value ∷ values) = play (k value) n values
+play (tell word value changes k) zero values = Wants (access.Store word value)
+play (tell word value changes k) (suc n) values = play k n values
+
+abbrev pub resume : {A B : Type 0} → Came A → (A → Script B) → Came B
+resume (Over x n values) f = play (f x) n values
+resume (Faulted e) f = Faulted e
+resume (Wants a) f = Wants a
+
+-- the second script goes on where the first is over
+pub play_bind : {A B : Type 0} (m : Script A) (f : A → Script B) (n : ℕ) (values : List ℕ) → play (m >>= f) n values ≡ resume (play m n values) f
+unfolding ◌>>=◌
+play_bind (done x) f n values = refl
+play_bind (fault e) f n values = refl
+play_bind (ask a changes k) f zero values = refl
+play_bind (ask a changes k) f (suc n) [] = refl
+play_bind (ask a changes k) f (suc n) (value ∷ values) = play_bind (k value) f n values
+play_bind (tell word value changes k) f zero values = refl
+play_bind (tell word value changes k) f (suc n) values = play_bind k f n values
+
+-- the changes that come with the next access, where it gives this answer
+abbrev pub changes_at : {A : Type 0} → Script A → ℕ → List ℕ → ℕ → List Change
+changes_at (done x) n values answer = []
+changes_at (fault e) n values answer = []
+changes_at (ask a changes k) zero values answer = changes answer
+changes_at (ask a changes k) (suc n) [] answer = []
+changes_at (ask a changes k) (suc n) (value ∷ values) answer = changes_at (k value) n values answer
+changes_at (tell word value changes k) zero values answer = changes
+changes_at (tell word value changes k) (suc n) values answer = changes_at k n values answer

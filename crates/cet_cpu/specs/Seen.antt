@@ -1,0 +1,29 @@
+-- What a thread has seen in its present row: how many accesses it made, and the answers that it kept. Source: own.
+use Rattle.std.specs.Prelude.{ℕ, List, ◌+◌, ◌++◌, [], ◌∷◌, Bool, true, false, cond}
+use Rattle.cet_words.specs.declared.accesses.Access.{Access}
+use Rattle.cet_words.specs.declared.accesses.Access.TheVariants as access
+
+pub record Seen : Type 0 where
+  pub count : ℕ
+  pub kept : List ℕ
+
+abbrev pub nothing_seen : Seen
+nothing_seen = record { count = 0; kept = [] }
+
+-- the answer of every access but a store is kept
+abbrev pub keeps : Access → Bool
+keeps (access.Store word value) = false
+keeps (access.Look page) = true
+keeps (access.Load word) = true
+keeps (access.Swap word value) = true
+keeps (access.FetchAdd word value) = true
+keeps (access.FetchOr word value) = true
+keeps (access.FetchAnd word value) = true
+keeps (access.CompareExchange word expected value) = true
+
+abbrev pub kept_after : List ℕ → Access → ℕ → List ℕ
+kept_after values a value = cond (keeps a) (values ++ value ∷ []) values
+
+-- one access more
+abbrev pub seen_after : Seen → Access → ℕ → Seen
+seen_after seen a value = record { count = seen.count + 1; kept = kept_after seen.kept a value }

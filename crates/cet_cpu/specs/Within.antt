@@ -1,0 +1,108 @@
+-- What holds of a thread of a job between two of its accesses. Source: own.
+use Rattle.std.proofs.lemmas.Bool.Decides.{nat_tests}
+use Rattle.std.proofs.Common.{add-one, zero, suc, true, false, arith, cond, ◌∙◌, ap, sym, subst}
+use Rattle.std.specs.Prelude.{◌≡◌, ℕ, ◌+◌, ◌-◌, ◌*◌, ◌%◌, ◌<◌, ◌≤◌, Bool, List, [], Option, Some, None, refl, ◌==◌, length, if◌then◌else◌}
+use Rattle.cet_words.specs.declared.accesses.Access.{Access}
+use Rattle.cet_words.specs.Job.{JobData, IsJob}
+use Rattle.cet_isa.specs.declared.threads.Fault.{Fault}
+use Rattle.cet_isa.specs.declared.threads.Record.{Record}
+use Rattle.cet_isa.specs.declared.threads.Arch.{Arch}
+use Rattle.cet_isa.specs.declared.threads.End.{End}
+use Rattle.cet_isa.specs.declared.threads.End.TheVariants as ending
+use Rattle.cet_cpu.specs.Change.{birth}
+use Rattle.cet_cpu.specs.Script.{Script, Came, Over, Faulted, Wants, play, changes_at}
+use Rattle.cet_cpu.specs.Seen.{Seen, nothing_seen, seen_after}
+use Rattle.cet_cpu.specs.Finish.{IsMade}
+use Rattle.cet_cpu.specs.Gate.{stack_of}
+use Rattle.cet_cpu.specs.Row.{row}
+use Rattle.cet_cpu.specs.Core.{Core, After, first_core, unheld, come, wanted, access_of, next_access, held_after, kept_by, recorded, faulted, core_by, noted_by, answered, taken, child_of, born}
+use Rattle.cet_cpu.specs.Orderly.{Spent, Results, OnOver, spent_more, spent_fits, over_play, unborn}
+use Rattle.cet_cpu.specs.OrderlyRows.{Ends, orderly_row, row_begins}
+use Rattle.cet_cpu.specs.declared.rows.Finish.{Finish}
+use Rattle.cet_cpu.specs.declared.rows.Finish.TheVariants.{Noted, Posted, Exited, Stopped}
+
+-- the thread has a number, and eight pages that the kernel made for it
+pub record IsState (arch : Arch) : Type 0 where
+  pub number : arch.number < 32
+  pub made : IsMade arch.made
+
+-- the thread is below the limit, and its row waits for the answer to an access after those that it has seen
+pub record Waits (job : JobData) (core : Core) : Type 0 where
+  pub state : IsState core.arch
+  pub count : core.arch.count < job.limit
+  pub spent : Spent (row job (unheld core.arch)) core.seen.count core.seen.kept
+  pub waits : (a : Access) × (come job core.arch core.seen ≡ Wants a)
+
+abbrev pub CoreAt : JobData → Core → Option End → Type 0
+CoreAt job core (Some e) = Unit {0}
+CoreAt job core None = Waits job core
+
+-- a thread of the job: it has ended, or it waits
+abbrev pub IsCore : JobData → Core → Type 0
+IsCore job core = CoreAt job core core.over
+
+first_made : IsMade 0x200001000
+first_made = record { low = omega arith; high = omega arith; whole = refl }
+
+fresh_core : (job : JobData) (next : Arch) → IsState next → next.count < job.limit → Waits job (record { arch = next; seen = nothing_seen; over = None })
+fresh_core job next s c = record { state = s; count = c; spent = tt; waits = row_begins job (unheld next) }
+
+-- thread 0
+pub first_waits : (job : JobData) → IsJob job → IsCore job (first_core job)
+first_waits job j = fresh_core job _ (record { number = omega arith; made = first_made }) (let l = j.limit_low in omega arith)
+
+recorded_at : (job : JobData) (next : Arch) (b : Bool) → (next.count == job.limit) ≡ b → IsState next → next.count ≤ job.limit → CoreAt job (record { arch = next; seen = nothing_seen; over = if b then Some ending.Limit else None }) (if b then Some ending.Limit else None)
+recorded_at job next true e s c = tt
+recorded_at job next false e s c = let lt : next.count < job.limit = grind (arith, nat_tests, e, c) in fresh_core job next s lt
+
+recorded_is : (job : JobData) (next : Arch) → IsState next → next.count ≤ job.limit → IsCore job (recorded job next)
+recorded_is job next s c = recorded_at job next (next.count == job.limit) refl s c
+
+state_kept : (arch next : Arch) (held : Option ℕ) → next.made ≡ arch.made → IsState arch → IsState (kept_by arch held next)
+state_kept arch next held e s = record { number = s.number; made = subst IsMade (sym e) s.made }
+
+core_kept : (job : JobData) (arch : Arch) (held : Option ℕ) (seen : Seen) → IsState arch → arch.count < job.limit → Spent (row job (unheld arch)) seen.count seen.kept → (r : Came Finish) → come job arch seen ≡ r → OnOver (Ends (unheld arch)) r → IsCore job (core_by job arch held seen r)
+core_kept job arch held seen s c p (Wants a) e k = record { state = record { number = s.number; made = s.made }; count = c; spent = p; waits = (a, e) }
+core_kept job arch held seen s c p (Faulted f) e k = recorded_is job (kept_by arch held (faulted arch f)) (record { number = s.number; made = s.made }) (omega arith)
+core_kept job arch held seen s c p (Over (Noted next noted) left values) e k =
+    let same : next.count ≡ arch.count + 1 = k.0 in
+    recorded_is job (kept_by arch held next) (state_kept arch next held k.1 s) (omega arith)
+core_kept job arch held seen s c p (Over (Posted next) left values) e k =
+    let same : next.count ≡ arch.count = k.0 in
+    fresh_core job (kept_by arch held next) (state_kept arch next held k.1 s) (omega arith)
+core_kept job arch held seen s c p (Over (Exited next noted status) left values) e k = tt
+core_kept job arch held seen s c p (Over Stopped left values) e k = tt
+
+answered_is : (job : JobData) (core : Core) (answer : ℕ) → Waits job core → (r : Came Finish) → come job core.arch core.seen ≡ r → (a : Access) → r ≡ Wants a → IsCore job (answered job core answer r).core
+answered_is job core answer h (Wants b) e a w =
+    let seen = seen_after core.seen b answer in
+    let o = orderly_row job (unheld core.arch) in
+    let more : Spent (row job (unheld core.arch)) seen.count seen.kept = rw add-one (spent_more _ false (row job (unheld core.arch)) 4096 31 core.seen.count core.seen.kept b answer o h.spent e) in
+    core_kept job core.arch _ seen h.state h.count more (come job core.arch seen) refl (over_play (Ends (unheld core.arch)) false (row job (unheld core.arch)) 4096 31 seen.count seen.kept o)
+answered_is job core answer h (Faulted f) e a w = cc
+answered_is job core answer h (Over x left values) e a w = cc
+
+-- a thread that waited has ended, or waits again
+pub taken_is : (job : JobData) (core : Core) (answer : ℕ) → Waits job core → IsCore job (taken job core answer).core
+unfolding taken
+taken_is job core answer h = answered_is job core answer h (come job core.arch core.seen) refl h.waits.0 h.waits.1
+
+-- there is room for one more value and one more access
+pub room : (job : JobData) (core : Core) → Waits job core → (length core.seen.kept < 32) × (core.seen.count < 4096)
+room job core h =
+    let r = spent_fits _ false (row job (unheld core.arch)) 4096 31 core.seen.count core.seen.kept h.waits.0 (orderly_row job (unheld core.arch)) h.spent h.waits.1 in
+    (omega arith, omega arith)
+
+-- no thread is born
+childless : (job : JobData) (core : Core) (answer : ℕ) (r : Came Finish) → (answered job core answer r).child ≡ None
+childless job core answer (Wants a) = ap (born core.arch) (unborn _ false (row job (unheld core.arch)) 4096 31 core.seen.count core.seen.kept answer (orderly_row job (unheld core.arch)))
+childless job core answer (Faulted e) = refl
+childless job core answer (Over x left values) = refl
+
+pub no_child : (job : JobData) (core : Core) (answer : ℕ) → (taken job core answer).child ≡ None
+unfolding taken
+no_child job core answer = childless job core answer (come job core.arch core.seen)
+
+-- the core of a thread of the job that was answered, by another name
+pub taken_at : (job : JobData) (core new : Core) (answer : ℕ) → Waits job core → new ≡ (taken job core answer).core → IsCore job new
+taken_at job core new answer h e = subst (IsCore job) (sym e) (taken_is job core answer h)

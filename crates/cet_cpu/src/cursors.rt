@@ -1,0 +1,161 @@
+//! A place in a row, and the parts that rows are made of.
+
+ghost use Rattle.std.specs.Prelude.{◌≡◌, ◌+◌, ◌*◌, ◌/◌, ◌%◌, ◌<◌, [], IfOk, Some};
+ghost use Rattle.cet_words.specs.Access.{InRange};
+ghost use Rattle.cet_words.specs.Layout.{word_in};
+ghost use Rattle.cet_cpu.specs.Change.{silent};
+ghost use Rattle.cet_cpu.specs.Script.{play, ask, tell, done};
+ghost use Rattle.cet_cpu.specs.Plays.{Comes};
+ghost use Rattle.cet_cpu.specs.Parts.{general_protection, invalid_opcode, tested, look, look_in, peek, load, store, exchange};
+
+use crate::checks::{Kind, Who, check, page_fault};
+use cet_isa::{Fault, FaultName, is_canonical};
+use cet_words::{Access, page_of};
+
+/// Why a row goes no further: it wants an access, or has a fault.
+#[derive(Clone, Copy, Debug, PartialEq, Eq)]
+pub enum Stop {
+    Access(Access),
+    Fault(Fault),
+}
+
+/// A place among the accesses that were made: how many of them follow, and the values kept of these.
+#[derive(Clone, Copy, Debug)]
+pub struct Cursor<'a> {
+    pub left: u32,
+    pub rest: &'a [u64],
+}
+
+/// #GP(0), general protection.
+pub fn general_protection() -> Stop
+    ensures { result ≡ Stop.Fault general_protection }
+{
+    Stop::Fault(Fault {
+        name: FaultName::Gp,
+        code: 0,
+        a: 0,
+        b: 0,
+    })
+}
+
+/// #UD, invalid opcode.
+pub fn invalid_opcode() -> Stop
+    ensures { result ≡ Stop.Fault invalid_opcode }
+{
+    Stop::Fault(Fault {
+        name: FaultName::Ud,
+        code: 0,
+        a: 0,
+        b: 0,
+    })
+}
+
+/// The number of the word that holds an address of a page.
+pub fn word_in(page: u32, addr: u64) -> u32
+    requires { page < 3154 }
+    ensures value { result ≡ word_in page addr }
+    ensures range { result < 1618002 }
+{
+    512 * page + (addr % 4096 / 8) as u32
+}
+
+impl<'a> Cursor<'a> {
+    /// An access whose value is kept.
+    pub fn ask(&mut self, access: Access) -> Result<u64, Stop>
+        requires { InRange access }
+        ensures { Comes (play (ask access silent done) self.old.left self.old.rest.now) result self.new.left self.new.rest.now }
+    {
+        if self.left == 0 {
+            return Err(Stop::Access(access));
+        }
+        let [value, rest @ ..] = self.rest else {
+            return Err(Stop::Access(access));
+        };
+        self.left -= 1;
+        self.rest = rest;
+        Ok(*value)
+    }
+
+    /// A store.
+    #[tactic(auto, unfolding(crate::specs::Parts::store_as))]
+    pub fn store(&mut self, word: u32, value: u64) -> Result<(), Stop>
+        requires { word < 1618002 }
+        ensures { Comes (play (store word value) self.old.left self.old.rest.now) result self.new.left self.new.rest.now }
+    {
+        if self.left == 0 {
+            return Err(Stop::Access(Access::Store(word, value)));
+        }
+        self.left -= 1;
+        Ok(())
+    }
+
+    #[tactic(auto, unfolding(crate::specs::Parts::load_as))]
+    pub fn load(&mut self, word: u32) -> Result<u64, Stop>
+        requires { word < 1618002 }
+        ensures { Comes (play (load word) self.old.left self.old.rest.now) result self.new.left self.new.rest.now }
+    {
+        self.ask(Access::Load(word))
+    }
+
+    /// A compare-and-exchange; the answer is the word found.
+    #[tactic(auto, unfolding(crate::specs::Parts::exchange_as))]
+    pub fn exchange(&mut self, word: u32, expected: u64, value: u64) -> Result<u64, Stop>
+        requires { word < 1618002 }
+        ensures { Comes (play (exchange word expected value) self.old.left self.old.rest.now) result self.new.left self.new.rest.now }
+    {
+        self.ask(Access::CompareExchange(word, expected, value))
+    }
+
+    /// The look at a page of which no test is made.
+    #[tactic(auto, unfolding(crate::specs::Parts::peek))]
+    pub fn peek(&mut self, page: u32) -> Result<u64, Stop>
+        requires { page < 3154 }
+        ensures { Comes (play (peek page) self.old.left self.old.rest.now) result self.new.left self.new.rest.now }
+    {
+        self.ask(Access::Look(page))
+    }
+
+    /// The canonical test, and then the alignment test for 8 bytes.
+    #[tactic(auto, unfolding(crate::specs::Parts::tested))]
+    pub fn tested(&mut self, addr: u64) -> Result<(), Stop>
+        ensures { Comes (play (tested addr 8) self.old.left self.old.rest.now) result self.new.left self.new.rest.now }
+    {
+        if !is_canonical(addr) {
+            return Err(general_protection());
+        }
+        if addr % 8 != 0 {
+            return Err(Stop::Fault(Fault {
+                name: FaultName::Ac,
+                code: 0,
+                a: addr,
+                b: 0,
+            }));
+        }
+        Ok(())
+    }
+
+    /// The look at the page of an address, with the page check; the answer is the page's number.
+    #[tactic(auto, unfolding(crate::specs::Parts::look, crate::specs::Parts::look_in))]
+    pub fn look(&mut self, who: Who, kind: Kind, addr: u64) -> Result<u32, Stop>
+        ensures comes { Comes (play (look who kind addr) self.old.left self.old.rest.now) result self.new.left self.new.rest.now }
+        ensures range { IfOk result (λ page. page < 3154) }
+    {
+        let Some(page) = page_of(addr) else {
+            return Err(Stop::Fault(page_fault(0, kind, who, addr)));
+        };
+        self.look_in(page, who, kind, addr)
+    }
+
+    #[tactic(auto, using(crate::specs::Script::play_bind), unfolding(crate::specs::Parts::look_in))]
+    fn look_in(&mut self, page: u32, who: Who, kind: Kind, addr: u64) -> Result<u32, Stop>
+        requires { page < 3154 }
+        ensures comes { Comes (play (look_in (Some page) kind who addr) self.old.left self.old.rest.now) result self.new.left self.new.rest.now }
+        ensures range { IfOk result (λ page. page < 3154) }
+    {
+        let entry = self.ask(Access::Look(page))?;
+        match check(entry, kind, who, addr) {
+            Ok(()) => Ok(page),
+            Err(fault) => Err(Stop::Fault(fault)),
+        }
+    }
+}

@@ -1,0 +1,130 @@
+//! The row of a thread, from a boundary or a due fault to its next record.
+
+ghost use Rattle.std.specs.Prelude.{◌≡◌, ◌+◌, ◌-◌, ◌^◌, ◌<◌};
+ghost use Rattle.cet_cpu.specs.Script.{play};
+ghost use Rattle.cet_cpu.specs.Plays.{Comes};
+ghost use Rattle.cet_cpu.specs.Finish.{IsMade};
+ghost use Rattle.cet_cpu.specs.Row.{row, row_from, boundary, instruction, execute, move};
+
+use crate::cursors::{Cursor, Stop, general_protection, invalid_opcode};
+use crate::fetches::{fetch, missing};
+use crate::flow::{call_relative, moved, ret};
+use crate::gate::{EXIT_WORD, FIRST_PEND_WORD, deliver, syscall};
+use cet_decode::{Decoded, decode};
+use cet_isa::{Arch, Instr, Operand, Record, Size, is_canonical};
+use cet_words::Job;
+
+/// What a row comes to.
+#[derive(Clone, Copy, Debug, PartialEq, Eq)]
+pub enum Finish {
+    /// The new state and the record.
+    Noted(Arch, Record),
+    /// The new state after the posting of a listed signal, which gives no record.
+    Posted(Arch),
+    /// The new state, the record and the status of the service exit.
+    Exited(Arch, Record, u8),
+    /// The process has ended.
+    Stopped,
+}
+
+fn execute_move(
+    arch: &Arch,
+    size: Size,
+    dst: Operand,
+    src: Operand,
+    next: u64,
+    at: &mut Cursor,
+) -> Result<Finish, Stop>
+    requires { arch.now.count < 2 ^ 32 - 1 }
+    ensures { Comes (play (move arch.now size dst src next) at.old.left at.old.rest.now) result at.new.left at.new.rest.now }
+{
+    match (size, dst, src) {
+        (Size::Dword, Operand::Reg(reg), Operand::Imm(value)) => {
+            let (after, noted) = moved(arch, reg, value.cast_unsigned(), next);
+            Ok(Finish::Noted(after, noted))
+        }
+        _ => Err(invalid_opcode()),
+    }
+}
+
+/// An instruction, with the address of the next one.
+#[tactic(auto, using(crate::specs::Script::play_bind))]
+fn execute(
+    job: &Job,
+    arch: &Arch,
+    instr: &Instr,
+    next: u64,
+    at: &mut Cursor,
+) -> Result<Finish, Stop>
+    requires count { arch.now.count < 2 ^ 32 - 1 }
+    requires made { IsMade arch.now.made }
+    ensures { Comes (play (execute job.now arch.now instr.now next) at.old.left at.old.rest.now) result at.new.left at.new.rest.now }
+{
+    match *instr {
+        Instr::Mov { size, dst, src } => execute_move(arch, size, dst, src, next, at),
+        Instr::CallRel { disp } => {
+            let (after, noted) = call_relative(arch, disp, next, at)?;
+            Ok(Finish::Noted(after, noted))
+        }
+        Instr::Ret => {
+            let (after, noted) = ret(arch, at)?;
+            Ok(Finish::Noted(after, noted))
+        }
+        Instr::Syscall => syscall(job, arch, next, at),
+        _ => Err(invalid_opcode()),
+    }
+}
+
+/// The instruction at RIP.
+#[tactic(auto, unfolding(crate::specs::Row::instruction))]
+fn instruction(job: &Job, arch: &Arch, at: &mut Cursor) -> Result<Finish, Stop>
+    requires count { arch.now.count < 2 ^ 32 - 1 }
+    requires made { IsMade arch.now.made }
+    ensures { Comes (play (instruction job.now arch.now) at.old.left at.old.rest.now) result at.new.left at.new.rest.now }
+{
+    if !is_canonical(arch.rip) {
+        return Err(general_protection());
+    }
+    let mut buffer = [0u8; 15];
+    let fetched = fetch(job.image, arch.rip, &mut buffer);
+    match decode(&buffer[..fetched]) {
+        Decoded::Ok { instr, len } => execute(
+            job,
+            arch,
+            &instr,
+            arch.rip.wrapping_add(u64::from(len)),
+            at,
+        ),
+        Decoded::Short => missing(arch.rip + fetched as u64, at),
+        Decoded::Unknown => Err(invalid_opcode()),
+    }
+}
+
+/// What a thread does between instructions, and then the instruction.
+#[tactic(auto, using(crate::specs::Script::play_bind), unfolding(crate::specs::Row::boundary))]
+fn boundary(job: &Job, arch: &Arch, at: &mut Cursor) -> Result<Finish, Stop>
+    requires count { arch.now.count < 2 ^ 32 - 1 }
+    requires made { IsMade arch.now.made }
+    requires number { arch.now.number < 32 }
+    ensures { Comes (play (boundary job.now arch.now) at.old.left at.old.rest.now) result at.new.left at.new.rest.now }
+{
+    let ending = at.load(EXIT_WORD)?;
+    if ending != 0 {
+        return Ok(Finish::Stopped);
+    }
+    at.load(FIRST_PEND_WORD + u32::from(arch.number))?;
+    instruction(job, arch, at)
+}
+
+/// The row of a thread in this state, as far as the cursor's accesses lead.
+pub fn row(job: &Job, arch: &Arch, at: &mut Cursor) -> Result<Finish, Stop>
+    requires count { arch.now.count < 2 ^ 32 - 1 }
+    requires made { IsMade arch.now.made }
+    requires number { arch.now.number < 32 }
+    ensures { Comes (play (row job.now arch.now) at.old.left at.old.rest.now) result at.new.left at.new.rest.now }
+{
+    match &arch.due {
+        Some(fault) => deliver(job, arch, fault, at),
+        None => boundary(job, arch, at),
+    }
+}

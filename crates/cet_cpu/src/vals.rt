@@ -1,0 +1,71 @@
+//! The values read so far in a row.
+
+ghost use Rattle.std.specs.Prelude.{◌≡◌, ◌<◌, length, slice_index};
+ghost use Rattle.cet_cpu.specs.Seen.{seen_after, nothing_seen};
+
+use crate::cursors::Cursor;
+use cet_words::Access;
+use std::marker::Model;
+
+/// How many values a row keeps, and how many accesses it makes, at most.
+const MOST_KEPT: usize = 32;
+
+/// The values kept in a row, at most 32, and the number of its accesses so far, at most 4,096. All
+/// accesses but stores keep their value.
+#[derive(Drop)]
+pub struct Vals {
+    kept: [u64; 32],
+    used: usize,
+    accesses: u32,
+}
+
+impl Model for Vals {
+    ghost use Rattle.std.specs.Prelude.{take, ◌≤◌};
+    ghost use Rattle.cet_cpu.specs.Seen.{Seen};
+
+    ghost Value = { Seen };
+
+    ghost view = { λ v. record { count = v.accesses; kept = take v.used v.kept } };
+
+    ghost invariant = { λ v. (v.used ≤ 32) × (v.accesses ≤ 4096) };
+}
+
+impl Vals {
+    /// No value and no access.
+    pub fn new() -> Vals
+        ensures { result ≡ nothing_seen }
+    {
+        Vals {
+            kept: [0; MOST_KEPT],
+            used: 0,
+            accesses: 0,
+        }
+    }
+
+    /// Counts an access, and keeps its value unless it is a store.
+    pub fn add(&mut self, access: Access, value: u64)
+        requires room { length self.old.kept < 32 }
+        requires more { self.old.count < 4096 }
+        ensures { self.new ≡ seen_after self.old access value }
+    {
+        self.accesses += 1;
+        match access {
+            Access::Store(_, _) => {}
+            _ => {
+                self.kept[self.used] = value;
+                self.used += 1;
+            }
+        }
+    }
+
+    /// The place before the first access.
+    pub fn start(&self) -> Cursor<'_>
+        ensures left { result.left ≡ self.now.count }
+        ensures rest { result.rest.now ≡ self.now.kept }
+    {
+        Cursor {
+            left: self.accesses,
+            rest: &self.kept[..self.used],
+        }
+    }
+}
