@@ -1,11 +1,11 @@
 ghost use Rattle.std.specs.Prelude.{◌≡◌};
 ghost use Rattle.cet_words.specs.Bytes.{segment_byte, code_byte};
 
-use crate::entries::segment_of;
+use crate::entries::segment_at;
 use crate::images::{Image, Segment};
 
 /// The byte at an address of one of the segment's pages: 0 outside its file bytes.
-fn segment_byte(segment: &Segment, addr: u64) -> u8
+pub(crate) fn segment_byte(segment: &Segment, addr: u64) -> u8
     ensures { result ≡ segment_byte segment.now addr }
 {
     if addr < segment.start {
@@ -20,7 +20,7 @@ fn segment_byte(segment: &Segment, addr: u64) -> u8
 pub fn code_byte(image: &Image, addr: u64) -> Option<u8>
     ensures { result ≡ code_byte image.now.segments addr }
 {
-    match segment_of(image.segments.as_slice(), addr / 4096) {
+    match segment_at(image, addr / 4096) {
         Some(segment) if segment.exec => Some(segment_byte(segment, addr)),
         _ => None,
     }

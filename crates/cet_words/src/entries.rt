@@ -18,11 +18,18 @@ fn covers(segment: &Segment, number: u64) -> bool
 }
 
 /// The first segment that has a byte in the page that begins at 4096 * `number`.
-pub(crate) fn segment_of(segments: &[Segment], number: u64) -> Option<&Segment>
+fn segment_of(segments: &[Segment], number: u64) -> Option<&Segment>
     requires { All IsSegment segments.now }
     ensures { option_copied result ≡ find (covers number) segments.now }
 {
     segments.iter().find(|segment| covers(segment, number))
+}
+
+/// The segment of an image that has a byte in the page that begins at 4096 * `number`.
+pub(crate) fn segment_at(image: &Image, number: u64) -> Option<&Segment>
+    ensures { option_copied result ≡ find (covers number) image.now.segments }
+{
+    segment_of(image.segments.as_slice(), number)
 }
 
 fn entry_with(page: u32, bits: u64) -> u64
@@ -52,7 +59,7 @@ fn image_entry(image: &Image, page: u32) -> u64
     requires { page < 1024 }
     ensures { result ≡ segment_entry page (find (covers (1024 + page)) image.now.segments) }
 {
-    match segment_of(image.segments.as_slice(), u64::from(1024 + page)) {
+    match segment_at(image, u64::from(1024 + page)) {
         Some(segment) => segment_entry(page, segment),
         None => 0,
     }

@@ -11,6 +11,7 @@ mod images;
 mod lists;
 mod memory;
 mod places;
+mod start;
 
 pub use accesses::{Access, Perform};
 pub use bytes::code_byte;

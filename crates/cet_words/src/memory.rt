@@ -1,6 +1,12 @@
-ghost use Rattle.std.specs.Prelude.{◌≡◌, ℕ, length, List};
+ghost use Rattle.std.specs.Prelude.{◌≡◌, ℕ, length, List, IfOk};
+ghost use Rattle.cet_words.specs.Start.{IsStart};
 
 use crate::accesses::{Access, Perform};
+use crate::images::Image;
+use crate::lists::NoMemory;
+use crate::places::FIRST_ENTRY;
+use crate::start::start_words;
+use std::alloc::Global;
 use std::marker::Model;
 
 /// The words of a machine that one thread of the program works on.
@@ -17,7 +23,16 @@ impl Model for Plain {
     ghost invariant = { λ p. length p.words.items ≡ 1618002 };
 }
 
-const FIRST_ENTRY: usize = 1_614_848;
+impl Plain {
+    /// The words at the start: the image's bytes, the kernel's words and the entries of the pages that
+    /// are present. About 13 MB.
+    pub fn new(alloc: Global, image: &Image) -> Result<Plain, NoMemory>
+        ensures { IfOk result (IsStart image.now) }
+    {
+        let words = start_words(alloc, image)?;
+        Ok(Plain { words })
+    }
+}
 
 impl Perform for Plain {
     ghost words = { λ p. p };

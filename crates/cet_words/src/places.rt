@@ -1,6 +1,9 @@
 ghost use Rattle.std.specs.Prelude.{◌≡◌, ◌<◌, IfSome};
 ghost use Rattle.cet_words.specs.Layout.{page_at, word_at};
 
+/// The word of page 0's entry.
+pub(crate) const FIRST_ENTRY: usize = 1_614_848;
+
 /// The number of the page that holds an address, below 3,154, or none where no range of the machine
 /// holds it.
 #[tactic(auto, unfolding(crate::specs::Layout::page_at))]
