@@ -20,3 +20,6 @@ pub use images::{Image, Job, Segment, Segments, Signal, Signals};
 pub use lists::{Bytes, Items, NoMemory, Words};
 pub use memory::Plain;
 pub use places::{page_of, word_of};
+
+#[cfg(test)]
+mod tests;
