@@ -35,12 +35,12 @@ pub record After : Type 0 where
 abbrev pub first_regs : List ℕ
 first_regs = 0 ∷ 0 ∷ 0 ∷ 0 ∷ 0x7fffffc0 ∷ 0 ∷ 0 ∷ 0 ∷ 0 ∷ 0 ∷ 0 ∷ 0 ∷ 0 ∷ 0 ∷ 0 ∷ 0 ∷ []
 
--- thread 0, whose shadow stack is from 0x200001000 to 0x200009000
-abbrev pub first_core : JobData → Core
-first_core job = record {
+-- thread 0, whose shadow stack is from 0x200001000 to 0x200009000, before the instruction at this address
+abbrev pub core_at : (entry : ℕ) → Core
+core_at entry = record {
   arch = record {
     regs = first_regs;
-    rip = job.image.entry;
+    rip = entry;
     flags = 2;
     ssp = 0x200009000;
     mask = 0;
@@ -54,6 +54,9 @@ first_core job = record {
   seen = nothing_seen;
   over = None;
 }
+
+abbrev pub first_core : JobData → Core
+first_core job = core_at job.image.entry
 
 -- Nothing within a row depends on the supervisor stack that is held: a row is that of the state without it.
 abbrev pub unheld : Arch → Arch

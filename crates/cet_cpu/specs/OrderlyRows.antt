@@ -19,9 +19,9 @@ use Rattle.cet_isa.specs.declared.threads.Arch.{Arch}
 use Rattle.cet_cpu.specs.Change.{Change, birth, Busied, Returned, Freed, Ended}
 use Rattle.cet_cpu.specs.Script.{Script, done, fault, ask, tell, ◌>>=◌, Wants, play}
 use Rattle.cet_cpu.specs.Parts.{load_as, peek, exchange_as}
-use Rattle.cet_cpu.specs.Finish.{Row, noted, above}
+use Rattle.cet_cpu.specs.Finish.{Row, noted, above, rax}
 use Rattle.cet_cpu.specs.Flow.{call, call_next, call_relative, ret, returned_if}
-use Rattle.cet_cpu.specs.Gate.{gate_in, gate_out, inside, clears, exit, no_call, service, syscall, kill, deliver, stack_of, signal_of, token, busied_if, rax}
+use Rattle.cet_cpu.specs.Gate.{gate_in, gate_out, inside, clears, exit, no_call, service, syscall, kill, deliver, stack_of, signal_of, token, busied_if}
 use Rattle.cet_cpu.specs.Fetch.{missing, missing_in}
 use Rattle.cet_cpu.specs.Row.{move, execute, fetched, instruction, instruction_bytes, boundary, row, row_from}
 use Rattle.cet_cpu.specs.Orderly.{Orderly, Results, orderly_bind, orderly_cond, tested_then, look_then, peek_then, load_then, store_then, exchange_then}
@@ -111,7 +111,8 @@ orderly_gate_out n k wrote Q ends s f b p q r t h =
 
 orderly_clears : (wrote : Bool) (Q : ℕ → ℕ → Bool → Unit {0} → Type 0) (page : ℕ) → Q 4083 27 true tt → Orderly 4091 27 wrote Q (clears 8 page)
 unfolding clears
-orderly_clears wrote Q page h = (refl, refl, refl, refl, refl, refl, refl, refl, refl, refl, refl, refl, refl, refl, refl, refl, h)
+orderly_clears wrote Q page h =
+    (refl, refl, (refl, refl, (refl, refl, (refl, refl, (refl, refl, (refl, refl, (refl, refl, (refl, refl, h))))))))
 
 orderly_exit : (arch : Arch) (k : ℕ) (w : Bool) → Orderly 4091 27 w (Results (Ends arch)) (exit arch k)
 unfolding exit

@@ -30,6 +30,7 @@ pub record IsState (arch : Arch) : Type 0 where
 pub record Waits (job : JobData) (core : Core) : Type 0 where
   pub state : IsState core.arch
   pub count : core.arch.count < job.limit
+  pub limit : job.limit ≤ 100000
   pub spent : Spent (row job (unheld core.arch)) core.seen.count core.seen.kept
   pub waits : (a : Access) × (come job core.arch core.seen ≡ Wants a)
 
@@ -44,41 +45,41 @@ IsCore job core = CoreAt job core core.over
 first_made : IsMade 0x200001000
 first_made = record { low = omega arith; high = omega arith; whole = refl }
 
-fresh_core : (job : JobData) (next : Arch) → IsState next → next.count < job.limit → Waits job (record { arch = next; seen = nothing_seen; over = None })
-fresh_core job next s c = record { state = s; count = c; spent = tt; waits = row_begins job (unheld next) }
+fresh_core : (job : JobData) (next : Arch) → job.limit ≤ 100000 → IsState next → next.count < job.limit → Waits job (record { arch = next; seen = nothing_seen; over = None })
+fresh_core job next l s c = record { state = s; count = c; limit = l; spent = tt; waits = row_begins job (unheld next) }
 
 -- thread 0
 pub first_waits : (job : JobData) → IsJob job → IsCore job (first_core job)
-first_waits job j = fresh_core job _ (record { number = omega arith; made = first_made }) (let l = j.limit_low in omega arith)
+first_waits job j = fresh_core job _ j.limit_high (record { number = omega arith; made = first_made }) (let l = j.limit_low in omega arith)
 
-recorded_at : (job : JobData) (next : Arch) (b : Bool) → (next.count == job.limit) ≡ b → IsState next → next.count ≤ job.limit → CoreAt job (record { arch = next; seen = nothing_seen; over = if b then Some ending.Limit else None }) (if b then Some ending.Limit else None)
-recorded_at job next true e s c = tt
-recorded_at job next false e s c = let lt : next.count < job.limit = grind (arith, nat_tests, e, c) in fresh_core job next s lt
+recorded_at : (job : JobData) (next : Arch) (b : Bool) → (next.count == job.limit) ≡ b → job.limit ≤ 100000 → IsState next → next.count ≤ job.limit → CoreAt job (record { arch = next; seen = nothing_seen; over = if b then Some ending.Limit else None }) (if b then Some ending.Limit else None)
+recorded_at job next true e l s c = tt
+recorded_at job next false e l s c = let lt : next.count < job.limit = grind (arith, nat_tests, e, c) in fresh_core job next l s lt
 
-recorded_is : (job : JobData) (next : Arch) → IsState next → next.count ≤ job.limit → IsCore job (recorded job next)
-recorded_is job next s c = recorded_at job next (next.count == job.limit) refl s c
+recorded_is : (job : JobData) (next : Arch) → job.limit ≤ 100000 → IsState next → next.count ≤ job.limit → IsCore job (recorded job next)
+recorded_is job next l s c = recorded_at job next (next.count == job.limit) refl l s c
 
 state_kept : (arch next : Arch) (held : Option ℕ) → next.made ≡ arch.made → IsState arch → IsState (kept_by arch held next)
 state_kept arch next held e s = record { number = s.number; made = subst IsMade (sym e) s.made }
 
-core_kept : (job : JobData) (arch : Arch) (held : Option ℕ) (seen : Seen) → IsState arch → arch.count < job.limit → Spent (row job (unheld arch)) seen.count seen.kept → (r : Came Finish) → come job arch seen ≡ r → OnOver (Ends (unheld arch)) r → IsCore job (core_by job arch held seen r)
-core_kept job arch held seen s c p (Wants a) e k = record { state = record { number = s.number; made = s.made }; count = c; spent = p; waits = (a, e) }
-core_kept job arch held seen s c p (Faulted f) e k = recorded_is job (kept_by arch held (faulted arch f)) (record { number = s.number; made = s.made }) (omega arith)
-core_kept job arch held seen s c p (Over (Noted next noted) left values) e k =
+core_kept : (job : JobData) (arch : Arch) (held : Option ℕ) (seen : Seen) → job.limit ≤ 100000 → IsState arch → arch.count < job.limit → Spent (row job (unheld arch)) seen.count seen.kept → (r : Came Finish) → come job arch seen ≡ r → OnOver (Ends (unheld arch)) r → IsCore job (core_by job arch held seen r)
+core_kept job arch held seen l s c p (Wants a) e k = record { state = record { number = s.number; made = s.made }; count = c; limit = l; spent = p; waits = (a, e) }
+core_kept job arch held seen l s c p (Faulted f) e k = recorded_is job (kept_by arch held (faulted arch f)) l (record { number = s.number; made = s.made }) (omega arith)
+core_kept job arch held seen l s c p (Over (Noted next noted) left values) e k =
     let same : next.count ≡ arch.count + 1 = k.0 in
-    recorded_is job (kept_by arch held next) (state_kept arch next held k.1 s) (omega arith)
-core_kept job arch held seen s c p (Over (Posted next) left values) e k =
+    recorded_is job (kept_by arch held next) l (state_kept arch next held k.1 s) (omega arith)
+core_kept job arch held seen l s c p (Over (Posted next) left values) e k =
     let same : next.count ≡ arch.count = k.0 in
-    fresh_core job (kept_by arch held next) (state_kept arch next held k.1 s) (omega arith)
-core_kept job arch held seen s c p (Over (Exited next noted status) left values) e k = tt
-core_kept job arch held seen s c p (Over Stopped left values) e k = tt
+    fresh_core job (kept_by arch held next) l (state_kept arch next held k.1 s) (omega arith)
+core_kept job arch held seen l s c p (Over (Exited next noted status) left values) e k = tt
+core_kept job arch held seen l s c p (Over Stopped left values) e k = tt
 
 answered_is : (job : JobData) (core : Core) (answer : ℕ) → Waits job core → (r : Came Finish) → come job core.arch core.seen ≡ r → (a : Access) → r ≡ Wants a → IsCore job (answered job core answer r).core
 answered_is job core answer h (Wants b) e a w =
     let seen = seen_after core.seen b answer in
     let o = orderly_row job (unheld core.arch) in
     let more : Spent (row job (unheld core.arch)) seen.count seen.kept = rw add-one (spent_more _ false (row job (unheld core.arch)) 4096 31 core.seen.count core.seen.kept b answer o h.spent e) in
-    core_kept job core.arch _ seen h.state h.count more (come job core.arch seen) refl (over_play (Ends (unheld core.arch)) false (row job (unheld core.arch)) 4096 31 seen.count seen.kept o)
+    core_kept job core.arch _ seen h.limit h.state h.count more (come job core.arch seen) refl (over_play (Ends (unheld core.arch)) false (row job (unheld core.arch)) 4096 31 seen.count seen.kept o)
 answered_is job core answer h (Faulted f) e a w = cc
 answered_is job core answer h (Over x left values) e a w = cc
 
@@ -103,6 +104,13 @@ pub no_child : (job : JobData) (core : Core) (answer : ℕ) → (taken job core 
 unfolding taken
 no_child job core answer = childless job core answer (come job core.arch core.seen)
 
--- the core of a thread of the job that was answered, by another name
-pub taken_at : (job : JobData) (core new : Core) (answer : ℕ) → Waits job core → new ≡ (taken job core answer).core → IsCore job new
-taken_at job core new answer h e = subst (IsCore job) (sym e) (taken_is job core answer h)
+-- a thread that hasn't ended waits
+pub waiting : (job : JobData) (core : Core) → IsCore job core → core.over ≡ None → Waits job core
+waiting job core h e = subst (CoreAt job core) e h
+
+-- the thread after the answer, by another name
+pub taken_at : (job : JobData) (core new : Core) (answer : ℕ) → IsCore job core → core.over ≡ None → new ≡ (taken job core answer).core → IsCore job new
+taken_at job core new answer h g e = subst (IsCore job) (sym e) (taken_is job core answer (waiting job core h g))
+
+pub first_at : (job : JobData) (core : Core) → IsJob job → core ≡ first_core job → IsCore job core
+first_at job core j e = subst (IsCore job) (sym e) (first_waits job j)

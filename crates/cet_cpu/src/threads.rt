@@ -2,7 +2,8 @@
 
 ghost use Rattle.std.specs.Prelude.{◌≡◌, ◌+◌, ◌-◌, ◌^◌, ◌<◌, ◌≤◌, length, Some, None, IfSome};
 ghost use Rattle.cet_words.specs.Access.{InRange};
-ghost use Rattle.cet_cpu.specs.Core.{first_core, next_access, taken, held_after, unheld, kept_by, recorded, fault_record, faulted};
+ghost use Rattle.cet_cpu.specs.Within.{IsCore};
+ghost use Rattle.cet_cpu.specs.Core.{core_at, first_core, next_access, taken, held_after, unheld, kept_by, recorded, fault_record, faulted};
 
 use crate::cursors::Stop;
 use crate::gate::{stack_of, token, token_word};
@@ -34,4 +35,205 @@ pub struct Taken {
     pub noted: Option<Record>,
     pub child: Option<Cpu>,
     pub end: Option<End>,
+}
+
+/// The registers of thread 0: RSP stands below the end of the main stack.
+const FIRST_REGS: [u64; 16] = [0, 0, 0, 0, 0x7fff_ffc0, 0, 0, 0, 0, 0, 0, 0, 0, 0, 0, 0];
+
+fn thread_at(entry: u64) -> Cpu
+    ensures { result ≡ core_at entry }
+{
+    let arch = Arch {
+        regs: FIRST_REGS,
+        rip: entry,
+        flags: 2,
+        ssp: 0x2_0000_9000,
+        mask: 0,
+        count: 0,
+        posted: 0,
+        number: 0,
+        made: 0x2_0000_1000,
+        due: None,
+        held: None,
+    };
+    Cpu {
+        arch,
+        vals: Vals::new(),
+        over: None,
+    }
+}
+
+/// Thread 0 of a job, before its first access.
+pub fn first(job: &Job) -> Cpu
+    ensures core { result ≡ first_core job.now }
+    ensures state { IsCore job.now result }
+{
+    let image = job.image;
+    thread_at(image.entry)
+}
+
+fn unheld(arch: &Arch) -> Arch
+    ensures { result ≡ unheld arch.now }
+{
+    let mut bare = *arch;
+    bare.held = None;
+    bare
+}
+
+/// The supervisor stack that a thread holds after an access, where k is that of its processor.
+fn held_after(k: u8, access: Access, answer: u64, held: Option<u8>) -> Option<u8>
+    requires { k < 8 }
+    ensures { result ≡ held_after k access answer held }
+{
+    let Access::CompareExchange(word, expected, _) = access else {
+        return held;
+    };
+    if word != token_word(k) {
+        return held;
+    }
+    if expected != token(k) {
+        return None;
+    }
+    if answer == token(k) { Some(k) } else { held }
+}
+
+fn kept_by(arch: &Arch, held: Option<u8>, next: &Arch) -> Arch
+    ensures { result ≡ kept_by arch.now held next.now }
+{
+    let mut kept = *next;
+    kept.number = arch.number;
+    kept.held = held;
+    kept
+}
+
+fn fault_record(arch: &Arch, fault: &Fault) -> Record
+    ensures { result ≡ fault_record arch.now fault.now }
+{
+    Record {
+        rip: arch.rip,
+        what: What::Fault(fault.name),
+        code: fault.code,
+        a: fault.a,
+        b: fault.b,
+    }
+}
+
+fn faulted(arch: &Arch, fault: &Fault) -> Arch
+    requires { arch.now.count < 2 ^ 32 - 1 }
+    ensures { result ≡ faulted arch.now fault.now }
+{
+    let mut after = *arch;
+    after.due = Some(*fault);
+    after.count = arch.count + 1;
+    after
+}
+
+impl Cpu {
+    /// The thread's state.
+    pub fn arch(&self) -> &Arch
+        ensures { result.now ≡ self.now.arch }
+    {
+        &self.arch
+    }
+
+    /// How the thread ended, or none where it hasn't.
+    pub fn end(&self) -> Option<End>
+        ensures { result ≡ self.now.over }
+    {
+        self.over
+    }
+
+    /// The thread's next access, or none where it has ended.
+    #[tactic(auto, unfolding(crate::specs::Core::next_access))]
+    pub fn next(&self, job: &Job) -> Option<Access>
+        requires state { IsCore job.now self.now }
+        ensures access { result ≡ next_access job.now self.now }
+        ensures range { IfSome result InRange }
+    {
+        if self.over.is_some() {
+            return None;
+        }
+        match row(job, &unheld(&self.arch), &mut self.vals.start()) {
+            Err(Stop::Access(access)) => Some(access),
+            _ => None,
+        }
+    }
+
+    /// Takes the answer to the thread's next access.
+    #[tactic(auto, using(crate::specs::Within::room, crate::specs::Within::taken_at, crate::specs::Within::no_child))]
+    pub fn take(&mut self, job: &Job, answer: u64) -> Taken
+        requires state { IsCore job.now self.old }
+        requires going { self.old.over ≡ None }
+        ensures core { self.new ≡ (taken job.now self.old answer).core }
+        ensures noted { result.noted ≡ (taken job.now self.old answer).noted }
+        ensures child { result.child ≡ (taken job.now self.old answer).child }
+        ensures end { result.end ≡ self.new.over }
+        ensures state { IsCore job.now self.new }
+    {
+        let noted = self.answered(job, answer);
+        Taken {
+            noted,
+            child: None,
+            end: self.over,
+        }
+    }
+
+    #[tactic(auto, unfolding(crate::specs::Core::taken, crate::specs::Core::next_access))]
+    fn answered(&mut self, job: &Job, answer: u64) -> Option<Record>
+        requires state { IsCore job.now self.old }
+        requires going { self.old.over ≡ None }
+        requires room { length self.old.seen.kept < 32 }
+        requires more { self.old.seen.count < 4096 }
+        ensures core { self.new ≡ (taken job.now self.old answer).core }
+        ensures noted { result ≡ (taken job.now self.old answer).noted }
+    {
+        let access = self.next(job)?;
+        let held = held_after(stack_of(job, &self.arch), access, answer, self.arch.held);
+        self.vals.add(access, answer);
+        let arch = self.arch;
+        match row(job, &unheld(&arch), &mut self.vals.start()) {
+            Err(Stop::Access(_)) => {
+                self.arch = kept_by(&arch, held, &arch);
+                None
+            }
+            Err(Stop::Fault(fault)) => {
+                self.settle(job, kept_by(&arch, held, &faulted(&arch, &fault)));
+                Some(fault_record(&arch, &fault))
+            }
+            Ok(Finish::Noted(next, noted)) => {
+                self.settle(job, kept_by(&arch, held, &next));
+                Some(noted)
+            }
+            Ok(Finish::Posted(next)) => {
+                self.arch = kept_by(&arch, held, &next);
+                self.vals = Vals::new();
+                None
+            }
+            Ok(Finish::Exited(next, noted, status)) => {
+                self.arch = kept_by(&arch, held, &next);
+                self.vals = Vals::new();
+                self.over = Some(End::Exit(status));
+                Some(noted)
+            }
+            Ok(Finish::Stopped) => {
+                self.arch = kept_by(&arch, held, &arch);
+                self.vals = Vals::new();
+                self.over = Some(End::Group);
+                None
+            }
+        }
+    }
+
+    /// The thread after a record, which may bring it to its limit.
+    fn settle(&mut self, job: &Job, next: Arch)
+        ensures { self.new ≡ recorded job.now next }
+    {
+        self.arch = next;
+        self.vals = Vals::new();
+        self.over = if next.count == job.limit {
+            Some(End::Limit)
+        } else {
+            None
+        };
+    }
 }

@@ -1,7 +1,7 @@
-ghost use Rattle.std.specs.Prelude.{◌≡◌};
+ghost use Rattle.std.specs.Prelude.{◌≡◌, ◌<◌, IfSome};
 ghost use Rattle.cet_words.specs.Bytes.{segment_byte, code_byte};
 
-use crate::entries::segment_at;
+use crate::entries::segment_of;
 use crate::images::{Image, Segment};
 
 /// The byte at an address of one of the segment's pages: 0 outside its file bytes.
@@ -16,11 +16,12 @@ pub(crate) fn segment_byte(segment: &Segment, addr: u64) -> u8
 }
 
 /// The byte of code at an address, or none where no executable segment covers the address's page.
-#[tactic(auto, unfolding(crate::specs::Bytes::code_byte))]
+#[tactic(auto, using(crate::specs::Bytes::code_place), unfolding(crate::specs::Bytes::code_byte))]
 pub fn code_byte(image: &Image, addr: u64) -> Option<u8>
-    ensures { result ≡ code_byte image.now.segments addr }
+    ensures byte { result ≡ code_byte image.now.segments addr }
+    ensures range { IfSome result (λ byte. addr < 0x800000) }
 {
-    match segment_at(image, addr / 4096) {
+    match segment_of(image.segments.as_slice(), addr / 4096) {
         Some(segment) if segment.exec => Some(segment_byte(segment, addr)),
         _ => None,
     }

@@ -18,7 +18,7 @@ fn covers(segment: &Segment, number: u64) -> bool
 }
 
 /// The first segment that has a byte in the page that begins at 4096 * `number`.
-fn segment_of(segments: &[Segment], number: u64) -> Option<&Segment>
+pub(crate) fn segment_of(segments: &[Segment], number: u64) -> Option<&Segment>
     requires { All IsSegment segments.now }
     ensures { option_copied result ≡ find (covers number) segments.now }
 {
