@@ -4,7 +4,7 @@ use Rattle.std.specs.Prelude.{◌≡◌, ℕ, ◌<◌, Bool, true, false, ◌==�
 use Rattle.cet_isa.specs.declared.instructions.Instr.{Instr}
 use Rattle.cet_isa.specs.declared.instructions.Operand.{Operand}
 use Rattle.cet_isa.specs.Form.{Pattern, Wide, Sized, Set, Clear, Ignored, Never, Rex, NoRex, ClearRex, SetRex, Imm, NoImm, Byte, Word, Dword, Qword, Form}
-use Rattle.cet_isa.specs.Meaning.{sib_len, disp_len, operand_of, signed_of, unsigned_of, Fields, instr_of}
+use Rattle.cet_isa.specs.Meaning.{sib_len, disp_len, operand_of, signed_of, Fields, instr_of}
 use Rattle.cet_isa.specs.Forms.{forms}
 
 -- whether a byte is of the set
@@ -69,8 +69,7 @@ fields_in cells rm imm = record {
   opcode = opcode_in cells;
   modrm = modrm_in cells;
   rm = rm;
-  signed = signed_of imm;
-  unsigned = unsigned_of imm;
+  imm = imm;
 }
 
 -- These bytes spell the instruction by this row: the bytes of its places, then SIB, displacement and immediate.
