@@ -1,5 +1,5 @@
 -- The code's table, seen as the table of instructions. Source: own.
-use Rattle.std.specs.Prelude.{◌≡◌, Option, Some, None, Result, Ok, Err}
+use Rattle.std.specs.Prelude.{◌≡◌, ℕ, List, Option, Some, None, Result, Ok, Err}
 use Rattle.cet_decode.specs.declared.forms.Pattern as pattern
 use Rattle.cet_decode.specs.declared.forms.Wide as wide
 use Rattle.cet_decode.specs.declared.forms.Wide.TheVariants as wides
@@ -10,10 +10,22 @@ use Rattle.cet_decode.specs.declared.forms.Imm.TheVariants as imms
 use Rattle.cet_decode.specs.declared.forms.Kind as kind
 use Rattle.cet_decode.specs.declared.forms.Kind.TheVariants as kinds
 use Rattle.cet_decode.specs.declared.forms.Form as form
+use Rattle.cet_decode.specs.declared.kinds.Amount as amount
+use Rattle.cet_decode.specs.declared.kinds.Amount.TheVariants as amounts
+use Rattle.cet_decode.specs.declared.kinds.Arith as arith
+use Rattle.cet_decode.specs.declared.kinds.Arith.TheVariants as ariths
+use Rattle.cet_decode.specs.declared.kinds.Unary as unary
+use Rattle.cet_decode.specs.declared.kinds.Unary.TheVariants as unarys
+use Rattle.cet_decode.specs.declared.kinds.Move as move
+use Rattle.cet_decode.specs.declared.kinds.Move.TheVariants as moves
+use Rattle.cet_decode.specs.declared.kinds.Flow as flow
+use Rattle.cet_decode.specs.declared.kinds.Flow.TheVariants as flows
+use Rattle.cet_decode.specs.declared.kinds.Shadow as shadow
+use Rattle.cet_decode.specs.declared.kinds.Shadow.TheVariants as shadows
 use Rattle.cet_decode.specs.declared.fields.Parts.{Parts}
 use Rattle.cet_decode.specs.declared.reading.Miss as miss
 use Rattle.cet_decode.specs.declared.reading.Miss.TheVariants as misses
-use Rattle.cet_isa.specs.Form.{Pattern, Wide, Rex, Imm, Kind, Form}
+use Rattle.cet_isa.specs.Form.{Pattern, Wide, Rex, Imm, Amount, Kind, Form}
 use Rattle.cet_isa.specs.Form as table
 use Rattle.cet_isa.specs.Meaning.{Fields}
 use Rattle.cet_isa.specs.Reader.{Miss, Ends, Differs}
@@ -44,11 +56,71 @@ imm_view imms.Word = table.Word
 imm_view imms.Dword = table.Dword
 imm_view imms.Qword = table.Qword
 
+abbrev pub amount_view : amount.Amount → Amount
+amount_view amounts.Given = table.Given
+amount_view amounts.One = table.One
+amount_view amounts.InCl = table.InCl
+
+abbrev pub arith_view : arith.Arith → Kind
+arith_view ariths.AluRmReg = table.AluRmReg
+arith_view ariths.AluRegRm = table.AluRegRm
+arith_view ariths.AluRmImm = table.AluRmImm
+arith_view ariths.AluRaxImm = table.AluRaxImm
+arith_view ariths.TestRmReg = table.TestRmReg
+arith_view ariths.TestRmImm = table.TestRmImm
+arith_view ariths.TestRaxImm = table.TestRaxImm
+arith_view ariths.Imul = table.Imul
+
+abbrev pub unary_view : unary.Unary → Kind
+unary_view unarys.Inc = table.Inc
+unary_view unarys.Dec = table.Dec
+unary_view unarys.Not = table.Not
+unary_view unarys.Neg = table.Neg
+unary_view (unarys.Shl a) = table.Shl (amount_view a)
+unary_view (unarys.Shr a) = table.Shr (amount_view a)
+unary_view (unarys.Sar a) = table.Sar (amount_view a)
+
+abbrev pub move_view : move.Move → Kind
+move_view moves.MovRmReg = table.MovRmReg
+move_view moves.MovRegRm = table.MovRegRm
+move_view moves.MovRegImm = table.MovRegImm
+move_view moves.MovRmImm = table.MovRmImm
+move_view moves.MovWide = table.MovWide
+move_view moves.MovZero8 = table.MovZero8
+move_view moves.MovSign32 = table.MovSign32
+move_view moves.Lea = table.Lea
+move_view moves.Xchg = table.Xchg
+move_view moves.LockXadd = table.LockXadd
+move_view moves.LockCmpxchg = table.LockCmpxchg
+move_view moves.Cmov = table.Cmov
+
+abbrev pub flow_view : flow.Flow → Kind
+flow_view flows.PushReg = table.PushReg
+flow_view flows.PushImm = table.PushImm
+flow_view flows.PushMem = table.PushMem
+flow_view flows.Pop = table.Pop
+flow_view flows.CallRel = table.CallRel
+flow_view (flows.CallInd notrack) = table.CallInd notrack
+flow_view flows.JmpRel = table.JmpRel
+flow_view (flows.JmpInd notrack) = table.JmpInd notrack
+flow_view flows.Jcc = table.Jcc
+flow_view flows.RetImm = table.RetImm
+
+abbrev pub shadow_view : shadow.Shadow → Kind
+shadow_view shadows.Incsspq = table.Incsspq
+shadow_view shadows.Rdsspq = table.Rdsspq
+shadow_view shadows.Rstorssp = table.Rstorssp
+shadow_view shadows.Clrssbsy = table.Clrssbsy
+shadow_view shadows.Wrssq = table.Wrssq
+shadow_view shadows.Wrussq = table.Wrussq
+
 abbrev pub kind_view : kind.Kind → Kind
-kind_view kinds.MovRegImm = table.MovRegImm
-kind_view kinds.CallRel = table.CallRel
-kind_view kinds.Ret = table.Ret
-kind_view kinds.Syscall = table.Syscall
+kind_view (kinds.Arith x) = arith_view x
+kind_view (kinds.Unary x) = unary_view x
+kind_view (kinds.Move x) = move_view x
+kind_view (kinds.Flow x) = flow_view x
+kind_view (kinds.Shadow x) = shadow_view x
+kind_view (kinds.Plain i) = table.Plain i
 
 abbrev pub form_view : form.Form → Form
 form_view x = record {
@@ -64,8 +136,9 @@ form_view x = record {
   kind = kind_view x.kind;
 }
 
-abbrev pub fields_view : Parts → Fields
-fields_view x = record { rex = x.rex; opcode = x.opcode; modrm = x.modrm; rm = x.rm; signed = x.signed; unsigned = x.unsigned }
+-- the fields with the immediate's bytes
+abbrev pub fields_view : Parts → List ℕ → Fields
+fields_view x imm = record { rex = x.rex; opcode = x.opcode; modrm = x.modrm; rm = x.rm; imm = imm }
 
 abbrev pub miss_view : miss.Miss → Miss
 miss_view misses.Ends = Ends

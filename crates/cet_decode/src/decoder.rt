@@ -1,7 +1,9 @@
 //! The decoder's answer.
 
-ghost use Rattle.std.specs.Prelude.{◌≡◌};
-ghost use Rattle.cet_isa.specs.Reading.{decoded};
+ghost use Rattle.std.specs.Prelude.{◌≡◌, ℕ, ◌<◌, ◌≤◌, List, length};
+ghost use Rattle.cet_isa.specs.declared.instructions.Instr.{Instr};
+ghost use Rattle.cet_isa.specs.Spells.{Spells};
+ghost use Rattle.cet_isa.specs.Reading.{decoded, IsAnswer};
 ghost use Rattle.cet_decode.specs.Decoded.{decoding, LenAtMost};
 
 use crate::reading::{Miss, read_listed};
@@ -18,9 +20,8 @@ pub enum Decoded {
     Unknown,
 }
 
-/// The instruction at the front of the bytes.
 #[tactic(auto, unfolding(cet_isa::specs::Reading::decoded))]
-pub fn decode(bytes: &[u8]) -> Decoded
+fn answer(bytes: &[u8]) -> Decoded
     ensures reads { decoding result ≡ decoded bytes.now }
     ensures len { LenAtMost 12 result }
 {
@@ -32,4 +33,18 @@ pub fn decode(bytes: &[u8]) -> Decoded
         Err(Miss::Ends) => Decoded::Short,
         Err(Miss::Differs) => Decoded::Unknown,
     }
+}
+
+/// The instruction at the front of the bytes, by the table of instructions (Intel SDM volume 2, in the
+/// forms that the machine takes).
+pub fn decode(bytes: &[u8]) -> Decoded
+    // Ok, Short and Unknown come exactly where the bytes begin by a spelling, are part of one, or neither.
+    ensures exact { IsAnswer bytes.now (decoding result) }
+    ensures reads { decoding result ≡ decoded bytes.now }
+
+    ensures len { LenAtMost 12 result }
+    ensures part { result ≡ Decoded.Short → length bytes.now < 12 }
+    ensures longest { (spelling : List ℕ) (instr : Instr) → Spells spelling instr → length spelling ≤ 12 }
+{
+    answer(bytes)
 }

@@ -1,14 +1,15 @@
 //! Reading an instruction from the front of bytes, row by row of the table.
 
-ghost use Rattle.std.specs.Prelude.{◌≡◌, map, slice_index, length};
+ghost use Rattle.std.specs.Prelude.{◌≡◌, map};
 ghost use Rattle.cet_isa.specs.Forms.{forms};
 ghost use Rattle.cet_isa.specs.Spells.{has, allows, rex_pattern, places, imm_len};
 ghost use Rattle.cet_isa.specs.Reading.{byte_at, cells_at, bytes_at, operand_at, read_at, form_at, row_at, any_at};
 ghost use Rattle.cet_decode.specs.Views.{pattern_view, place_view, wide_view, rex_view, imm_view, form_view, Gives};
 
-use crate::fields::{Parts, signed, unsigned};
+use crate::addressing::{disp_count, operand, sib_count};
+use crate::fields::{Parts, byte, signed};
 use crate::forms::{FORMS, Form, Imm, Pattern, Rex, Wide};
-use crate::meaning::{disp_count, instr, operand, sib_count};
+use crate::meaning::instr;
 use cet_isa::{Instr, Operand};
 
 /// Why nothing was read: the bytes end too early, or they differ from what was to be read.
@@ -89,22 +90,13 @@ fn bytes_of(count: usize, bytes: &[u8]) -> Result<(&[u8], &[u8]), Miss>
     Ok(bytes.split_at(count))
 }
 
-fn first_of(bytes: &[u8]) -> u8
-    ensures { result ≡ slice_index bytes.now 0 }
-{
-    match bytes {
-        [] => 0,
-        [byte, ..] => *byte,
-    }
-}
-
 #[tactic(auto, unfolding(cet_isa::specs::Reading::operand_at))]
 fn operand_of_cells(cells: [u8; 8], bytes: &[u8]) -> Result<(Operand, &[u8]), Miss>
     ensures { Gives (λ x. (x.0, x.1.now)) result (operand_at cells bytes.now) }
 {
     let (rex, modrm) = (cells[3], cells[7]);
     let (sib, rest) = bytes_of(sib_count(modrm), bytes)?;
-    let sib = first_of(sib);
+    let sib = byte(sib, 0);
     let (disp, rest) = bytes_of(disp_count(modrm, sib), rest)?;
     let rm = operand(rex, modrm, sib, signed(disp));
     Ok((rm, rest))
@@ -134,10 +126,8 @@ fn read<'a>(form: &Form, rex: Rex, bytes: &'a [u8]) -> Result<(Instr, &'a [u8]),
         opcode: cells[6],
         modrm: cells[7],
         rm,
-        signed: signed(imm),
-        unsigned: unsigned(imm),
     };
-    Ok((instr(form.kind, &parts), rest))
+    Ok((instr(form.kind, &parts, imm), rest))
 }
 
 fn is_allowed(wide: Wide, rex: Rex) -> bool

@@ -1,6 +1,7 @@
 -- A row of the table of instructions: one form of encoding. Source: Intel SDM volume 2, instruction format; the sets of
 -- bytes by mask and value are own.
-use Rattle.std.specs.Prelude.{ℕ, zero, suc, ◌+◌, ◌*◌, List, [], ◌∷◌, Option, Some, None}
+use Rattle.std.specs.Prelude.{ℕ, zero, suc, ◌+◌, ◌*◌, Bool, List, [], ◌∷◌, Option, Some, None}
+use Rattle.cet_isa.specs.declared.instructions.Instr.{Instr}
 
 -- a set of bytes: those below `below` that agree with `value` in the bits of `mask`
 pub record Pattern : Type 0 where
@@ -30,12 +31,59 @@ pub data Imm : Type 0 where
   Dword : Imm
   Qword : Imm
 
--- which instruction a row spells
+-- where a shift takes its count from: the immediate, the number 1, the register CL
+pub data Amount : Type 0 where
+  Given : Amount
+  One : Amount
+  InCl : Amount
+
+-- Which instruction a row spells, and from which fields: Rm is what mod and rm name, Reg the register of the reg field or
+-- of the opcode, Imm the immediate.
 pub data Kind : Type 0 where
+  AluRmReg : Kind
+  AluRegRm : Kind
+  AluRmImm : Kind
+  AluRaxImm : Kind
+  TestRmReg : Kind
+  TestRmImm : Kind
+  TestRaxImm : Kind
+  Imul : Kind
+  Inc : Kind
+  Dec : Kind
+  Not : Kind
+  Neg : Kind
+  Shl : Amount → Kind
+  Shr : Amount → Kind
+  Sar : Amount → Kind
+  MovRmReg : Kind
+  MovRegRm : Kind
   MovRegImm : Kind
+  MovRmImm : Kind
+  MovWide : Kind
+  MovZero8 : Kind
+  MovSign32 : Kind
+  Lea : Kind
+  Xchg : Kind
+  LockXadd : Kind
+  LockCmpxchg : Kind
+  Cmov : Kind
+  PushReg : Kind
+  PushImm : Kind
+  PushMem : Kind
+  Pop : Kind
   CallRel : Kind
-  Ret : Kind
-  Syscall : Kind
+  CallInd : Bool → Kind
+  JmpRel : Kind
+  JmpInd : Bool → Kind
+  Jcc : Kind
+  RetImm : Kind
+  Incsspq : Kind
+  Rdsspq : Kind
+  Rstorssp : Kind
+  Clrssbsy : Kind
+  Wrssq : Kind
+  Wrussq : Kind
+  Plain : Instr → Kind
 
 -- up to three prefixes, REX, up to two bytes before the opcode, the opcode, ModRM, immediate
 pub record Form : Type 0 where

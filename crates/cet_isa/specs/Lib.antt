@@ -6,5 +6,9 @@ pub mod Meaning
 pub mod Spells
 pub mod Reader
 pub mod ReaderLaws
+pub mod Exact
 pub mod Reading
 pub mod ReadingLaws
+pub mod ExactReading
+pub mod Apart
+pub mod DecodedLaws

@@ -1,5 +1,10 @@
 -- Readers of the front of a list of bytes. Source: own.
-use Rattle.std.specs.Prelude.{Result, Ok, Err}
+use Rattle.std.specs.Prelude.{ℕ, ◌<◌, List, [], ◌∷◌, Result, Ok, Err}
+
+-- each number is a byte
+abbrev pub IsBytes : List ℕ → Type 0
+IsBytes [] = Unit {0}
+IsBytes (b ∷ bs) = (b < 256) × IsBytes bs
 
 -- why a reader has no value: the bytes end too early, or they differ from all that it reads
 pub data Miss : Type 0 where

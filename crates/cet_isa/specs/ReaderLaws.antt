@@ -1,6 +1,6 @@
--- Laws of steps that may miss.
-use Rattle.std.proofs.Common.{◌≡◌, ℕ, List, Result, Ok, Err, refl, ap}
-use Rattle.cet_isa.specs.Reader.{Miss, ◌>>=◌}
+-- Laws of steps that may miss, and of lists of bytes.
+use Rattle.std.proofs.Common.{◌≡◌, ℕ, List, [], ◌∷◌, ◌++◌, Result, Ok, Err, refl, ap}
+use Rattle.cet_isa.specs.Reader.{Miss, ◌>>=◌, IsBytes}
 
 -- a value comes from a value of the first step
 pub bind_ok : {A B : Type 0} (r : Result A Miss) (f : A → Result B Miss) (y : B) → (r >>= f) ≡ Ok y → (x : A) × (r ≡ Ok x) × (f x ≡ Ok y)
@@ -17,3 +17,15 @@ pair_same {Y} a b s t e =
     let q : Y × List ℕ = (b, t) in
     let same : p ≡ q = cc in
     (ap (λ (x : Y × List ℕ). x.0) same, ap (λ (x : Y × List ℕ). x.1) same)
+
+pub IsBytes-append : (xs ys : List ℕ) → IsBytes xs → IsBytes ys → IsBytes (xs ++ ys)
+IsBytes-append [] ys p q = q
+IsBytes-append (x ∷ xs) ys p q = (p.0, IsBytes-append xs ys p.1 q)
+
+pub IsBytes-left : (xs ys : List ℕ) → IsBytes (xs ++ ys) → IsBytes xs
+IsBytes-left [] ys p = tt
+IsBytes-left (x ∷ xs) ys p = (p.0, IsBytes-left xs ys p.1)
+
+pub IsBytes-right : (xs ys : List ℕ) → IsBytes (xs ++ ys) → IsBytes ys
+IsBytes-right [] ys p = p
+IsBytes-right (x ∷ xs) ys p = IsBytes-right xs ys p.1

@@ -1,12 +1,12 @@
 -- Reading one instruction from the front of a list of bytes, by the table of instructions. Each function gives what it
 -- read and the bytes that are left. Source: own.
-use Rattle.std.specs.Prelude.{ℕ, ◌-◌, nat_lt, if◌then◌else◌, List, [], ◌∷◌, length, take, drop, Option, Some, None, Result, Ok, Err, slice_index}
+use Rattle.std.specs.Prelude.{◌≡◌, ◌↔◌, ℕ, ◌-◌, nat_lt, if◌then◌else◌, List, [], ◌∷◌, length, take, drop, Option, Some, None, Result, Ok, Err, slice_index}
 use Rattle.cet_isa.specs.declared.instructions.Operand.{Operand}
 use Rattle.cet_isa.specs.declared.instructions.Instr.{Instr}
 use Rattle.cet_isa.specs.Form.{Pattern, Rex, NoRex, ClearRex, SetRex, Form}
 use Rattle.cet_isa.specs.Forms.{forms}
 use Rattle.cet_isa.specs.Meaning.{sib_len, disp_len, instr_of}
-use Rattle.cet_isa.specs.Spells.{has, allows, places, imm_len, modrm_in, rm_in, fields_in}
+use Rattle.cet_isa.specs.Spells.{has, allows, places, imm_len, modrm_in, rm_in, fields_in, Begins, IsPart}
 use Rattle.cet_isa.specs.Reader.{Miss, Ends, Differs, ◌>>=◌, or_else}
 
 -- the byte of a place, 0 for an empty one
@@ -69,3 +69,9 @@ decoding_of n (Err Differs) = Unknown
 -- the instruction at the front of the bytes
 unfoldable pub decoded : List ℕ → Decoding
 decoded bytes = decoding_of (length bytes) (any_at forms bytes)
+
+-- Each answer comes exactly where its cause holds.
+pub record IsAnswer (bytes : List ℕ) (answer : Decoding) : Type 0 where
+  pub read : (i : Instr) (len : ℕ) → (answer ≡ Read i len) ↔ Begins bytes i len
+  pub short : (answer ≡ Short) ↔ IsPart bytes
+  pub unknown : (answer ≡ Unknown) ↔ (((i : Instr) (len : ℕ) → ¬ Begins bytes i len) × ¬ IsPart bytes)

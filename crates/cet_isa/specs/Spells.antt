@@ -1,11 +1,12 @@
 -- Which bytes spell which instruction: a relation on whole strings. Source: Intel SDM volume 2, chapter 2, instruction
 -- format.
-use Rattle.std.specs.Prelude.{◌≡◌, ℕ, ◌<◌, Bool, true, false, ◌==◌, nat_lt, ◌&&◌, List, [], ◌∷◌, ◌++◌, length, Option, Some, None, Contains, slice_index, bit_and}
+use Rattle.std.specs.Prelude.{◌≡◌, ℕ, Bool, true, false, ◌==◌, nat_lt, ◌&&◌, List, [], ◌∷◌, ◌++◌, length, Option, Some, None, Contains, slice_index, bit_and, ◌≢◌, ◌≤◌, take}
 use Rattle.cet_isa.specs.declared.instructions.Instr.{Instr}
 use Rattle.cet_isa.specs.declared.instructions.Operand.{Operand}
 use Rattle.cet_isa.specs.Form.{Pattern, Wide, Sized, Set, Clear, Ignored, Never, Rex, NoRex, ClearRex, SetRex, Imm, NoImm, Byte, Word, Dword, Qword, Form}
-use Rattle.cet_isa.specs.Meaning.{sib_len, disp_len, operand_of, signed_of, unsigned_of, Fields, instr_of}
+use Rattle.cet_isa.specs.Meaning.{sib_len, disp_len, operand_of, signed_of, Fields, instr_of}
 use Rattle.cet_isa.specs.Forms.{forms}
+use Rattle.cet_isa.specs.Reader.{IsBytes}
 
 -- whether a byte is of the set
 abbrev pub has : Pattern → ℕ → Bool
@@ -45,10 +46,6 @@ imm_len Word = 2
 imm_len Dword = 4
 imm_len Qword = 8
 
-abbrev pub IsBytes : List ℕ → Type 0
-IsBytes [] = Unit {0}
-IsBytes (b ∷ bs) = (b < 256) × IsBytes bs
-
 -- REX is cell 3, the opcode cell 6, ModRM cell 7
 abbrev pub rex_in : List ℕ → ℕ
 rex_in cells = slice_index cells 3
@@ -69,8 +66,7 @@ fields_in cells rm imm = record {
   opcode = opcode_in cells;
   modrm = modrm_in cells;
   rm = rm;
-  signed = signed_of imm;
-  unsigned = unsigned_of imm;
+  imm = imm;
 }
 
 -- These bytes spell the instruction by this row: the bytes of its places, then SIB, displacement and immediate.
@@ -95,3 +91,15 @@ pub record Spells (bytes : List ℕ) (i : Instr) : Type 0 where
   pub form : Form
   pub listed : Contains forms form
   pub spelled : SpelledBy form bytes i
+
+-- the first bytes, so many, spell the instruction
+pub record Begins (bytes : List ℕ) (i : Instr) (len : ℕ) : Type 0 where
+  pub within : len ≤ length bytes
+  pub spelled : Spells (take len bytes) i
+
+-- the bytes are a proper prefix of a spelling
+pub record IsPart (bytes : List ℕ) : Type 0 where
+  pub more : List ℕ
+  pub some_more : more ≢ []
+  pub instr : Instr
+  pub spelled : Spells (bytes ++ more) instr

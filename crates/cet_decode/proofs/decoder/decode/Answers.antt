@@ -1,12 +1,18 @@
-use Rattle.std.proofs.Common.{arith}
-use Rattle.cet_isa.specs.ReadingLaws.{forms_length}
+use Rattle.std.proofs.Common.{arith, sym, subst, ap, ◌∙◌}
+use Rattle.cet_isa.specs.Reading.{IsAnswer, Decoding}
+use Rattle.cet_isa.specs.DecodedLaws.{decoded_answers, spelling_short, part_short, is_bytes}
+use Rattle.cet_decode.specs.Decoded.{decoding}
 use Rattle.cet_decode.proofs.decoder.decode.Goals as goal
 
-pub overflow_sub-result : goal.overflow_sub-result
-overflow_sub-result c = let l = forms_length _ _ c.in-Ok.ensures in omega (arith, l.some)
+pub returns-clause-exact : goal.returns-clause-exact
+returns-clause-exact c =
+    let a = decoded_answers c.args.bytes.now (is_bytes c.args.bytes.now (λ i. omega (arith, c.type_inv.bytes i))) in
+    subst (λ (d : Decoding). IsAnswer c.args.bytes.now d) (sym c.answer.ensures.reads) a
 
-pub overflow_cast-result : goal.overflow_cast-result
-overflow_cast-result c = let l = forms_length _ _ c.in-Ok.ensures in omega (arith, l.some, l.small)
+pub returns-clause-part : goal.returns-clause-part
+returns-clause-part c e =
+    let a = decoded_answers c.args.bytes.now (is_bytes c.args.bytes.now (λ i. omega (arith, c.type_inv.bytes i))) in
+    part_short c.args.bytes.now (a.short.0 (sym c.answer.ensures.reads ∙ ap decoding e))
 
-pub returns-in-Ok-clause-len : goal.returns-in-Ok-clause-len
-returns-in-Ok-clause-len c = let l = forms_length _ _ c.in-Ok.ensures in omega (arith, l.small)
+pub returns-clause-longest : goal.returns-clause-longest
+returns-clause-longest c spelling instr s = spelling_short spelling instr s
