@@ -1,0 +1,245 @@
+-- The book of shadow stacks: lists of entries with their holders, and what each change makes of them. Source: Intel SDM
+-- volume 1, chapter on CET, as lists (no words, token bits, page entries or exchanges); own for makers and blanks.
+use Rattle.std.proofs.Common.{zero, suc}
+use Rattle.std.specs.Prelude.{ℕ, ◌+◌, ◌-◌, ◌*◌, ◌/◌, ◌%◌, Bool, true, false, ◌&&◌, ◌==◌, nat_lt, nat_le, if◌then◌else◌, List, [], ◌∷◌, ◌++◌, length, replicate, slice_index_or, slice_set, Option, Some, None, option_and_then}
+use Rattle.std.specs.List.{position_or_len}
+use Rattle.cet_book.specs.Change.{Change, Called, Returned, Raised, Acquired, Released, Claimed, Seeded, Born, Pushed, Popped, Ended, Busied, Freed}
+
+pub data Entry : Type 0 where
+  -- the address that a call is to return to
+  Call : (back : ℕ) → Entry
+  -- the address that a signal's handler is to return to
+  Restorer : (back : ℕ) → Entry
+  -- a signal's frame
+  Frame : Entry
+  -- the region that was left for this one
+  Previous : (region : ℕ) → Entry
+  -- a word 0 above a token
+  Blank : Entry
+
+pub data Holder : Type 0 where
+  Maker : (thread : ℕ) → Holder
+  Current : (thread : ℕ) → Holder
+  -- it has a restore token
+  Parked : Holder
+  -- it was left for that region
+  Left : (region : ℕ) → Holder
+  Lost : Holder
+
+-- a shadow stack: addresses from start up to end, its entries with the newest first, and its one holder
+pub record Region : Type 0 where
+  pub start : ℕ
+  pub end : ℕ
+  pub entries : List Entry
+  pub holder : Holder
+
+pub record Book : Type 0 where
+  -- in the order of their claims; a region's number is its place
+  pub regions : List Region
+  -- the thread that holds each supervisor stack
+  pub stacks : List (Option ℕ)
+
+-- what stands past the last region
+abbrev pub nowhere : Region
+nowhere = record { start = 0; end = 0; entries = []; holder = Lost }
+
+abbrev pub region : Book → ℕ → Region
+region b i = slice_index_or b.regions i nowhere
+
+abbrev pub put : Book → ℕ → Region → Book
+put b i r = record b { regions = slice_set b.regions i r }
+
+abbrev pub stack_of : Book → ℕ → Option ℕ
+stack_of b k = slice_index_or b.stacks k None
+
+abbrev pub put_stack : Book → ℕ → Option ℕ → Book
+put_stack b k o = record b { stacks = slice_set b.stacks k o }
+
+-- how many entries a region has room for
+abbrev pub capacity : Region → ℕ
+capacity r = (r.end - r.start) / 8
+
+-- the address of the newest entry
+abbrev pub top : Region → ℕ
+top r = r.end - 8 * length r.entries
+
+abbrev pub is_current : ℕ → Holder → Bool
+is_current t (Maker x) = false
+is_current t (Current x) = x == t
+is_current t Parked = false
+is_current t (Left x) = false
+is_current t Lost = false
+
+abbrev pub is_maker : ℕ → Holder → Bool
+is_maker t (Maker x) = x == t
+is_maker t (Current x) = false
+is_maker t Parked = false
+is_maker t (Left x) = false
+is_maker t Lost = false
+
+abbrev pub is_parked : Holder → Bool
+is_parked (Maker x) = false
+is_parked (Current x) = false
+is_parked Parked = true
+is_parked (Left x) = false
+is_parked Lost = false
+
+abbrev pub holds_stack : ℕ → Option ℕ → Bool
+holds_stack t None = false
+holds_stack t (Some x) = x == t
+
+abbrev pub is_free : Option ℕ → Bool
+is_free None = true
+is_free (Some x) = false
+
+-- the region is parked, and its token stands at p
+abbrev pub has_token : ℕ → Region → Bool
+has_token p r = is_parked r.holder && top r == p + 8
+
+-- The number of the first region that is current on a thread, has its token at an address, or starts at an address, and
+-- the first supervisor stack that a thread holds. Where there is none it is the length of the list.
+unfoldable pub current_of : ℕ → Book → ℕ
+current_of t b = position_or_len (λ r. is_current t r.holder) b.regions
+
+unfoldable pub parked_at : ℕ → Book → ℕ
+parked_at p b = position_or_len (has_token p) b.regions
+
+unfoldable pub starting_at : ℕ → Book → ℕ
+starting_at start b = position_or_len (λ r. r.start == start) b.regions
+
+unfoldable pub held_by : ℕ → Book → ℕ
+held_by t b = position_or_len (holds_stack t) b.stacks
+
+-- what is done with the region that is current on a thread, where there is one
+abbrev pub with_current : ℕ → Book → (ℕ → Region → Option Book) → Option Book
+with_current t b f =
+    if nat_lt (current_of t b) (length b.regions) then f (current_of t b) (region b (current_of t b)) else None
+
+abbrev pub with_entry : Entry → Region → Region
+with_entry e r = record r { entries = e ∷ r.entries }
+
+-- the list of region m is es
+abbrev pub relist : ℕ → List Entry → Book → Book
+relist m es b = put b m (record (region b m) { entries = es })
+
+-- the newest entry Previous(s) of region m goes, and region s has another holder
+abbrev pub unlink : ℕ → ℕ → List Entry → Holder → Book → Book
+unlink m s es h b = put (relist m es b) s (record (region b s) { holder = h })
+
+abbrev pub called : ℕ → ℕ → Region → Book → Option Book
+called back m r b = if nat_lt (length r.entries) (capacity r) then Some (put b m (with_entry (Call back) r)) else None
+
+abbrev pub returned : ℕ → List Entry → Book → Option Book
+returned m [] b = None
+returned m (Call x ∷ es) b = Some (relist m es b)
+returned m (Restorer x ∷ es) b = Some (relist m es b)
+returned m (Frame ∷ es) b = None
+returned m (Previous s ∷ es) b = Some (unlink m s es Lost b)
+returned m (Blank ∷ es) b = Some (relist m es b)
+
+-- the newest entry of region m goes
+abbrev pub remove_entry : ℕ → List Entry → Book → Option Book
+remove_entry m [] b = None
+remove_entry m (Call x ∷ es) b = Some (relist m es b)
+remove_entry m (Restorer x ∷ es) b = Some (relist m es b)
+remove_entry m (Frame ∷ es) b = Some (relist m es b)
+remove_entry m (Previous s ∷ es) b = Some (unlink m s es Lost b)
+remove_entry m (Blank ∷ es) b = Some (relist m es b)
+
+abbrev pub raised : ℕ → ℕ → Book → Option Book
+raised m zero b = Some b
+raised m (suc n) b = option_and_then (raised m n) (remove_entry m (region b m).entries b)
+
+-- region q becomes current on t, and m is left for it
+abbrev pub acquire : ℕ → ℕ → ℕ → Book → Book
+acquire t m q b =
+    put (put b m (record (region b m) { holder = Left q })) q
+    (record (region b q) { entries = Previous m ∷ (region b q).entries; holder = Current t })
+
+abbrev pub acquired : ℕ → ℕ → ℕ → Book → Option Book
+acquired t p m b = if nat_lt (parked_at p b) (length b.regions) then Some (acquire t m (parked_at p b) b) else None
+
+abbrev pub released : ℕ → List Entry → Book → Option Book
+released m [] b = None
+released m (Call x ∷ es) b = None
+released m (Restorer x ∷ es) b = None
+released m (Frame ∷ es) b = None
+released m (Previous s ∷ es) b =
+    if nat_lt (length (region b s).entries) (capacity (region b s)) then Some (unlink m s es Parked b) else None
+released m (Blank ∷ es) b = None
+
+abbrev pub claim : ℕ → ℕ → ℕ → Bool → Region
+claim t start pages maker =
+    record { start = start; end = start + 4096 * pages; entries = []; holder = if maker then Maker t else Lost }
+
+abbrev pub last_end : Book → ℕ
+last_end b = (region b (length b.regions - 1)).end
+
+abbrev pub can_claim : ℕ → ℕ → Book → Bool
+can_claim start pages b =
+    nat_le 1 pages && nat_le pages 1022 && start % 4096 == 0 && nat_le (last_end b + 4096) start &&
+    nat_le (start + 4096 * pages) 0x2003ff000
+
+abbrev pub claimed : ℕ → ℕ → ℕ → Bool → Book → Option Book
+claimed t start pages maker b =
+    if can_claim start pages b then Some (record b { regions = b.regions ++ claim t start pages maker ∷ [] }) else None
+
+abbrev pub seeded : ℕ → ℕ → ℕ → Book → Option Book
+seeded t s blanks b =
+    if is_maker t (region b s).holder && nat_lt blanks (capacity (region b s))
+    then Some (put b s (record (region b s) { entries = replicate blanks Blank; holder = Parked })) else None
+
+abbrev pub born : ℕ → ℕ → ℕ → Book → Option Book
+born t child s b =
+    if is_maker t (region b s).holder && nat_le (length b.regions) (current_of child b)
+    then Some (put b s (record (region b s) { holder = Current child })) else None
+
+abbrev pub pushed : ℕ → ℕ → Region → Book → Option Book
+pushed x m r b =
+    if nat_le (length r.entries + 2) (capacity r) then Some (put b m (with_entry (Restorer x) (with_entry Frame r))) else None
+
+abbrev pub popped : ℕ → List Entry → Book → Option Book
+popped m [] b = None
+popped m (Call x ∷ es) b = None
+popped m (Restorer x ∷ es) b = None
+popped m (Frame ∷ es) b = Some (relist m es b)
+popped m (Previous s ∷ es) b = None
+popped m (Blank ∷ es) b = None
+
+abbrev pub ended : ℕ → Region → Book → Option Book
+ended m r b = Some (put b m (record r { holder = Lost }))
+
+abbrev pub busied : ℕ → ℕ → Book → Option Book
+busied t k b =
+    if nat_lt k 8 && is_free (stack_of b k) && nat_le (length b.stacks) (held_by t b) then Some (put_stack b k (Some t)) else None
+
+abbrev pub freed : ℕ → ℕ → Book → Option Book
+freed t k b = if holds_stack t (stack_of b k) then Some (put_stack b k None) else None
+
+-- the book after a change by a thread, or None where the book has no such change
+abbrev pub book_after : ℕ → Book → Change → Option Book
+book_after t b (Called back) = with_current t b (λ m r. called back m r b)
+book_after t b Returned = with_current t b (λ m r. returned m r.entries b)
+book_after t b (Raised count) = with_current t b (λ m r. raised m count b)
+book_after t b (Acquired at) = with_current t b (λ m r. acquired t at m b)
+book_after t b Released = with_current t b (λ m r. released m r.entries b)
+book_after t b (Claimed start pages maker) = claimed t start pages maker b
+book_after t b (Seeded start blanks) = seeded t (starting_at start b) blanks b
+book_after t b (Born child start) = born t child (starting_at start b) b
+book_after t b (Pushed restorer) = with_current t b (λ m r. pushed restorer m r b)
+book_after t b Popped = with_current t b (λ m r. popped m r.entries b)
+book_after t b Ended = with_current t b (λ m r. ended m r b)
+book_after t b (Busied stack) = busied t stack b
+book_after t b (Freed stack) = freed t stack b
+
+-- the book after changes, one after another
+abbrev pub books_after : ℕ → Book → List Change → Option Book
+books_after t b [] = Some b
+books_after t b (c ∷ cs) = option_and_then (λ next. books_after t next cs) (book_after t b c)
+
+-- the book at the start: thread 0 on a region of eight pages
+abbrev pub first_book : Book
+first_book = record {
+  regions = record { start = 0x200001000; end = 0x200009000; entries = []; holder = Current 0 } ∷ [];
+  stacks = None ∷ None ∷ None ∷ None ∷ None ∷ None ∷ None ∷ None ∷ [];
+}
