@@ -8,5 +8,5 @@ pow-requires c =
     let most : 16 ^ c.args.place ≤ 16 ^ 15 = let le : c.args.place ≤ 15 = omega arith in pow-le-pow_right base le in
     omega arith
 
-pub nonzero_div-digit : goal.nonzero_div-digit
-nonzero_div-digit c = omega (arith, one-le-pow c.args.place 16 (omega arith))
+pub nonzero_div-value : goal.nonzero_div-value
+nonzero_div-value c = omega (arith, one-le-pow c.args.place 16 (omega arith))
