@@ -1,7 +1,7 @@
 -- One more entry cleared, and what doesn't matter for the accesses of the gate's way out.
 use Rattle.std.proofs.Common.{◌∷◌, ◌≡◌, ℕ, zero, suc, ◌+◌, ◌-◌, ◌<◌, arith, refl, ap, sym, ◌∙◌, List, []}
 use Rattle.cet_words.specs.Layout.{entry_word}
-use Rattle.cet_cpu.specs.Change.{Change}
+use Rattle.cet_words.specs.Change.{Change}
 use Rattle.cet_cpu.specs.Script.{Script, done, ◌>>=◌, play, play_bind, resume}
 use Rattle.cet_cpu.specs.Parts.{store, store_as, load, load_as, exchange_as}
 use Rattle.cet_cpu.specs.Gate.{clears, gate_out, token_word, token}

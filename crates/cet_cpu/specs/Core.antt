@@ -10,8 +10,8 @@ use Rattle.cet_isa.specs.declared.threads.What.TheVariants as what
 use Rattle.cet_isa.specs.declared.threads.Arch.{Arch}
 use Rattle.cet_isa.specs.declared.threads.End.{End}
 use Rattle.cet_isa.specs.declared.threads.End.TheVariants as ending
-use Rattle.cet_cpu.specs.Change.{Change, birth}
-use Rattle.cet_cpu.specs.Script.{Script, Came, Over, Faulted, Wants, play, changes_at}
+use Rattle.cet_words.specs.Change.{Change}
+use Rattle.cet_cpu.specs.Script.{Script, Came, Over, Faulted, Wants, play, changes_at, birth}
 use Rattle.cet_cpu.specs.Seen.{Seen, nothing_seen, seen_after}
 use Rattle.cet_cpu.specs.Finish.{above, counted}
 use Rattle.cet_cpu.specs.Gate.{stack_of, token, token_word}

@@ -6,8 +6,7 @@ use Rattle.cet_words.specs.declared.images.Segment.{Segment}
 use Rattle.cet_words.specs.Layout.{page_at}
 use Rattle.cet_words.specs.Bytes.{code_byte}
 use Rattle.cet_words.specs.declared.accesses.Access.TheVariants as access
-use Rattle.cet_cpu.specs.Change.{silent}
-use Rattle.cet_cpu.specs.Script.{Script, fault, ask}
+use Rattle.cet_cpu.specs.Script.{Script, fault, ask, silent}
 use Rattle.cet_cpu.specs.Page.{page_fault}
 use Rattle.cet_cpu.specs.declared.checks.Kind.TheVariants as kind
 use Rattle.cet_cpu.specs.declared.checks.Who.TheVariants.{User}

@@ -9,7 +9,7 @@ use Rattle.cet_isa.specs.declared.threads.FaultName.TheVariants.{Cp}
 use Rattle.cet_isa.specs.declared.threads.Record.{Record}
 use Rattle.cet_isa.specs.declared.threads.What.TheVariants as what
 use Rattle.cet_isa.specs.declared.threads.Arch.{Arch}
-use Rattle.cet_cpu.specs.Change.{Change, Called, Returned}
+use Rattle.cet_words.specs.Change.{Change, Called, Returned}
 use Rattle.cet_cpu.specs.Script.{Script, done, fault, ◌>>=◌}
 use Rattle.cet_cpu.specs.Parts.{general_protection, tested, look, load, load_as, store, store_as}
 use Rattle.cet_cpu.specs.Finish.{Row, above, below, rsp}

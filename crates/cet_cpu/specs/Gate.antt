@@ -10,7 +10,7 @@ use Rattle.cet_isa.specs.declared.threads.FaultName.TheVariants.{Ud, Gp, Pf, Ac,
 use Rattle.cet_isa.specs.declared.threads.Record.{Record}
 use Rattle.cet_isa.specs.declared.threads.What.TheVariants as what
 use Rattle.cet_isa.specs.declared.threads.Arch.{Arch}
-use Rattle.cet_cpu.specs.Change.{Change, Busied, Freed, Ended}
+use Rattle.cet_words.specs.Change.{Change, Busied, Freed, Ended}
 use Rattle.cet_cpu.specs.Script.{Script, done, tell, ◌>>=◌}
 use Rattle.cet_cpu.specs.Parts.{peek, load, store, exchange, exchange_as}
 use Rattle.cet_cpu.specs.Finish.{rax, rdi, counted}

@@ -1,4 +1,3 @@
-pub mod Change
 pub mod Script
 pub mod Seen
 pub mod Page
@@ -13,3 +12,5 @@ pub mod Plays
 pub mod Orderly
 pub mod OrderlyRows
 pub mod Within
+pub mod Machine
+pub mod Left

@@ -8,8 +8,8 @@ use Rattle.cet_words.specs.declared.accesses.Access.{Access}
 use Rattle.cet_words.specs.declared.accesses.Access.TheVariants as access
 use Rattle.cet_isa.specs.Address.{canonical}
 use Rattle.cet_isa.specs.declared.threads.Fault.{Fault}
-use Rattle.cet_cpu.specs.Change.{Change, birth, silent}
-use Rattle.cet_cpu.specs.Script.{Script, done, fault, ask, tell, ◌>>=◌, Came, Over, Faulted, Wants, play, changes_at}
+use Rattle.cet_words.specs.Change.{Change}
+use Rattle.cet_cpu.specs.Script.{Script, done, fault, ask, tell, ◌>>=◌, Came, Over, Faulted, Wants, play, changes_at, birth, silent}
 use Rattle.cet_cpu.specs.Seen.{keeps, kept_after}
 use Rattle.cet_cpu.specs.Page.{allows, page_fault}
 use Rattle.cet_cpu.specs.Parts.{tested, look_in, look, peek, load_as, store_as, exchange_as, misaligned, general_protection}

@@ -16,8 +16,8 @@ use Rattle.cet_isa.specs.declared.instructions.Size.TheVariants as size
 use Rattle.cet_isa.specs.declared.threads.Fault.{Fault}
 use Rattle.cet_isa.specs.declared.threads.Record.{Record}
 use Rattle.cet_isa.specs.declared.threads.Arch.{Arch}
-use Rattle.cet_cpu.specs.Change.{Change, birth, Busied, Returned, Freed, Ended}
-use Rattle.cet_cpu.specs.Script.{Script, done, fault, ask, tell, ◌>>=◌, Wants, play}
+use Rattle.cet_words.specs.Change.{Change, Busied, Returned, Freed, Ended}
+use Rattle.cet_cpu.specs.Script.{Script, done, fault, ask, tell, ◌>>=◌, Wants, play, birth}
 use Rattle.cet_cpu.specs.Parts.{load_as, peek, exchange_as}
 use Rattle.cet_cpu.specs.Finish.{Row, noted, above, rax}
 use Rattle.cet_cpu.specs.Flow.{call, call_next, call_relative, ret, returned_if}
@@ -28,10 +28,10 @@ use Rattle.cet_cpu.specs.Orderly.{Orderly, Results, orderly_bind, orderly_cond, 
 use Rattle.cet_cpu.specs.declared.rows.Finish.{Finish}
 use Rattle.cet_cpu.specs.declared.rows.Finish.TheVariants.{Noted, Posted, Exited, Stopped}
 
--- a record raises the count by one, and nothing changes where the kernel-made shadow stack is
+-- a record raises the count by one, nothing changes where the kernel-made shadow stack is, and no signal is posted yet
 abbrev pub Ends : Arch → Finish → Type 0
 Ends arch (Noted next noted) = (next.count ≡ arch.count + 1) × (next.made ≡ arch.made)
-Ends arch (Posted next) = (next.count ≡ arch.count) × (next.made ≡ arch.made)
+Ends arch (Posted next) = ⊥
 Ends arch (Exited next noted status) = (next.count ≡ arch.count + 1) × (next.made ≡ arch.made)
 Ends arch Stopped = Unit {0}
 

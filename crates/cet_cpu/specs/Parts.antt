@@ -8,8 +8,8 @@ use Rattle.cet_words.specs.declared.accesses.Access.TheVariants as access
 use Rattle.cet_isa.specs.Address.{canonical}
 use Rattle.cet_isa.specs.declared.threads.Fault.{Fault}
 use Rattle.cet_isa.specs.declared.threads.FaultName.TheVariants.{Gp, Ac, Ud}
-use Rattle.cet_cpu.specs.Change.{Change, silent}
-use Rattle.cet_cpu.specs.Script.{Script, done, fault, ask, tell, play}
+use Rattle.cet_words.specs.Change.{Change}
+use Rattle.cet_cpu.specs.Script.{Script, done, fault, ask, tell, play, silent}
 use Rattle.cet_cpu.specs.Page.{allows, page_fault}
 use Rattle.cet_cpu.specs.declared.checks.Kind.{Kind}
 use Rattle.cet_cpu.specs.declared.checks.Who.{Who}

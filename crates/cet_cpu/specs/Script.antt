@@ -1,11 +1,11 @@
 -- A script: which accesses are made one after another, what each means for the book, and what is done with the answers.
 -- Source: own. It is the form in which each instruction and each kernel call is written.
 use Rattle.std.proofs.Common.{zero, suc}
-use Rattle.std.specs.Prelude.{◌≡◌, ℕ, List, [], ◌∷◌, refl}
+use Rattle.std.specs.Prelude.{◌≡◌, ℕ, List, [], ◌∷◌, Option, Some, None, refl}
 use Rattle.cet_words.specs.declared.accesses.Access.{Access}
 use Rattle.cet_words.specs.declared.accesses.Access.TheVariants as access
 use Rattle.cet_isa.specs.declared.threads.Fault.{Fault}
-use Rattle.cet_cpu.specs.Change.{Change}
+use Rattle.cet_words.specs.Change.{Change, Called, Returned, Raised, Acquired, Released, Claimed, Seeded, Born, Pushed, Popped, Ended, Busied, Freed}
 
 pub data Script (A : Type 0) : Type 0 where
   -- it is over, with this result
@@ -68,3 +68,24 @@ changes_at (ask a changes k) (suc n) [] answer = []
 changes_at (ask a changes k) (suc n) (value ∷ values) answer = changes_at (k value) n values answer
 changes_at (tell word value changes k) zero values answer = changes
 changes_at (tell word value changes k) (suc n) values answer = changes_at k n values answer
+
+-- nothing changes, whatever the access answers
+abbrev pub silent : ℕ → List Change
+silent value = []
+
+-- the child's number and the start of its shadow stack, where one of the changes is a birth
+abbrev pub birth : List Change → Option (ℕ × ℕ)
+birth [] = None
+birth (Born child start ∷ changes) = Some (child, start)
+birth (Called back ∷ changes) = birth changes
+birth (Returned ∷ changes) = birth changes
+birth (Raised count ∷ changes) = birth changes
+birth (Acquired at ∷ changes) = birth changes
+birth (Released ∷ changes) = birth changes
+birth (Claimed start pages maker ∷ changes) = birth changes
+birth (Seeded start blanks ∷ changes) = birth changes
+birth (Pushed restorer ∷ changes) = birth changes
+birth (Popped ∷ changes) = birth changes
+birth (Ended ∷ changes) = birth changes
+birth (Busied stack ∷ changes) = birth changes
+birth (Freed stack ∷ changes) = birth changes

@@ -9,8 +9,7 @@ use Rattle.cet_isa.specs.declared.threads.Record.{Record}
 use Rattle.cet_isa.specs.declared.threads.Arch.{Arch}
 use Rattle.cet_isa.specs.declared.threads.End.{End}
 use Rattle.cet_isa.specs.declared.threads.End.TheVariants as ending
-use Rattle.cet_cpu.specs.Change.{birth}
-use Rattle.cet_cpu.specs.Script.{Script, Came, Over, Faulted, Wants, play, changes_at}
+use Rattle.cet_cpu.specs.Script.{Script, Came, Over, Faulted, Wants, play, changes_at, birth}
 use Rattle.cet_cpu.specs.Seen.{Seen, nothing_seen, seen_after}
 use Rattle.cet_cpu.specs.Finish.{IsMade}
 use Rattle.cet_cpu.specs.Gate.{stack_of}
@@ -68,9 +67,7 @@ core_kept job arch held seen l s c p (Faulted f) e k = recorded_is job (kept_by 
 core_kept job arch held seen l s c p (Over (Noted next noted) left values) e k =
     let same : next.count ≡ arch.count + 1 = k.0 in
     recorded_is job (kept_by arch held next) l (state_kept arch next held k.1 s) (omega arith)
-core_kept job arch held seen l s c p (Over (Posted next) left values) e k =
-    let same : next.count ≡ arch.count = k.0 in
-    fresh_core job (kept_by arch held next) l (state_kept arch next held k.1 s) (omega arith)
+core_kept job arch held seen l s c p (Over (Posted next) left values) e k = absurd k
 core_kept job arch held seen l s c p (Over (Exited next noted status) left values) e k = tt
 core_kept job arch held seen l s c p (Over Stopped left values) e k = tt
 

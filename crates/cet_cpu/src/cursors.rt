@@ -3,8 +3,7 @@
 ghost use Rattle.std.specs.Prelude.{◌≡◌, ◌+◌, ◌*◌, ◌/◌, ◌%◌, ◌<◌, [], IfOk, Some};
 ghost use Rattle.cet_words.specs.Access.{InRange};
 ghost use Rattle.cet_words.specs.Layout.{word_in};
-ghost use Rattle.cet_cpu.specs.Change.{silent};
-ghost use Rattle.cet_cpu.specs.Script.{play, ask, tell, done};
+ghost use Rattle.cet_cpu.specs.Script.{play, ask, tell, done, silent};
 ghost use Rattle.cet_cpu.specs.Plays.{Comes};
 ghost use Rattle.cet_cpu.specs.Parts.{general_protection, invalid_opcode, tested, look, look_in, peek, load, store, exchange};
 

@@ -1,7 +1,7 @@
 //! The gate into the kernel, the service exit, and the kill.
 
 ghost use Rattle.std.specs.Prelude.{◌≡◌, ◌+◌, ◌-◌, ◌*◌, ◌%◌, ◌^◌, ◌<◌, ◌≤◌, [], ◌∷◌};
-ghost use Rattle.cet_cpu.specs.Change.{Ended};
+ghost use Rattle.cet_words.specs.Change.{Ended};
 ghost use Rattle.cet_cpu.specs.Script.{play};
 ghost use Rattle.cet_cpu.specs.Plays.{Comes};
 ghost use Rattle.cet_cpu.specs.Finish.{IsMade, counted};

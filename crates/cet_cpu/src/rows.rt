@@ -1,6 +1,8 @@
 //! The row of a thread, from a boundary or a due fault to its next record.
 
 ghost use Rattle.std.specs.Prelude.{◌≡◌, ◌+◌, ◌-◌, ◌^◌, ◌<◌};
+ghost use Rattle.cet_decode.specs.Decoded.{decoding};
+ghost use Rattle.cet_isa.specs.Reading.{decoded};
 ghost use Rattle.cet_cpu.specs.Script.{play};
 ghost use Rattle.cet_cpu.specs.Plays.{Comes};
 ghost use Rattle.cet_cpu.specs.Finish.{IsMade};
@@ -75,6 +77,13 @@ fn execute(
     }
 }
 
+/// What the bytes at RIP are. Only what the row depends on of the decoder's contract.
+fn read(bytes: &[u8]) -> Decoded
+    ensures { decoding result ≡ decoded bytes.now }
+{
+    decode(bytes)
+}
+
 /// The instruction at RIP.
 #[tactic(auto, unfolding(crate::specs::Row::instruction))]
 fn instruction(job: &Job, arch: &Arch, at: &mut Cursor) -> Result<Finish, Stop>
@@ -87,7 +96,7 @@ fn instruction(job: &Job, arch: &Arch, at: &mut Cursor) -> Result<Finish, Stop>
     }
     let mut buffer = [0u8; 15];
     let fetched = fetch(job.image, arch.rip, &mut buffer);
-    match decode(&buffer[..fetched]) {
+    match read(&buffer[..fetched]) {
         Decoded::Ok { instr, len } => execute(
             job,
             arch,

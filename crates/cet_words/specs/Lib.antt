@@ -4,3 +4,4 @@ pub mod Bytes
 pub mod Start
 pub mod Fill
 pub mod Access
+pub mod Change
