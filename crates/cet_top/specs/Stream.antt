@@ -1,5 +1,5 @@
 -- What one call of a source or a sink does to its bytes and to its count of faults. Source: own.
-use Rattle.std.specs.Prelude.{ℕ, ◌+◌, ◌-◌, ◌^◌, ◌<◌, ◌≤◌, ◌≡◌, min, List, length, take, Option, Result, IfOk, OnErr}
+use Rattle.std.specs.Prelude.{ℕ, ◌+◌, ◌-◌, ◌^◌, ◌<◌, ◌≤◌, ◌≡◌, min, List, [], length, take, Option, Some, None, Result, IfOk, OnErr, ⊤}
 use Rattle.std.specs.Io.KnownBytes.{Consumes, Appends, IsAtEnd}
 
 -- one more, in a count that stands still at its last value
@@ -38,3 +38,17 @@ pub record Writes {E : Type 0} (old new : Option (List ℕ)) (piece : List ℕ) 
   -- it takes a byte, where there is one
   pub some : IfOk result (λ n. 0 < length piece → 0 < n)
   pub failed : OnErr result (AppendsSome old new piece)
+
+-- the known bytes were exactly these, and none is left
+abbrev pub TakesAll : Option (List ℕ) → Option (List ℕ) → List ℕ → Type 0
+TakesAll None new bytes = ⊤
+TakesAll (Some xs) None bytes = ⊥
+TakesAll (Some xs) (Some ys) bytes = (bytes ≡ xs) × (ys ≡ [])
+
+-- some known bytes were taken from the front
+abbrev pub TakesSome : Option (List ℕ) → Option (List ℕ) → Type 0
+TakesSome old new = (bytes : List ℕ) × Consumes old new bytes
+
+-- more than n known bytes were taken from the front
+abbrev pub TakesMoreThan : ℕ → Option (List ℕ) → Option (List ℕ) → Type 0
+TakesMoreThan n old new = (bytes : List ℕ) × (n < length bytes) × Consumes old new bytes
