@@ -1,0 +1,10 @@
+//! Numbers as text and as little-endian fields.
+#![tactic(auto)]
+
+mod fields;
+mod read;
+mod write;
+
+pub use fields::{get_u16, get_u32, get_u64};
+pub use read::read_u64;
+pub use write::{hex16, put_bytes, put_decimal};
