@@ -1,2 +1,4 @@
 pub mod Stream
 pub mod MemSink
+pub mod Status
+pub mod Words

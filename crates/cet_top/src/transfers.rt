@@ -2,7 +2,6 @@ ghost use Rattle.std.specs.Prelude.{◌≡◌, ◌≤◌, length, IfOk, OnOk, On
 ghost use Rattle.std.specs.Io.KnownBytes.{Appends};
 ghost use Rattle.cet_top.specs.Stream.{Rose, HasCause, TakesAll, TakesSome, TakesMoreThan, AppendsSome};
 
-use crate::bytes::append;
 use crate::streams::{Failed, Sink, Source};
 use cet_words::{Bytes, NoMemory};
 use std::alloc::Global;
@@ -56,7 +55,7 @@ pub(crate) fn read_all<S: Source>(alloc: Global, src: &mut S) -> Result<Bytes, U
         if count == 0 {
             return Ok(bytes);
         }
-        append(alloc, &mut bytes, &buf[..count])?;
+        bytes.extend(alloc, &buf[..count])?;
     }
     Err(Unread::TooLong)
 }

@@ -9,8 +9,8 @@ returns-in_err-count-clause-err g c =
     let reads = c.in_err-count.ensures.bytes in
     rw p.1 (TakesSome-more _ _ _ _ c.reads.bytes c.reads.invariant.taken reads.failed)
 
-pub returns-in_err-append-clause-err : goal.returns-in_err-append-clause-err
-returns-in_err-append-clause-err g c =
-    let p = err_from_is_err_and c.from_residual-in_err-append.result c.from_residual-in_err-append.ensures.1 in
+pub returns-in_err-extend-clause-err : goal.returns-in_err-extend-clause-err
+returns-in_err-extend-clause-err g c =
+    let p = err_from_is_err_and c.from_residual-in_err-extend.result c.from_residual-in_err-extend.ensures.1 in
     let reads = c.in_ok-count.ensures.bytes in
     rw p.1 (_, Consumes-more _ _ _ c.reads.bytes (take c.in_ok-count.count c.read.new.buf) c.reads.invariant.taken reads.moved)
