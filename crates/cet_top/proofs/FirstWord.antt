@@ -1,5 +1,5 @@
 -- The first faulty word, where `run` alone is accepted.
-use Rattle.std.proofs.Common.{ℕ, zero, suc, ◌<◌, ◌≡◌, ◌≢◌, List, [], ◌∷◌, ◌++◌, length, take, refl, ap, inl, inr, codes, arith}
+use Rattle.std.proofs.Common.{ℕ, zero, suc, ◌<◌, ◌≡◌, ◌≢◌, List, [], ◌∷◌, length, take, refl, ap, inl, inr, codes, arith}
 use Rattle.cet_top.specs.Words.{IsCommand, Begins, FaultyWord}
 use Rattle.cet_top.specs.declared.words.Command.TheVariants.{Run}
 

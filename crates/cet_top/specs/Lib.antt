@@ -2,3 +2,5 @@ pub mod Stream
 pub mod MemSink
 pub mod Status
 pub mod Words
+pub mod Line
+pub mod Report
