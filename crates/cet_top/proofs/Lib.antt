@@ -1,0 +1,3 @@
+mod FirstWord
+mod Known
+mod Texts

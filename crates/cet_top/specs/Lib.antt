@@ -1,0 +1,6 @@
+pub mod Stream
+pub mod MemSink
+pub mod Status
+pub mod Words
+pub mod Line
+pub mod Report

@@ -1,0 +1,21 @@
+//! What the program `cetvm` does, over a source of bytes and a sink of bytes.
+#![tactic(auto)]
+
+mod lines;
+mod memory_streams;
+mod outcomes;
+mod reports;
+mod status;
+mod std_streams;
+mod streams;
+mod transfers;
+mod words;
+
+pub use memory_streams::{MemSink, SureSink, SureSource};
+pub use outcomes::{
+    Outcome, ProcessEnd, Records, Region, Shown, StackReport, StackReports, Style, ThreadOut,
+    ThreadOuts,
+};
+pub use status::Status;
+pub use std_streams::{StdSink, StdSource};
+pub use streams::{Failed, Sink, Source};

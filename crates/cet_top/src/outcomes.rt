@@ -1,0 +1,122 @@
+ghost use Rattle.std.specs.Prelude.{◌≡◌, [], ◌∷◌, ◌++◌, length, OnOk, OnErr, slice_get};
+
+use cet_isa::{End, Record};
+use cet_words::{Items, NoMemory, Words};
+use std::alloc::Global;
+use std::marker::Model;
+
+/// A list of records.
+#[derive(Debug, Drop)]
+pub struct Records {
+    records: Vec<Record>,
+}
+
+impl Model for Records {
+    ghost use Rattle.std.specs.Prelude.{List};
+    ghost use Rattle.cet_isa.specs.declared.threads.Record.{Record};
+
+    ghost Value = { List Record };
+
+    ghost view = { λ r. r.records.items };
+}
+
+impl Records {
+    /// The empty list. It takes no memory.
+    pub fn new(alloc: Global) -> Self
+        ensures { result ≡ [] }
+    {
+        Records {
+            records: Vec::new(alloc),
+        }
+    }
+
+    /// Appends a record. Where no memory is left the list stays as it is.
+    pub fn push(&mut self, _alloc: Global, item: Record) -> Result<(), NoMemory>
+        ensures ok { OnOk result (self.new ≡ self.old ++ item ∷ []) }
+        ensures err { OnErr result (self.new ≡ self.old) }
+    {
+        self.records.push(item)?;
+        Ok(())
+    }
+
+    /// The number of records.
+    pub fn len(&self) -> usize
+        ensures { result ≡ length self.now }
+    {
+        self.records.len()
+    }
+
+    /// The record at a place, counted from 0.
+    pub fn get(&self, at: usize) -> Option<Record>
+        ensures { result ≡ slice_get self.now at }
+    {
+        self.records.get(at).copied()
+    }
+}
+
+/// A thread of an outcome: its records, and how it ended.
+#[derive(Debug, Drop)]
+pub struct ThreadOut {
+    pub records: Records,
+    pub end: End,
+}
+
+/// The threads of an outcome, by number.
+pub type ThreadOuts = Items<ThreadOut>;
+
+/// How a process ended.
+#[derive(Clone, Copy, Debug, PartialEq, Eq)]
+pub enum ProcessEnd {
+    /// By exit, with this status.
+    Exit(u8),
+    /// By a kill, with this signal.
+    Killed(u8),
+    /// By the limit of records, which this thread is the lowest to have reached.
+    Limit(u8),
+}
+
+/// A shadow stack's place: the addresses of its first byte and past its last one.
+#[derive(Clone, Copy, Debug, PartialEq, Eq)]
+pub struct Region {
+    pub start: u64,
+    pub end: u64,
+}
+
+/// How a shadow stack is shown.
+#[derive(Clone, Copy, Debug, PartialEq, Eq)]
+pub enum Shown {
+    /// It is the stack of this thread.
+    Current(u8),
+    /// It waits with a token to be switched to.
+    Parked,
+    /// It was left for a stack that is shown with its entries.
+    Left,
+    /// No stack leads to it. It is shown without entries.
+    Lost,
+}
+
+/// A shadow stack with the words of its entries, the newest first.
+#[derive(Debug, Drop)]
+pub struct StackReport {
+    pub region: Region,
+    pub shown: Shown,
+    pub words: Words,
+}
+
+/// The shadow stacks of an outcome, by start address.
+pub type StackReports = Items<StackReport>;
+
+/// What a run came to.
+#[derive(Debug, Drop)]
+pub struct Outcome {
+    pub threads: ThreadOuts,
+    pub stacks: StackReports,
+    pub process: ProcessEnd,
+}
+
+/// How much of each thread is reported: all records, or the last one alone.
+#[derive(Clone, Copy, Debug, PartialEq, Eq)]
+pub enum Style {
+    Full,
+    Last,
+}

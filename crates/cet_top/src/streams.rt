@@ -1,0 +1,46 @@
+ghost use Rattle.std.specs.Prelude.{ℕ, List, Option};
+ghost use Rattle.cet_top.specs.Stream.{HasCause, Reads, Writes};
+
+use std::fmt;
+
+/// A read or a write has failed.
+#[derive(Clone, Copy, Debug, PartialEq, Eq)]
+pub struct Failed;
+
+impl fmt::Display for Failed {
+    fn fmt<W: fmt::Write>(&self, f: &mut fmt::Formatter<W>) -> fmt::Result {
+        write!(f, "a read or a write has failed")
+    }
+}
+
+impl std::error::Error for Failed {}
+
+/// What bytes are read from.
+pub trait Source {
+    /// The bytes left, where the source tells them.
+    ghost left: { Self → Option (List ℕ) };
+
+    /// How many faults there were, up to 2^64 - 1.
+    ghost faults: { Self → ℕ };
+
+    /// Reads into the front of the buffer, and answers the number of bytes. 0 for a buffer that isn't
+    /// empty is the end of the input.
+    fn read(&mut self, buf: &mut [u8]) -> Result<usize, Failed>
+        ensures bytes { Reads (left self.old) (left self.new) buf.new result }
+        ensures cause { HasCause (faults self.old) (faults self.new) result };
+}
+
+/// What bytes are written to.
+pub trait Sink {
+    /// The bytes written, where the sink tells them.
+    ghost written: { Self → Option (List ℕ) };
+
+    /// How many faults there were, up to 2^64 - 1.
+    ghost faults: { Self → ℕ };
+
+    /// Writes the first bytes of the piece, and answers their number, which is at least 1 for a piece
+    /// that isn't empty.
+    fn write(&mut self, piece: &[u8]) -> Result<usize, Failed>
+        ensures bytes { Writes (written self.old) (written self.new) piece.now result }
+        ensures cause { HasCause (faults self.old) (faults self.new) result };
+}
