@@ -111,3 +111,10 @@ taken_at job core new answer h g e = subst (IsCore job) (sym e) (taken_is job co
 
 pub first_at : (job : JobData) (core : Core) → IsJob job → core ≡ first_core job → IsCore job core
 first_at job core j e = subst (IsCore job) (sym e) (first_waits job j)
+
+-- a thread that hasn't ended has a next access
+pub wants : (job : JobData) (core : Core) → IsCore job core → core.over ≡ None → (a : Access) × (next_access job core ≡ Some a)
+unfolding next_access
+wants job core h e =
+    let w = waiting job core h e in
+    (w.waits.0, ap (access_of job core) e ∙ ap wanted w.waits.1)

@@ -1,3 +1,4 @@
 mod FirstWord
 mod Known
 mod Texts
+mod Steps

@@ -1,6 +1,7 @@
 //! What the program `cetvm` does, over a source of bytes and a sink of bytes.
 #![tactic(auto)]
 
+mod guests;
 mod lines;
 mod memory_streams;
 mod outcomes;
@@ -9,6 +10,7 @@ mod status;
 mod std_streams;
 mod streams;
 mod transfers;
+mod turns;
 mod words;
 
 pub use memory_streams::{MemSink, SureSink, SureSource};

@@ -1,0 +1,50 @@
+-- One turn, and runs of turns.
+use Rattle.std.proofs.Common.{◌≡◌, ℕ, ◌+◌, ◌-◌, ◌<◌, ◌≤◌, List, [], ◌∷◌, ◌++◌, length, Option, Some, None, arith, refl, ap, sym, ◌∙◌, subst, get_or, set, append_assoc, append-nil, Result, Ok, Err}
+use Rattle.std.specs.Prelude.{slice_get, slice_set, All, sum_by, OnOk}
+use Rattle.std.proofs.lemmas.List.Sums.{sum_by-set}
+use Rattle.std.proofs.lemmas.Option.{get_or_from_slice_get}
+use Rattle.cet_words.specs.Access.{answer, after}
+use Rattle.cet_words.specs.declared.accesses.Access.{Access}
+use Rattle.cet_words.specs.Job.{JobData}
+use Rattle.cet_cpu.specs.Core.{Core, next_access, taken}
+use Rattle.cet_cpu.specs.Left.{left_of, falls}
+use Rattle.cet_cpu.specs.Machine.{Machine, Thread, machine, thread_after, with_child, act, made_by, step_by, step, run}
+use Rattle.cet_cpu.specs.Within.{IsCore, Waits, waiting, no_child}
+use Rattle.cet_top.specs.Schedule.{IsRobin, next_turn}
+use Rattle.cet_top.specs.Turns.{AllCores, IsGoing, Robined, Leads, thread_left, total_left}
+
+pub turn_step : (job : JobData) (words words' : List ℕ) (threads : List Thread) (t : ℕ) (thread thread' : Thread) (a : Access) → slice_get threads t ≡ Some thread → next_access job thread.core ≡ Some a → words' ≡ after words a → thread' ≡ thread_after thread (taken job thread.core (answer words a)) → machine words' (slice_set threads t thread') ≡ step job (machine words threads) t
+unfolding step
+turn_step job words words' threads t thread thread' a i n w e =
+    let made : machine words' (slice_set threads t thread') ≡ made_by job (machine words threads) t thread a =
+      rw (w, e) (ap (λ (o : Option Core). machine (after words a) (with_child (slice_set threads t (thread_after thread (taken job thread.core (answer words a)))) o)) (sym (no_child job thread.core (answer words a)))) in
+    made ∙ sym (ap (step_by job (machine words threads) t) i ∙ ap (act job (machine words threads) t thread) n)
+
+pub turn_falls : (job : JobData) (threads : List Thread) (t value : ℕ) (thread thread' : Thread) → t < length threads → slice_get threads t ≡ Some thread → Waits job thread.core → thread.core.over ≡ None → thread' ≡ thread_after thread (taken job thread.core value) → total_left job (slice_set threads t thread') < total_left job threads
+turn_falls job threads t value thread thread' l i h o e =
+    let f : thread_left job thread' < thread_left job thread = subst (λ x. thread_left job x < thread_left job thread) (sym e) (falls job thread.core value h o) in
+    let s = sum_by-set (thread_left job) threads t thread' thread l in
+    let r : thread_left job (get_or threads t thread) ≡ thread_left job thread = ap (thread_left job) (get_or_from_slice_get threads t thread thread i) in
+    omega arith
+
+run_append : (job : JobData) (m : Machine) (xs ys : List ℕ) → run job m (xs ++ ys) ≡ run job (run job m xs) ys
+run_append job m [] ys = refl
+run_append job m (x ∷ xs) ys = run_append job (step job m x) xs ys
+
+-- one turn more
+pub lead_more : (job : JobData) (start now next : Machine) (last : Option ℕ) (turns : List ℕ) (t : ℕ) → Leads job start now last turns → next_turn now.threads last ≡ Some t → next ≡ step job now t → Leads job start next (Some t) (turns ++ t ∷ [])
+lead_more job start now next last turns t h n e = (
+  run_append job start turns (t ∷ []) ∙ ap (λ m. step job m t) h.0 ∙ sym e,
+  λ rest r. rw append_assoc (h.1 (t ∷ rest) (n, subst (λ m. IsRobin job m (Some t) rest) e r)),
+)
+
+pub lead_ends : (job : JobData) (start now : Machine) (last : Option ℕ) (turns : List ℕ) → Leads job start now last turns → next_turn now.threads last ≡ None → Robined job start now
+lead_ends job start now last turns h n =
+    record { turns = turns; robin = subst (IsRobin job start None) (append-nil turns) (h.1 [] n); ran = h.0 }
+
+pub over_here : (threads : List Thread) (t : ℕ) (thread : Thread) → slice_get threads t ≡ Some thread → IsGoing threads t → thread.core.over ≡ None
+over_here threads t thread i w = let e : thread ≡ w.0 = cc (i, w.1) in ap (λ (x : Thread). x.core.over) e ∙ w.2
+
+pub core_here : (job : JobData) (threads : List Thread) (t : ℕ) (thread : Thread) → AllCores job threads → t < length threads → slice_get threads t ≡ Some thread → IsCore job thread.core
+core_here job threads t thread a l i =
+    subst (λ (x : Thread). IsCore job x.core) (get_or_from_slice_get threads t thread thread i) (a t thread l)

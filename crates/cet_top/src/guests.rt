@@ -1,0 +1,73 @@
+//! A guest thread with its records.
+
+ghost use Rattle.std.specs.Prelude.{◌≡◌, [], Some, None, OnOk};
+ghost use Rattle.cet_words.specs.Access.{answer, after};
+ghost use Rattle.cet_words.specs.declared.accesses.Access.{Access};
+ghost use Rattle.cet_cpu.specs.Core.{next_access, taken};
+ghost use Rattle.cet_cpu.specs.Machine.{thread_after};
+ghost use Rattle.cet_cpu.specs.Within.{IsCore};
+
+use crate::outcomes::{Records, ThreadOut};
+use cet_cpu::Cpu;
+use cet_isa::End;
+use cet_words::{Job, NoMemory, Perform};
+use std::alloc::Global;
+use std::marker::Model;
+
+/// A guest thread and its records so far.
+#[derive(Drop)]
+pub struct Guest {
+    cpu: Cpu,
+    records: Records,
+}
+
+impl Model for Guest {
+    ghost use Rattle.cet_cpu.specs.Machine.{Thread};
+
+    ghost Value = { Thread };
+
+    ghost view = { λ g. record { core = g.cpu; trace = g.records } };
+}
+
+impl Guest {
+    /// A thread before its first record.
+    pub fn new(alloc: Global, cpu: Cpu) -> Guest
+        ensures { result ≡ record { core = cpu; trace = [] } }
+    {
+        Guest {
+            cpu,
+            records: Records::new(alloc),
+        }
+    }
+
+    /// How the thread ended, or none where it hasn't.
+    pub fn end(&self) -> Option<End>
+        ensures { result ≡ self.now.core.over }
+    {
+        self.cpu.end()
+    }
+
+    /// The thread makes its next access on the words.
+    pub fn step<P: Perform>(
+        &mut self,
+        alloc: Global,
+        job: &Job,
+        words: &mut P,
+    ) -> Result<(), NoMemory>
+        requires state { IsCore job.now self.old.core }
+        requires going { self.old.core.over ≡ None }
+        ensures step { (a : Access) × (next_access job.now self.old.core ≡ Some a) × (P.words words.new ≡ after (P.words words.old) a)
+            × OnOk result (self.new ≡ thread_after self.old (taken job.now self.old.core (answer (P.words words.old) a))) }
+        ensures state { OnOk result (IsCore job.now self.new.core) }
+    {
+        let Some(access) = self.cpu.next(job) else {
+            unreachable!()
+        };
+        let value = words.perform(access);
+        let taken = self.cpu.take(job, value);
+        if let Some(noted) = taken.noted {
+            self.records.push(alloc, noted)?;
+        }
+        Ok(())
+    }
+}
