@@ -1,2 +1,5 @@
 pub mod Change
 pub mod Book
+pub mod Shape
+pub mod Edits
+pub mod Relist
