@@ -3,3 +3,5 @@ pub mod Book
 pub mod Shape
 pub mod Edits
 pub mod Relist
+pub mod Unlink
+pub mod Acquire
