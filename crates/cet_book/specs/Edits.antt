@@ -103,3 +103,19 @@ current_of_is t b k e only =
 pub current_holds : (t : ℕ) (b : Book) → current_of t b < length b.regions → (region b (current_of t b)).holder ≡ Current t
 unfolding current_of
 current_holds t b inside = current_true t (region b (current_of t b)).holder (passes_at_first (λ q. is_current t q.holder) b.regions nowhere inside)
+
+-- region m is current on t
+pub record Owned (t m : ℕ) (b : Book) : Type 0 where
+  pub shape : Shape b
+  pub current : (region b m).holder ≡ Current t
+
+pub owned_there : {t m : ℕ} {b : Book} → Owned t m b → m < length b.regions
+owned_there {m = m} {b = b} o = is_there b m (λ e. let c = o.current in cc)
+
+-- and no other region is
+pub owned_only : {t m : ℕ} {b : Book} → Owned t m b → (i : ℕ) → (region b i).holder ≡ Current t → i ≡ m
+owned_only {t = t} {m = m} o i e = sym (o.shape.alone t i e) ∙ o.shape.alone t m o.current
+
+-- the region that was found
+pub owned : (t : ℕ) (b : Book) → Shape b → current_of t b < length b.regions → Owned t (current_of t b) b
+owned t b h inside = record { shape = h; current = current_holds t b inside }

@@ -5,3 +5,5 @@ pub mod Edits
 pub mod Relist
 pub mod Unlink
 pub mod Acquire
+pub mod Hand
+pub mod Append

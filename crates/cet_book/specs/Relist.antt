@@ -2,25 +2,17 @@
 use Rattle.std.proofs.Common.{◌≡◌, ◌≢◌, ℕ, ◌+◌, ◌*◌, ◌<◌, ◌≤◌, List, length, refl, sym, ◌∙◌, ap, subst, arith}
 use Rattle.cet_book.specs.Book.{Entry, Holder, Maker, Current, Parked, Left, Lost, Region, Book, region, put, top, current_of, relist}
 use Rattle.cet_book.specs.Shape.{HolderFits, Fits, is_left, one, links, Shape}
-use Rattle.cet_book.specs.Edits.{is_there, put_all, SameBounds, same-put, some_same, bounds_same, apart_same, current_of-put}
-
--- region m is current on t
-pub record Owned (t m : ℕ) (b : Book) : Type 0 where
-  pub shape : Shape b
-  pub current : (region b m).holder ≡ Current t
+use Rattle.cet_book.specs.Edits.{Owned, owned_there, put_all, SameBounds, same-put, some_same, bounds_same, apart_same, current_of-put}
 
 module _ {t m : ℕ} {b : Book} (o : Owned t m b) (es : List Entry) where
   abbrev pub now : Region
   now = record (region b m) { entries = es }
 
-  pub owned_there : m < length b.regions
-  owned_there = is_there b m (λ e. let c = o.current in cc)
-
   pub relist_all : (P : ℕ → Region → Type 0) → P m now → ((i : ℕ) → i ≢ m → P i (region b i)) → (i : ℕ) → P i (region (relist m es b) i)
-  relist_all = put_all b m now owned_there
+  relist_all = put_all b m now (owned_there o)
 
   pub relist_same : SameBounds b (relist m es b)
-  relist_same = same-put b m now owned_there refl refl
+  relist_same = same-put b m now (owned_there o) refl refl
 
   pub relist_other : (i : ℕ) → i ≢ m → region (relist m es b) i ≡ region b i
   relist_other = relist_all (λ i r. i ≢ m → r ≡ region b i) (λ n. absurd (n refl)) (λ i n _. refl)

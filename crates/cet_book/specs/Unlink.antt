@@ -4,7 +4,7 @@ use Rattle.std.proofs.lemmas.Bool.{false≢true}
 use Rattle.std.proofs.lemmas.Bool.Decides.{eqb_tells, nat_tests}
 use Rattle.cet_book.specs.Book.{Entry, Previous, Holder, Maker, Current, Parked, Left, Lost, Region, Book, region, put, top, is_current, current_of, relist, unlink}
 use Rattle.cet_book.specs.Shape.{HolderFits, Fits, is_left, one, links, Shape}
-use Rattle.cet_book.specs.Edits.{is_there, put_all, put2_all, SameBounds, same-put2, some_same, bounds_same, apart_same, current_of-put}
+use Rattle.cet_book.specs.Edits.{Owned, owned_there, is_there, put_all, put2_all, SameBounds, same-put2, some_same, bounds_same, apart_same, current_of-put}
 
 pub left_true : (q : ℕ) (h : Holder) → is_left q h ≡ true → h ≡ Left q
 left_true q (Maker x) e = absurd (false≢true e)
@@ -40,28 +40,24 @@ gone_fits r g (parked e) f = subst (HolderFits (record r { holder = g })) (sym e
 
 -- region m is current on t, and its newest entry is Previous(s), above es
 pub record Linked (t m s : ℕ) (es : List Entry) (b : Book) : Type 0 where
-  pub shape : Shape b
-  pub current : (region b m).holder ≡ Current t
+  pub owned : Owned t m b
   pub entries : (region b m).entries ≡ Previous s ∷ es
 
 module _ {t m s : ℕ} {es : List Entry} {b : Book} (l : Linked t m s es b) where
   chained : (is_left m (region b s).holder ≡ true) × (links s es ≡ 0)
   chained =
-      let counted : links s (Previous s ∷ es) ≡ one (is_left m (region b s).holder) = ap (links s) (sym l.entries) ∙ l.shape.chain m s in
+      let counted : links s (Previous s ∷ es) ≡ one (is_left m (region b s).holder) = ap (links s) (sym l.entries) ∙ l.owned.shape.chain m s in
       let same : eqb s s ≡ true = grind (arith, nat_tests) in
       one_more (is_left m (region b s).holder) (links s es) (rw same at counted)
 
   pub linked_left : (region b s).holder ≡ Left m
   linked_left = left_true m (region b s).holder chained.0
 
-  pub linked_there : m < length b.regions
-  linked_there = is_there b m (λ e. let c = l.current in cc)
-
   pub left_there : s < length b.regions
   left_there = is_there b s (λ e. let c = linked_left in cc)
 
   pub linked_apart : m ≢ s
-  linked_apart e = let c = l.current in let d : (region b m).holder ≡ Left m = subst (λ n. (region b n).holder ≡ Left m) (sym e) linked_left in cc
+  linked_apart e = let c = l.owned.current in let d : (region b m).holder ≡ Left m = subst (λ n. (region b n).holder ≡ Left m) (sym e) linked_left in cc
 
 module _ {t m s : ℕ} {es : List Entry} {b : Book} (l : Linked t m s es b) (g : Holder) where
   abbrev pub now : Region
@@ -71,10 +67,10 @@ module _ {t m s : ℕ} {es : List Entry} {b : Book} (l : Linked t m s es b) (g :
   gone = record (region b s) { holder = g }
 
   pub unlink_all : (P : ℕ → Region → Type 0) → P s gone → P m now → ((i : ℕ) → i ≢ s → i ≢ m → P i (region b i)) → (i : ℕ) → P i (region (unlink m s es g b) i)
-  unlink_all = put2_all b m s now gone (linked_there l) (left_there l)
+  unlink_all = put2_all b m s now gone (owned_there l.owned) (left_there l)
 
   pub unlink_same : SameBounds b (unlink m s es g b)
-  unlink_same = same-put2 b m s now gone (linked_there l) (left_there l) refl refl refl refl
+  unlink_same = same-put2 b m s now gone (owned_there l.owned) (left_there l) refl refl refl refl
 
   pub unlink_gone : region (unlink m s es g b) s ≡ gone
   unlink_gone = unlink_all (λ i r. i ≡ s → r ≡ gone) (λ _. refl) (λ e. absurd (linked_apart l e)) (λ i n n' e. absurd (n e)) s refl
@@ -89,7 +85,7 @@ module _ {t m s : ℕ} {es : List Entry} {b : Book} (l : Linked t m s es b) (g :
   unlink_top = unlink_all (λ i r. i ≢ m → top r ≡ top (region b i)) (λ _. refl) (λ n. absurd (n refl)) (λ i n n' _. refl)
 
   still_left : (region (relist m es b) s).holder ≡ Left m
-  still_left = put_all b m now (linked_there l) (λ i r. r.holder ≡ (region b i).holder) refl (λ i n. refl) s ∙ linked_left l
+  still_left = put_all b m now (owned_there l.owned) (λ i r. r.holder ≡ (region b i).holder) refl (λ i n. refl) s ∙ linked_left l
 
   unlink_left : (q z : ℕ) → z ≢ s → is_left q (region (unlink m s es g b) z).holder ≡ is_left q (region b z).holder
   unlink_left q = unlink_all (λ i r. i ≢ s → is_left q r.holder ≡ is_left q (region b i).holder) (λ n. absurd (n refl)) (λ _. refl) (λ i n n' _. refl)
@@ -111,7 +107,7 @@ module _ {t m s : ℕ} {es : List Entry} {b : Book} (l : Linked t m s es b) {g :
       | inr e ↦
           let n = e.1 in
           let other : eqb s z ≡ false = grind (arith, nat_tests) in
-          let counted : links z (Previous s ∷ es) ≡ one (is_left m (region b z).holder) = ap (links z) (sym l.entries) ∙ l.shape.chain m z in
+          let counted : links z (Previous s ∷ es) ≡ one (is_left m (region b z).holder) = ap (links z) (sym l.entries) ∙ l.owned.shape.chain m z in
           let rest : links z es ≡ one (is_left m (region b z).holder) = (let q = rw other at counted in omega arith) in
           rw (unlink_left l g m z n) rest
     ]
@@ -122,24 +118,24 @@ module _ {t m s : ℕ} {es : List Entry} {b : Book} (l : Linked t m s es b) {g :
           let other : eqb m q ≡ false = grind (arith, nat_tests) in
           let none : is_left q (region b s).holder ≡ false = ap (is_left q) (linked_left l) ∙ other in
           subst (λ n. links n (region b q).entries ≡ one (is_left q (region (unlink m s es g b) n).holder)) (sym e.1)
-          (rw (gone_now q) (l.shape.chain q s ∙ rw none refl))
-      | inr e ↦ rw (unlink_left l g q z e.1) (l.shape.chain q z)
+          (rw (gone_now q) (l.owned.shape.chain q s ∙ rw none refl))
+      | inr e ↦ rw (unlink_left l g q z e.1) (l.owned.shape.chain q z)
     ]
 
   pub unlink_shape : HolderFits (region b s) g → Shape (unlink m s es g b)
   unlink_shape held = record {
-    some = some_same (unlink_same l g) l.shape;
-    bounds = bounds_same (unlink_same l g) l.shape;
+    some = some_same (unlink_same l g) l.owned.shape;
+    bounds = bounds_same (unlink_same l g) l.owned.shape;
     fits = unlink_all l g (λ i r. Fits r)
-        (record { room = (l.shape.fits s).room; held = gone_fits (region b s) g d held })
+        (record { room = (l.owned.shape.fits s).room; held = gone_fits (region b s) g d held })
         (let room : (region b m).start + 8 * length (Previous s ∷ es) ≤ (region b m).end
-           = subst (λ l. (region b m).start + 8 * length l ≤ (region b m).end) l.entries (l.shape.fits m).room in
-         record { room = omega arith; held = subst (HolderFits (now l g)) (sym l.current) tt })
-        (λ i n n'. l.shape.fits i);
-    apart = apart_same (unlink_same l g) l.shape;
+           = subst (λ l. (region b m).start + 8 * length l ≤ (region b m).end) l.entries (l.owned.shape.fits m).room in
+         record { room = omega arith; held = subst (HolderFits (now l g)) (sym l.owned.current) tt })
+        (λ i n n'. l.owned.shape.fits i);
+    apart = apart_same (unlink_same l g) l.owned.shape;
     alone = λ y. unlink_all l g (λ i r. r.holder ≡ Current y → current_of y (unlink m s es g b) ≡ i)
-        (λ e. absurd (gone_not g y d e)) (λ e. unlink_current y ∙ l.shape.alone y m e)
-        (λ i n n' e. unlink_current y ∙ l.shape.alone y i e);
+        (λ e. absurd (gone_not g y d e)) (λ e. unlink_current y ∙ l.owned.shape.alone y m e)
+        (λ i n n' e. unlink_current y ∙ l.owned.shape.alone y i e);
     chain = unlink_all l g (λ q r. (z : ℕ) → links z r.entries ≡ one (is_left q (region (unlink m s es g b) z).holder))
         (λ z. chain_other s z (λ e. linked_apart l (sym e))) chain_here (λ q n n' z. chain_other q z n');
   }
