@@ -7,3 +7,5 @@ pub mod Unlink
 pub mod Acquire
 pub mod Hand
 pub mod Append
+pub mod Removes
+pub mod Supervisor

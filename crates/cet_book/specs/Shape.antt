@@ -1,6 +1,6 @@
 -- What holds of every book that changes lead to, without any word of memory. Source: own.
-use Rattle.std.specs.Prelude.{◌≡◌, ℕ, ◌+◌, ◌*◌, ◌%◌, ◌<◌, ◌≤◌, Bool, false, ◌==◌, if◌then◌else◌, List, [], ◌∷◌, length, Option, Some}
-use Rattle.cet_book.specs.Book.{Entry, Call, Restorer, Frame, Previous, Blank, Holder, Maker, Current, Parked, Left, Lost, Region, Book, region, top, current_of, stack_of}
+use Rattle.std.specs.Prelude.{◌≡◌, ℕ, ◌+◌, ◌*◌, ◌%◌, ◌<◌, ◌≤◌, Bool, false, ◌==◌, if◌then◌else◌, List, [], ◌∷◌, length, slice_index_or, Option, Some, None}
+use Rattle.cet_book.specs.Book.{Entry, Call, Restorer, Frame, Previous, Blank, Holder, Maker, Current, Parked, Left, Lost, Region, Book, region, top, current_of}
 
 -- a region has whole pages, between the first and the last page of the shadow area
 pub record Bounds (start end : ℕ) : Type 0 where
@@ -57,11 +57,11 @@ pub record Shape (b : Book) : Type 0 where
   -- Previous(s) stands once in region q where s is left for q, and else not at all
   pub chain : (q s : ℕ) → links s (region b q).entries ≡ one (is_left q (region b s).holder)
 
--- the facts on supervisor stacks: there are eight, and a thread holds at most one
-pub record Stacks (b : Book) : Type 0 where
-  pub eight : length b.stacks ≡ 8
-  pub alone : (t k j : ℕ) → stack_of b k ≡ Some t → stack_of b j ≡ Some t → k ≡ j
+-- the facts on the holders of supervisor stacks: there are eight, and a thread holds at most one
+pub record StackShape (stacks : List (Option ℕ)) : Type 0 where
+  pub eight : length stacks ≡ 8
+  pub alone : (t k j : ℕ) → slice_index_or stacks k None ≡ Some t → slice_index_or stacks j None ≡ Some t → k ≡ j
 
 pub record IsBook (b : Book) : Type 0 where
   pub shape : Shape b
-  pub stacks : Stacks b
+  pub stacks : StackShape b.stacks
