@@ -1,1 +1,10 @@
 pub mod Book
+pub mod Shape
+pub mod Edits
+pub mod Relist
+pub mod Unlink
+pub mod Acquire
+pub mod Hand
+pub mod Append
+pub mod Removes
+pub mod Supervisor
