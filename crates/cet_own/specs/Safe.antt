@@ -1,0 +1,123 @@
+-- What every run promises of shadow stacks. Source: Intel SDM volume 1 (CET shadow stacks) for returns; own for the book.
+use Rattle.std.specs.Prelude.{◌≡◌, ◌≢◌, ℕ, ◌<◌, ◌⊎◌, ◌↔◌, List, [], ◌∷◌, length, Option, Some, None, slice_get}
+use Rattle.std.specs.Prelude.{IsTrue}
+use Rattle.cet_words.specs.Access.{answer}
+use Rattle.cet_words.specs.Bytes.{code_byte}
+use Rattle.cet_words.specs.Job.{JobData}
+use Rattle.cet_words.specs.declared.accesses.Access.{Access}
+use Rattle.cet_isa.specs.Address.{canonical}
+use Rattle.cet_isa.specs.Reading.{Decoding, Read, Short, Unknown, decoded}
+use Rattle.cet_isa.specs.declared.instructions.Instr.{Instr}
+use Rattle.cet_isa.specs.declared.instructions.Instr.TheVariants as instr
+use Rattle.cet_isa.specs.declared.threads.Arch.{Arch}
+use Rattle.cet_isa.specs.declared.threads.End.{End}
+use Rattle.cet_isa.specs.declared.threads.End.TheVariants as ending
+use Rattle.cet_isa.specs.declared.threads.FaultName.{FaultName}
+use Rattle.cet_isa.specs.declared.threads.FaultName.TheVariants.{Ud, Gp, Pf, Ac, Cp}
+use Rattle.cet_isa.specs.declared.threads.Record.{Record}
+use Rattle.cet_isa.specs.declared.threads.What.{What}
+use Rattle.cet_isa.specs.declared.threads.What.TheVariants as what
+use Rattle.cet_book.specs.Book.{Entry, Call, Restorer, Frame, Previous, Blank, Holder, Current, Book, Region, region, top, stack_of, books_after}
+use Rattle.cet_cpu.specs.Core.{Core, After, next_access, taken}
+use Rattle.cet_cpu.specs.Machine.{Machine, Thread, step}
+use Rattle.cet_cpu.specs.Row.{instruction_bytes}
+use Rattle.cet_own.specs.Event.{turn_changes}
+
+-- ---- where returns go
+
+-- The newest entry lets a return go to the target: it is the call, or the signal, that was to return there; or else no
+-- instruction is at the target, since it lies in no executable page.
+abbrev pub GoesRight : JobData → List Entry → (target : ℕ) → Type 0
+GoesRight job [] target = ⊥
+GoesRight job (Call back ∷ es) target = target ≡ back
+GoesRight job (Restorer back ∷ es) target = target ≡ back
+GoesRight job (Frame ∷ es) target = ⊥
+GoesRight job (Previous s ∷ es) target = IsTrue (canonical target) × (code_byte job.image.segments target ≡ None)
+GoesRight job (Blank ∷ es) target = IsTrue (canonical target) × (code_byte job.image.segments target ≡ None)
+
+-- a fault of a return: #CP of a near return, #GP, #PF or #AC
+abbrev pub IsReturnFault : FaultName → (code : ℕ) → Type 0
+IsReturnFault Ud code = ⊥
+IsReturnFault Gp code = Unit {0}
+IsReturnFault Pf code = Unit {0}
+IsReturnFault Ac code = Unit {0}
+IsReturnFault Cp code = code ≡ 1
+
+-- the bytes at RIP are a near return
+abbrev pub is_return : Decoding → Type 0
+is_return (Read i len) = (i ≡ instr.Ret) ⊎ ((bytes : ℕ) × (i ≡ instr.RetImm bytes))
+is_return Short = ⊥
+is_return Unknown = ⊥
+
+abbrev pub AtReturn : JobData → Arch → Type 0
+AtReturn job arch = (arch.due ≡ None) × is_return (decoded (instruction_bytes job arch))
+
+-- A record of a return. Where it completes it goes right; where it faults, the fault is named and RIP stays.
+abbrev pub ReturnsBy : JobData → List Entry → (before after : Arch) → Record → What → Type 0
+ReturnsBy job entries before after r what.Ret = GoesRight job entries after.rip
+ReturnsBy job entries before after r (what.Fault name) = AtReturn job before → IsReturnFault name r.code × (after.rip ≡ before.rip)
+ReturnsBy job entries before after r what.Step = Unit {0}
+ReturnsBy job entries before after r what.Call = Unit {0}
+ReturnsBy job entries before after r what.Raise = Unit {0}
+ReturnsBy job entries before after r what.Take = Unit {0}
+ReturnsBy job entries before after r what.Save = Unit {0}
+ReturnsBy job entries before after r what.Busy = Unit {0}
+ReturnsBy job entries before after r what.Sys = Unit {0}
+ReturnsBy job entries before after r what.Claim = Unit {0}
+ReturnsBy job entries before after r what.Born = Unit {0}
+ReturnsBy job entries before after r what.Wrote = Unit {0}
+ReturnsBy job entries before after r what.Signal = Unit {0}
+ReturnsBy job entries before after r what.Ignore = Unit {0}
+ReturnsBy job entries before after r what.SigReturn = Unit {0}
+ReturnsBy job entries before after r what.Kill = Unit {0}
+
+abbrev pub NotedReturns : JobData → List Entry → Core → After → Option Record → Type 0
+NotedReturns job entries core left None = Unit {0}
+NotedReturns job entries core left (Some r) = ReturnsBy job entries core.arch left.core.arch r r.what
+
+abbrev pub AccessReturns : JobData → Machine → Thread → List Entry → Option Access → Type 0
+AccessReturns job m thread entries None = Unit {0}
+AccessReturns job m thread entries (Some a) = NotedReturns job entries thread.core (taken job thread.core (answer m.words a)) (taken job thread.core (answer m.words a)).noted
+
+-- every list of entries that is current on thread t
+abbrev pub ThreadReturns : JobData → Machine → Book → (t : ℕ) → Option Thread → Type 0
+ThreadReturns job m b t None = Unit {0}
+ThreadReturns job m b t (Some thread) = (i : ℕ) → (region b i).holder ≡ Current t → AccessReturns job m thread (region b i).entries (next_access job thread.core)
+
+-- the turn of thread t, by the book before it, is no wrong return
+abbrev pub TurnReturns : JobData → Machine → Book → (t : ℕ) → Type 0
+TurnReturns job m b t = ThreadReturns job m b t (slice_get m.threads t)
+
+-- ---- what holds at each moment
+
+-- the thread hasn't ended by exit
+abbrev pub KeepsStack : Option End → Type 0
+KeepsStack None = Unit {0}
+KeepsStack (Some (ending.Exit status)) = ⊥
+KeepsStack (Some ending.Group) = Unit {0}
+KeepsStack (Some ending.Limit) = Unit {0}
+
+-- one region and no other is current on a thread, and its shadow stack pointer is at the top
+pub record HasStack (b : Book) (t ssp : ℕ) : Type 0 where
+  pub number : ℕ
+  pub current : (region b number).holder ≡ Current t
+  pub only : (i : ℕ) → (region b i).holder ≡ Current t → i ≡ number
+  pub at : ssp ≡ top (region b number)
+
+pub record IsSafeAt (m : Machine) (b : Book) : Type 0 where
+  -- each thread that hasn't ended by exit has exactly one region, with its SSP at the top
+  pub stacks : (t : ℕ) (thread : Thread) → slice_get m.threads t ≡ Some thread → KeepsStack thread.core.over → HasStack b t thread.core.arch.ssp
+  -- no region is current on a thread that isn't born, or ended by exit
+  pub owners : (t i : ℕ) → (region b i).holder ≡ Current t → (thread : Thread) × (slice_get m.threads t ≡ Some thread) × KeepsStack thread.core.over
+  -- the closed ranges of two regions have no address in common
+  pub apart : (i j : ℕ) → i < j → j < length b.regions → (region b i).end < (region b j).start
+  -- a thread holds the supervisor stack that the book says, and a thread that holds one is born
+  pub held : (t : ℕ) (thread : Thread) → slice_get m.threads t ≡ Some thread → (k : ℕ) → (thread.core.arch.held ≡ Some k) ↔ (stack_of b k ≡ Some t)
+  pub holders : (t k : ℕ) → stack_of b k ≡ Some t → (thread : Thread) × (slice_get m.threads t ≡ Some thread)
+
+-- Along these turns, from this machine and book: the facts hold at each moment, each change has its case in the book before
+-- it, and no return goes wrong.
+abbrev pub Safe : JobData → Machine → Book → (turns : List ℕ) → Type 0
+Safe job m b [] = IsSafeAt m b
+Safe job m b (t ∷ ts) =
+    IsSafeAt m b × TurnReturns job m b t × (next : Book) × (books_after t b (turn_changes job m t) ≡ Some next) × Safe job (step job m t) next ts
