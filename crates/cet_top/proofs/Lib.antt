@@ -1,3 +1,4 @@
 mod FirstWord
+mod Front
 mod Known
 mod Texts

@@ -4,3 +4,5 @@ pub mod Status
 pub mod Words
 pub mod Line
 pub mod Report
+pub mod Field
+pub mod Written

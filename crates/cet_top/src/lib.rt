@@ -10,6 +10,7 @@ mod std_streams;
 mod streams;
 mod transfers;
 mod words;
+mod written;
 
 pub use memory_streams::{MemSink, SureSink, SureSource};
 pub use outcomes::{
