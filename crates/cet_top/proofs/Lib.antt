@@ -1,4 +1,5 @@
 mod FirstWord
+mod Front
 mod Known
 mod Texts
 mod Steps

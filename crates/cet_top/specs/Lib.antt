@@ -6,3 +6,5 @@ pub mod Line
 pub mod Report
 pub mod Schedule
 pub mod Turns
+pub mod Field
+pub mod Written

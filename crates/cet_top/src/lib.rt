@@ -12,6 +12,7 @@ mod streams;
 mod transfers;
 mod turns;
 mod words;
+mod written;
 
 pub use memory_streams::{MemSink, SureSink, SureSource};
 pub use outcomes::{
