@@ -3,3 +3,4 @@ mod Front
 mod Known
 mod Texts
 mod Steps
+mod WordsFrom

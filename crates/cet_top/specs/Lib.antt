@@ -8,3 +8,5 @@ pub mod Schedule
 pub mod Turns
 pub mod Field
 pub mod Written
+pub mod Outcome
+pub mod FirstStack

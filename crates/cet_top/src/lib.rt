@@ -1,11 +1,13 @@
 //! What the program `cetvm` does, over a source of bytes and a sink of bytes.
 #![tactic(auto)]
 
+mod ends;
 mod guests;
 mod lines;
 mod memory_streams;
 mod outcomes;
 mod reports;
+mod stacks;
 mod status;
 mod std_streams;
 mod streams;
