@@ -1,4 +1,5 @@
+mod Appended
 mod FirstWord
 mod Front
 mod Known
-mod Texts
+mod Sequence

@@ -6,3 +6,4 @@ pub mod Line
 pub mod Report
 pub mod Field
 pub mod Written
+pub mod Text

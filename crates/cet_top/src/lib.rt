@@ -8,6 +8,7 @@ mod reports;
 mod status;
 mod std_streams;
 mod streams;
+mod texts;
 mod transfers;
 mod words;
 mod written;
