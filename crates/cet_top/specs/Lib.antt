@@ -7,3 +7,4 @@ pub mod Report
 pub mod Field
 pub mod Written
 pub mod Text
+pub mod Accepts

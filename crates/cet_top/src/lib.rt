@@ -2,6 +2,7 @@
 #![tactic(auto)]
 
 mod lines;
+mod loads;
 mod memory_streams;
 mod outcomes;
 mod reports;
