@@ -10,3 +10,5 @@ pub mod Field
 pub mod Written
 pub mod Outcome
 pub mod FirstStack
+pub mod Text
+pub mod Accepts

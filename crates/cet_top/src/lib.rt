@@ -4,6 +4,7 @@
 mod ends;
 mod guests;
 mod lines;
+mod loads;
 mod memory_streams;
 mod outcomes;
 mod reports;
@@ -11,6 +12,7 @@ mod stacks;
 mod status;
 mod std_streams;
 mod streams;
+mod texts;
 mod transfers;
 mod turns;
 mod words;

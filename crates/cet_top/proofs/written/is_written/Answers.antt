@@ -1,4 +1,4 @@
-use Rattle.std.proofs.Common.{◌≡◌, length, drop, sym, ◌∙◌, ap, arith}
+use Rattle.std.proofs.Common.{◌≡◌, length, drop, sym, ◌∙◌, ap}
 use Rattle.std.proofs.lemmas.List.{length-drop}
 use Rattle.cet_top.specs.Written.{headers}
 use Rattle.cet_top.proofs.Front.{is_written, has_front}
