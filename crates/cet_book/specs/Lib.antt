@@ -9,3 +9,5 @@ pub mod Hand
 pub mod Append
 pub mod Removes
 pub mod Supervisor
+pub mod Kept
+pub mod First
