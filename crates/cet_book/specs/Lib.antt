@@ -11,3 +11,4 @@ pub mod Removes
 pub mod Supervisor
 pub mod Kept
 pub mod First
+pub mod Relies
