@@ -1,9 +1,8 @@
 -- What a thread can rely on in the book whatever other threads change. Source: own.
-use Rattle.std.proofs.Common.{◌≡◌, ◌≢◌, ℕ, suc, ◌+◌, ◌*◌, ◌%◌, ◌<◌, ◌≤◌, ◌⊎◌, inl, inr, Bool, true, false, List, [], ◌∷◌, length, replicate, Option, Some, None, refl, sym, ◌∙◌, ap, subst, cond, eqb, arith}
+use Rattle.std.proofs.Common.{◌≡◌, ◌≢◌, ℕ, ◌<◌, ◌≤◌, ◌⊎◌, inl, inr, List, length, replicate, Option, Some, refl, sym, ◌∙◌, ap, subst, arith}
 use Rattle.std.proofs.lemmas.Bool.Decides.{eqb_tells}
-use Rattle.cet_book.specs.Book.{Entry, Blank, Holder, Maker, Current, Parked, Left, Lost, Region, Book, nowhere, region, top, is_current, current_of, stack_of, put_stack, relist, unlink, acquire, raised}
-use Rattle.cet_book.specs.Shape.{Shape}
-use Rattle.cet_book.specs.Edits.{Owned, current_holds, SameBounds}
+use Rattle.cet_book.specs.Book.{Entry, Blank, Holder, Maker, Current, Parked, Left, Lost, Region, Book, region, is_current, current_of, stack_of, put_stack, relist, unlink, acquire, raised}
+use Rattle.cet_book.specs.Edits.{Owned}
 use Rattle.cet_book.specs.Relist.{relist_same, relist_other, relist_current}
 use Rattle.cet_book.specs.Unlink.{Gone, lost, Linked, linked_left, unlink_same, unlink_other, unlink_current}
 use Rattle.cet_book.specs.Acquire.{Takes, acquire_same, acquire_other, acquire_others}
@@ -165,7 +164,7 @@ append_relies {b = b} a y =
       free = λ _ e. e;
     }
 
-removal_relies : {t m : ℕ} {b next : Book} (o : Owned t m b) → Removal t m b next → (y : ℕ) → t ≢ y → Relies y b next
+pub removal_relies : {t m : ℕ} {b next : Book} (o : Owned t m b) → Removal t m b next → (y : ℕ) → t ≢ y → Relies y b next
 removal_relies {b = b} o (plain e es list not_link is) y n = subst (Relies y b) is (relist_relies o es y n)
 removal_relies {b = b} o (linked s es l is) y n = let gone : Gone Lost = lost refl in subst (Relies y b) is (unlink_relies l gone y n)
 

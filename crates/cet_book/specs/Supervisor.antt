@@ -25,7 +25,7 @@ stack_of-put_stack b k j o inside = elim (eqb_tells j k) [
 ]
 
 -- a stack that a thread holds is one of the list's
-stack_there : (t k : ℕ) (b : Book) → stack_of b k ≡ Some t → k < length b.stacks
+pub stack_there : (t k : ℕ) (b : Book) → stack_of b k ≡ Some t → k < length b.stacks
 stack_there t k b e = elim (cases_lt k (length b.stacks)) [
   | inl l ↦ l
   | inr g ↦ absurd (let z : stack_of b k ≡ None = get_or_past b.stacks k None g in cc)
