@@ -8,3 +8,7 @@ pub mod Hand
 pub mod Append
 pub mod Removes
 pub mod Supervisor
+pub mod First
+pub mod Relies
+pub mod Cases
+pub mod Kept

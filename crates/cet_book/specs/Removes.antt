@@ -1,8 +1,8 @@
 -- The newest entries of the region that is current on a thread go, one after another.
-use Rattle.std.proofs.Common.{◌≡◌, ◌≢◌, ℕ, zero, suc, ◌+◌, ◌*◌, ◌<◌, ◌≤◌, Bool, true, false, List, [], ◌∷◌, length, Option, Some, None, refl, sym, ◌∙◌, ap, subst, arith}
+use Rattle.std.proofs.Common.{◌≡◌, ℕ, zero, suc, ◌+◌, ◌<◌, ◌≤◌, false, List, [], ◌∷◌, length, Option, Some, None, refl, sym, ◌∙◌, ap, subst, arith}
 use Rattle.std.specs.Prelude.{option_and_then}
-use Rattle.cet_book.specs.Book.{Entry, Call, Restorer, Frame, Previous, Blank, Holder, Maker, Current, Parked, Left, Lost, Region, Book, region, top, current_of, relist, unlink, returned, remove_entry, raised}
-use Rattle.cet_book.specs.Shape.{Fits, is_previous, links, Shape}
+use Rattle.cet_book.specs.Book.{Entry, Call, Restorer, Frame, Previous, Blank, Lost, Region, Book, region, current_of, relist, unlink, returned, remove_entry, raised}
+use Rattle.cet_book.specs.Shape.{is_previous, links, Shape}
 use Rattle.cet_book.specs.Edits.{Owned, SameBounds}
 use Rattle.cet_book.specs.Relist.{relist_shape, relist_owned, relist_current, relist_same, relist_here}
 use Rattle.cet_book.specs.Unlink.{Gone, lost, Linked, unlink_shape, unlink_current, unlink_same, unlink_here}
@@ -90,16 +90,16 @@ pub raised_shortened : (t m n : ℕ) (b next : Book) → Owned t m b → raised 
 raised_shortened t m = raised_all t m (λ n b next. Shortened t m n b next)
     (λ b o. record { owned = o; current = λ y. refl; same = same_none b; stacks = refl; fewer = omega arith })
     (λ n b mid next o removal rest.
-      let first = shortened o removal in
-      let a = first.same in
-      let c = rest.same in
-      record {
-        owned = rest.owned;
-        current = λ y. rest.current y ∙ first.current y;
-        same = record { len = c.len ∙ a.len; start = λ i. c.start i ∙ a.start i; end = λ i. c.end i ∙ a.end i };
-        stacks = rest.stacks ∙ first.stacks;
-        fewer = let x = first.fewer in let y = rest.fewer in omega arith;
-      })
+    let first = shortened o removal in
+    let a = first.same in
+    let c = rest.same in
+    record {
+      owned = rest.owned;
+      current = λ y. rest.current y ∙ first.current y;
+      same = record { len = c.len ∙ a.len; start = λ i. c.start i ∙ a.start i; end = λ i. c.end i ∙ a.end i };
+      stacks = rest.stacks ∙ first.stacks;
+      fewer = let x = first.fewer in let y = rest.fewer in omega arith;
+    })
 
 some_removed : (m : ℕ) (b : Book) (l : List Entry) → 0 < length l → (next : Book) × (remove_entry m l b ≡ Some next)
 some_removed m b [] l = absurd (omega arith)
