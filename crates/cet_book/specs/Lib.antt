@@ -12,3 +12,4 @@ pub mod First
 pub mod Relies
 pub mod Cases
 pub mod Kept
+pub mod Stack

@@ -2,7 +2,6 @@ mod Appended
 mod FirstWord
 mod Front
 mod Known
-mod Texts
 mod Steps
 mod WordsFrom
 mod Sequence
