@@ -5,3 +5,5 @@ mod Known
 mod Steps
 mod WordsFrom
 mod Sequence
+mod QuietTraces
+mod Finished

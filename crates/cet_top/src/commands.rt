@@ -57,6 +57,7 @@ fn run_job(alloc: Global, job: &Job) -> Result<Answer, NoMemory>
 fn run_image(alloc: Global, image: &Image) -> Result<Answer, NoMemory>
     ensures { IfOk result (λ answer. let job = job_with image.now in Reports job (ByRobin job) Style.Full answer.status answer.output) }
 {
+    let _entry = image.entry;
     let job = Job {
         image,
         procs: DEFAULT_PROCS,
