@@ -9,6 +9,8 @@ mod reports;
 mod status;
 mod std_streams;
 mod streams;
+#[cfg(test)]
+mod tests;
 mod texts;
 mod transfers;
 mod words;
