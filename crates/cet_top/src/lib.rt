@@ -14,6 +14,8 @@ mod stacks;
 mod status;
 mod std_streams;
 mod streams;
+#[cfg(test)]
+mod tests;
 mod texts;
 mod transfers;
 mod turns;
