@@ -6,13 +6,15 @@ use Rattle.cet_words.specs.Job.{JobData}
 use Rattle.cet_isa.specs.declared.threads.End.{End}
 use Rattle.cet_isa.specs.declared.threads.End.TheVariants as ending
 use Rattle.cet_isa.specs.declared.threads.Record.{Record}
-use Rattle.cet_book.specs.Book.{Entry, Holder, Current, Lost, Region, Book, nowhere, region, top, starting_at}
+use Rattle.cet_book.specs.Book.{Entry, Holder, Current, Lost, Region, Book, first_book, nowhere, region, top, starting_at}
 use Rattle.cet_book.specs.Stack.{slot_word, tops, word_of, words_of, Stack}
 use Rattle.cet_cpu.specs.Gate.{exit_word}
 use Rattle.cet_cpu.specs.Machine.{Machine, Thread, Starts, machine, run}
 use Rattle.cet_own.specs.Report.{LastBook}
-use Rattle.cet_own.specs.Safe.{KeepsStack}
-use Rattle.cet_top.specs.Answer.{outcome_of}
+use Rattle.cet_own.specs.Safe.{KeepsStack, Safe}
+use Rattle.cet_top.specs.Answer.{Ran, outcome_of}
+use Rattle.cet_top.specs.Schedule.{ByRobin}
+use Rattle.cet_top.specs.Turns.{Robined}
 use Rattle.cet_top.specs.FirstStack.{words_from, first_stack, first_stacks, first_region, KeepsFirst, KeepsFirsts, end_of, read_outcome}
 use Rattle.cet_top.specs.Outcome.{thread_out, process_end}
 use Rattle.cet_top.specs.Shown.{shown_region, shown_stacks, shown_starts, in_order, put_in, in_view, shown_of, shown_if, started}
@@ -114,3 +116,13 @@ read_is job start turns words threads l s e =
       subst (λ ts. first_stacks m.words ts ≡ shown_stacks l.book ts) (sym l.alone) (stacks_shown job start turns l s) in
     ap (λ (x : Machine). read_outcome x.words x.threads) (sym e)
     ∙ ap (λ (x : List StackReport). let o : Outcome = record { threads = map thread_out m.threads; stacks = x; process = process_end (slice_index m.words exit_word) (map thread_out m.threads) } in o) stacks
+
+-- after a run by Robin from the start, thread 0's SSP is in its stack
+pub ended_keeps : (job : JobData) (start : Machine) (words : List ℕ) (threads : List Thread) → ((turns : List ℕ) → LastBook job start turns) → Robined job start (machine words threads) → KeepsFirsts threads × (length threads ≤ 32)
+ended_keeps job start words threads last r = keeps job start r.turns words threads (last r.turns) r.ran
+
+-- and what is read is the outcome of the run
+pub ended_ran : (job : JobData) (start : Machine) (words : List ℕ) (threads : List Thread) (outcome : Outcome) → ((turns : List ℕ) → LastBook job start turns) → ((turns : List ℕ) → Safe job start first_book turns) → Starts job start → Robined job start (machine words threads) → outcome ≡ read_outcome words threads → Ran job (ByRobin job) outcome
+ended_ran job start words threads outcome last safe s r e =
+    let l = last r.turns in
+    record { start = start; starts = s; turns = r.turns; schedule = r.robin; book = l.book; legal = l.last; is = e ∙ read_is job start r.turns words threads l s r.ran; safe = safe r.turns }

@@ -1,8 +1,8 @@
 -- Known bytes over several calls.
 use Rattle.std.proofs.Common.{ℕ, zero, suc, ◌+◌, ◌-◌, ◌≤◌, ◌≡◌, List, [], ◌∷◌, ◌++◌, length, take, drop, Option, Some, None, sym, ◌∙◌, ap, arith}
-use Rattle.std.proofs.lemmas.List.{append_assoc, length-drop, take_all}
+use Rattle.std.proofs.lemmas.List.{append_assoc, append-nil, length-append, length-drop, take_all}
 use Rattle.std.specs.Io.KnownBytes.{Consumes, Appends}
-use Rattle.cet_top.specs.Stream.{TakesSome, TakesUpTo, AppendsSome}
+use Rattle.cet_top.specs.Stream.{TakesAll, TakesUpTo, AppendsSome}
 
 pub Consumes-more : (a b c : Option (List ℕ)) (xs ys : List ℕ) → Consumes a b xs → Consumes b c ys → Consumes a c (xs ++ ys)
 Consumes-more None b c xs ys first second = tt
@@ -12,8 +12,18 @@ Consumes-more (Some p) (Some q) (Some r) xs ys first second =
     first ∙ ap (λ (l : List ℕ). xs ++ l) second ∙ sym (append_assoc xs ys r)
 
 -- a call that failed took some bytes more
-pub TakesSome-more : (a b c : Option (List ℕ)) (n : ℕ) (xs : List ℕ) → Consumes a b xs → TakesUpTo n b c → TakesSome a c
-TakesSome-more a b c n xs first more = (xs ++ more.0, Consumes-more a b c xs more.0 first more.2)
+pub TakesUpTo-more : (a b c : Option (List ℕ)) (m n most : ℕ) (xs : List ℕ) → length xs ≤ m → n + m ≤ most → Consumes a b xs → TakesUpTo n b c → TakesUpTo most a c
+TakesUpTo-more a b c m n most xs few fits first more = (
+  xs ++ more.0,
+  (let l = more.1 in let e = length-append xs more.0 in omega arith),
+  Consumes-more a b c xs more.0 first more.2,
+)
+
+-- all that there was is no more than that
+pub TakesUpTo-all : (a b : Option (List ℕ)) (n : ℕ) (xs : List ℕ) → length xs ≤ n → TakesAll a b xs → TakesUpTo n a b
+TakesUpTo-all None b n xs few all = (xs, few, tt)
+TakesUpTo-all (Some p) None n xs few all = absurd all
+TakesUpTo-all (Some p) (Some q) n xs few all = (xs, few, sym all.0 ∙ sym (append-nil xs) ∙ ap (λ (l : List ℕ). xs ++ l) (sym all.1))
 
 take_parts : (m n : ℕ) (xs : List ℕ) → take m xs ++ take n (drop m xs) ≡ take (m + n) xs
 take_parts zero n xs = grind arith

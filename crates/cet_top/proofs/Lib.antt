@@ -7,3 +7,4 @@ mod WordsFrom
 mod Sequence
 mod QuietTraces
 mod Finished
+mod Serving

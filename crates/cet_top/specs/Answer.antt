@@ -1,10 +1,11 @@
 -- What a command answers: its status and its output, by the words and the bytes of the source. Source: own.
 use Rattle.std.specs.Prelude.{◌≡◌, ℕ, ◌⊎◌, List, [], Option, Some, slice_index, map}
 use Rattle.cet_words.specs.Job.{ImageData, JobData}
-use Rattle.cet_book.specs.Book.{Book}
+use Rattle.cet_book.specs.Book.{Book, first_book}
 use Rattle.cet_cpu.specs.Gate.{exit_word}
 use Rattle.cet_cpu.specs.Machine.{Machine, Starts, run}
 use Rattle.cet_own.specs.Event.{book_of}
+use Rattle.cet_own.specs.Safe.{Safe}
 use Rattle.cet_top.specs.Accepts.{Accepts, image_of}
 use Rattle.cet_top.specs.Outcome.{thread_out, process_end}
 use Rattle.cet_top.specs.Report.{report_of}
@@ -28,7 +29,7 @@ outcome_of m b = record {
   process = process_end (slice_index m.words exit_word) (map thread_out m.threads);
 }
 
--- A run of the job by this schedule, and its outcome.
+-- A run of the job by this schedule, and its outcome. It is a safe one, as every run is.
 pub record Ran (job : JobData) (Schedule : Machine → List ℕ → Type 0) (outcome : Outcome) : Type 0 where
   pub start : Machine
   pub starts : Starts job start
@@ -37,6 +38,7 @@ pub record Ran (job : JobData) (Schedule : Machine → List ℕ → Type 0) (out
   pub book : Book
   pub legal : book_of job start turns ≡ Some book
   pub is : outcome ≡ outcome_of (run job start turns) book
+  pub safe : Safe job start first_book turns
 
 -- the job of an image by the defaults: four processors, at most 100,000 records a thread, no signals
 abbrev pub job_with : ImageData → JobData

@@ -1,8 +1,8 @@
 -- What serving a command does to a source and a sink. Source: own.
-use Rattle.std.specs.Prelude.{◌≡◌, ℕ, ◌≤◌, List, [], length, Option, Some}
+use Rattle.std.specs.Prelude.{◌≡◌, ℕ, ◌<◌, ◌≤◌, ◌⊎◌, List, [], length, Option, Some}
 use Rattle.std.specs.Io.KnownBytes.{Appends}
 use Rattle.cet_top.specs.Answer.{Answers}
-use Rattle.cet_top.specs.Stream.{Rose, TakesAll, TakesSome, TakesMoreThan, AppendsSome}
+use Rattle.cet_top.specs.Stream.{Rose, TakesAll, TakesUpTo, TakesMoreThan, AppendsSome}
 use Rattle.cet_top.specs.declared.status.Status.{Status}
 use Rattle.cet_top.specs.declared.status.Status.TheVariants as status
 use Rattle.cet_top.specs.declared.words.Command.{Command}
@@ -49,12 +49,38 @@ pub record Cut (command : Command) (src src' sink sink' : Streamed) : Type 0 whe
   pub written : AppendsSome sink.known sink'.known output
   pub cause : Rose sink.faults sink'.faults
 
--- Each status of a served command comes with its cause. Before all was read and answered, nothing is written.
+-- Each status of a served command comes with its cause. Before all was read and answered, nothing is written, and no read is
+-- made once more than 8,388,608 bytes have come; one read asks for at most 4,096.
 pub record Serves (command : Command) (src src' sink sink' : Streamed) (s : Status) : Type 0 where
   pub answered : IsAnswered s → Answered command src src' sink sink' s
   pub write_fault : s ≡ status.WriteFault → Cut command src src' sink sink'
-  pub read_fault : s ≡ status.ReadFault → Rose src.faults src'.faults × Appends sink.known sink'.known []
-  pub too_long : s ≡ status.TooLong → TakesMoreThan 8388608 src.known src'.known × Appends sink.known sink'.known []
-  pub no_memory : s ≡ status.NoMemory → Appends sink.known sink'.known []
+  pub read_fault : s ≡ status.ReadFault → Rose src.faults src'.faults × TakesUpTo 8392704 src.known src'.known × Appends sink.known sink'.known []
+  pub too_long : s ≡ status.TooLong → TakesMoreThan 8388608 src.known src'.known × TakesUpTo 8392704 src.known src'.known × Appends sink.known sink'.known []
+  pub no_memory : s ≡ status.NoMemory → TakesUpTo 8392704 src.known src'.known × Appends sink.known sink'.known []
   pub src_later : src.faults ≤ src'.faults
   pub sink_later : sink.faults ≤ sink'.faults
+
+-- neither was used
+pub record IsUntouched (src src' sink sink' : Streamed) : Type 0 where
+  pub source : src' ≡ src
+  pub target : sink' ≡ sink
+
+-- the source has given too much, or failed, or memory is short
+abbrev pub IsCutShort : Status → Type 0
+IsCutShort status.ReadFault = Unit {0}
+IsCutShort status.TooLong = Unit {0}
+IsCutShort status.NoMemory = Unit {0}
+IsCutShort status.Done = ⊥
+IsCutShort (status.Usage word) = ⊥
+IsCutShort status.WriteFault = ⊥
+IsCutShort (status.Refused rule offset) = ⊥
+IsCutShort (status.AsmRefused line rule) = ⊥
+IsCutShort (status.Killed signal) = ⊥
+IsCutShort (status.Limit thread) = ⊥
+
+-- Where the source tells its bytes: an input that is too long is never answered; and where it isn't, and neither count of
+-- faults rises, the whole answer is written, unless memory is short.
+pub record Completes (command : Command) (src src' sink sink' : Streamed) (s : Status) : Type 0 where
+  pub long : (bytes : List ℕ) → src.known ≡ Some bytes → 8388608 < length bytes → IsCutShort s
+  pub whole : (bytes : List ℕ) → src.known ≡ Some bytes → length bytes ≤ 8388608 → ¬ Rose src.faults src'.faults → ¬ Rose sink.faults sink'.faults →
+      (s ≡ status.NoMemory) ⊎ ((output : List ℕ) × Answers command bytes s output × Appends sink.known sink'.known output)

@@ -45,10 +45,6 @@ TakesAll None new bytes = ⊤
 TakesAll (Some xs) None bytes = ⊥
 TakesAll (Some xs) (Some ys) bytes = (bytes ≡ xs) × (ys ≡ [])
 
--- some known bytes were taken from the front
-abbrev pub TakesSome : Option (List ℕ) → Option (List ℕ) → Type 0
-TakesSome old new = (bytes : List ℕ) × Consumes old new bytes
-
 -- more than n known bytes were taken from the front
 abbrev pub TakesMoreThan : ℕ → Option (List ℕ) → Option (List ℕ) → Type 0
 TakesMoreThan n old new = (bytes : List ℕ) × (n < length bytes) × Consumes old new bytes

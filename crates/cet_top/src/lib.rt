@@ -8,6 +8,7 @@ mod lines;
 mod loads;
 mod memory_streams;
 mod outcomes;
+mod programs;
 mod reports;
 mod runs;
 mod stacks;
@@ -27,6 +28,7 @@ pub use outcomes::{
     Outcome, ProcessEnd, Records, Region, Shown, StackReport, StackReports, Style, ThreadOut,
     ThreadOuts,
 };
+pub use programs::plain;
 pub use status::Status;
 pub use std_streams::{StdSink, StdSource};
 pub use streams::{Failed, Sink, Source};

@@ -1,9 +1,11 @@
 //! A run of a job by Robin.
 
 ghost use Rattle.std.specs.Prelude.{◌≡◌, ◌≤◌, length, IfOk};
+ghost use Rattle.cet_cpu.specs.Machine.{Starts, machine};
 ghost use Rattle.cet_top.specs.Answer.{Ran};
 ghost use Rattle.cet_top.specs.FirstStack.{KeepsFirsts, first_stacks, read_outcome};
 ghost use Rattle.cet_top.specs.Schedule.{ByRobin};
+ghost use Rattle.cet_top.specs.Turns.{AllCores};
 
 use crate::ends::{process_end, thread_outs};
 use crate::guests::Guest;
@@ -57,13 +59,37 @@ fn read_outcome<P: Perform>(
     })
 }
 
+/// The start of a job: the start words, and thread 0.
+fn start(alloc: Global, job: &Job) -> Result<(Plain, Vec<Guest>), NoMemory>
+    ensures starts { IfOk result (λ at. Starts job.now (machine at.0 at.1.items)) }
+    ensures cores { IfOk result (λ at. AllCores job.now at.1.items) }
+{
+    let words = Plain::new(alloc, job.image)?;
+    let mut guests = Vec::new(alloc);
+    guests.push(Guest::new(alloc, first(job)))?;
+    Ok((words, guests))
+}
+
+/// Gives the threads turns by Robin until each has ended.
+fn finish(
+    alloc: Global,
+    job: &Job,
+    mut words: Plain,
+    mut guests: Vec<Guest>,
+) -> Result<Outcome, NoMemory>
+    requires starts { Starts job.now (machine words guests.items) }
+    requires cores { AllCores job.now guests.items }
+    ensures { IfOk result (Ran job.now (ByRobin job.now)) }
+{
+    let _limit = job.limit;
+    robin(alloc, job, &mut words, &mut guests)?;
+    read_outcome(alloc, &mut words, guests)
+}
+
 /// Runs a job by Robin from its start until every thread has ended.
 pub(crate) fn run(alloc: Global, job: &Job) -> Result<Outcome, NoMemory>
     ensures { IfOk result (Ran job.now (ByRobin job.now)) }
 {
-    let mut words = Plain::new(alloc, job.image)?;
-    let mut guests = Vec::new(alloc);
-    guests.push(Guest::new(alloc, first(job)))?;
-    robin(alloc, job, &mut words, &mut guests)?;
-    read_outcome(alloc, &mut words, guests)
+    let (words, guests) = start(alloc, job)?;
+    finish(alloc, job, words, guests)
 }

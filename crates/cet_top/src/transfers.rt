@@ -1,6 +1,6 @@
 ghost use Rattle.std.specs.Prelude.{◌≡◌, ◌≤◌, length, IfOk, OnOk, OnErr, IsErrOf};
 ghost use Rattle.std.specs.Io.KnownBytes.{Appends};
-ghost use Rattle.cet_top.specs.Stream.{Rose, HasCause, TakesAll, TakesSome, TakesMoreThan, AppendsSome};
+ghost use Rattle.cet_top.specs.Stream.{Rose, HasCause, TakesAll, TakesUpTo, TakesMoreThan, AppendsSome};
 
 use crate::streams::{Failed, Sink, Source};
 use cet_words::{Bytes, NoMemory};
@@ -46,7 +46,7 @@ pub(crate) fn read_all<S: Source>(alloc: Global, src: &mut S) -> Result<Bytes, U
     ensures later { S.faults src.old ≤ S.faults src.new }
     ensures failed { IsErrOf result Unread.Failed → Rose (S.faults src.old) (S.faults src.new) }
     ensures long { IsErrOf result Unread.TooLong → TakesMoreThan 8388608 (S.left src.old) (S.left src.new) }
-    ensures err { OnErr result (TakesSome (S.left src.old) (S.left src.new)) }
+    ensures err { OnErr result (TakesUpTo 8392704 (S.left src.old) (S.left src.new)) }
 {
     let mut bytes = Bytes::new(alloc);
     let mut buf = [0; 4096];
