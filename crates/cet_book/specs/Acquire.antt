@@ -110,25 +110,25 @@ module _ {t m q : ℕ} {b : Book} (k : Takes t m q b) where
 
   chain_taken : (s : ℕ) → links s (Previous m ∷ (region b q).entries) ≡ one (is_left q (region (acquire t m q b) s).holder)
   chain_taken s = elim (eqb_tells s m) [
-      | inl e ↦
-          let a : eqb m m ≡ true = grind (arith, nat_tests) in
-          let c : eqb q q ≡ true = grind (arith, nat_tests) in
-          subst (λ n. links n (Previous m ∷ (region b q).entries) ≡ one (is_left q (region (acquire t m q b) n).holder)) (sym e.1)
-          (rw (left_here q) (let z = none_of_m q in rw (a, c) (omega arith)))
-      | inr e ↦
-          let n = e.1 in
-          let a : eqb m s ≡ false = grind (arith, nat_tests) in
-          rw (a, left_now q s n) (let z = k.owned.shape.chain q s in omega arith)
-    ]
+    | inl e ↦
+        let a : eqb m m ≡ true = grind (arith, nat_tests) in
+        let c : eqb q q ≡ true = grind (arith, nat_tests) in
+        subst (λ n. links n (Previous m ∷ (region b q).entries) ≡ one (is_left q (region (acquire t m q b) n).holder)) (sym e.1)
+        (rw (left_here q) (let z = none_of_m q in rw (a, c) (omega arith)))
+    | inr e ↦
+        let n = e.1 in
+        let a : eqb m s ≡ false = grind (arith, nat_tests) in
+        rw (a, left_now q s n) (let z = k.owned.shape.chain q s in omega arith)
+  ]
 
   chain_other : (x s : ℕ) → x ≢ q → links s (region b x).entries ≡ one (is_left x (region (acquire t m q b) s).holder)
   chain_other x s n = elim (eqb_tells s m) [
-      | inl e ↦
-          let c : eqb q x ≡ false = grind (arith, nat_tests) in
-          subst (λ j. links j (region b x).entries ≡ one (is_left x (region (acquire t m q b) j).holder)) (sym e.1)
-          (rw (left_here x) (rw c (none_of_m x)))
-      | inr e ↦ rw (left_now x s e.1) (k.owned.shape.chain x s)
-    ]
+    | inl e ↦
+        let c : eqb q x ≡ false = grind (arith, nat_tests) in
+        subst (λ j. links j (region b x).entries ≡ one (is_left x (region (acquire t m q b) j).holder)) (sym e.1)
+        (rw (left_here x) (rw c (none_of_m x)))
+    | inr e ↦ rw (left_now x s e.1) (k.owned.shape.chain x s)
+  ]
 
   pub acquire_shape : Shape (acquire t m q b)
   acquire_shape = record {

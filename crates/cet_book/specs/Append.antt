@@ -27,7 +27,7 @@ module _ {r : Region} {b : Book} (a : Appends r b) where
 
   pub append_old : (i : ℕ) → i ≢ length b.regions → region (append r b) i ≡ region b i
   append_old i n = elim (cases_lt i (length b.regions)) [
-      inl l ↦ get_or_append_left b.regions (r ∷ []) nowhere i l
+    | inl l ↦ get_or_append_left b.regions (r ∷ []) nowhere i l
     | inr g ↦
         let past : length (append r b).regions ≤ i = (let e = append_length in omega arith) in
         get_or_past (b.regions ++ r ∷ []) i nowhere past ∙ sym (get_or_past b.regions i nowhere g)
@@ -38,7 +38,7 @@ module _ {r : Region} {b : Book} (a : Appends r b) where
 
   pub append_all : (P : ℕ → Region → Type 0) → P (length b.regions) r → ((i : ℕ) → i ≢ length b.regions → P i (region b i)) → (i : ℕ) → P i (region (append r b) i)
   append_all P new old i = elim (eqb_tells i (length b.regions)) [
-      inl e ↦ subst (λ j. P j (region (append r b) j)) (sym e.1) (subst (P (length b.regions)) (sym append_new) new)
+    | inl e ↦ subst (λ j. P j (region (append r b) j)) (sym e.1) (subst (P (length b.regions)) (sym append_new) new)
     | inr e ↦ subst (P i) (sym (append_old i e.1)) (old i e.1)
   ]
 
@@ -120,14 +120,14 @@ module _ {r : Region} {b : Book} (a : Appends r b) where
 -- every region ends at or below the last one's end
 pub end_le_last : (b : Book) → Shape b → (i : ℕ) → (region b i).end ≤ last_end b
 end_le_last b h i = elim (cases_lt (i + 1) (length b.regions)) [
-    inl l ↦
+  | inl l ↦
       let order : i < length b.regions - 1 = omega arith in
       let inside : length b.regions - 1 < length b.regions = omega arith in
       let apart = h.apart i (length b.regions - 1) order inside in
       let full = (h.bounds (length b.regions - 1) inside).full in
       omega arith
   | inr g ↦ elim (cases_lt i (length b.regions)) [
-      | inl l ↦ let e : i ≡ length b.regions - 1 = omega arith in subst (λ j. (region b i).end ≤ (region b j).end) e (omega arith)
-      | inr past ↦ let e : (region b i).end ≡ 0 = ap (λ (x : Region). x.end) (get_or_past b.regions i nowhere past) in omega arith
-    ]
+    | inl l ↦ let e : i ≡ length b.regions - 1 = omega arith in subst (λ j. (region b i).end ≤ (region b j).end) e (omega arith)
+    | inr past ↦ let e : (region b i).end ≡ 0 = ap (λ (x : Region). x.end) (get_or_past b.regions i nowhere past) in omega arith
+  ]
 ]

@@ -11,21 +11,21 @@ use Rattle.cet_book.specs.Shape.{Bounds, Shape}
 
 pub region-put : (b : Book) (k i : ℕ) (r : Region) → k < length b.regions → region (put b k r) i ≡ cond (eqb i k) r (region b i)
 region-put b k i r inside = elim (eqb_tells i k) [
-    inl e ↦ rw e.0 (subst (λ n. get_or (set b.regions k r) n nowhere ≡ r) (sym e.1) (get_or-set_same b.regions k r nowhere inside))
+  | inl e ↦ rw e.0 (subst (λ n. get_or (set b.regions k r) n nowhere ≡ r) (sym e.1) (get_or-set_same b.regions k r nowhere inside))
   | inr e ↦ rw e.0 (get_or-set_other b.regions k i r nowhere e.1)
 ]
 
 -- a region that isn't lost is one of the book's
 pub is_there : (b : Book) (i : ℕ) → (region b i).holder ≢ Lost → i < length b.regions
 is_there b i held = elim (cases_lt i (length b.regions)) [
-    inl l ↦ l
+  | inl l ↦ l
   | inr g ↦ absurd (held (ap (λ (r : Region). r.holder) (get_or_past b.regions i nowhere g)))
 ]
 
 -- what holds of the new region, and of each other one as it was, holds of all
 pub put_all : (b : Book) (k : ℕ) (r : Region) → k < length b.regions → (P : ℕ → Region → Type 0) → P k r → ((i : ℕ) → i ≢ k → P i (region b i)) → (i : ℕ) → P i (region (put b k r) i)
 put_all b k r inside P here others i = subst (P i) (sym (region-put b k i r inside)) (elim (eqb_tells i k) [
-    inl e ↦ rw e.0 (subst (λ n. P n r) (sym e.1) here)
+  | inl e ↦ rw e.0 (subst (λ n. P n r) (sym e.1) here)
   | inr e ↦ rw e.0 (others i e.1)
 ])
 
@@ -33,7 +33,7 @@ pub put2_all : (b : Book) (m k : ℕ) (rm rk : Region) → m < length b.regions 
 put2_all b m k rm rk in_m in_k P at_k at_m others i =
     let inside : k < length (put b m rm).regions = omega (arith, length-set b.regions m rm) in
     subst (P i) (sym (region-put (put b m rm) k i rk inside)) (elim (eqb_tells i k) [
-        inl e ↦ rw e.0 (subst (λ n. P n rk) (sym e.1) at_k)
+      | inl e ↦ rw e.0 (subst (λ n. P n rk) (sym e.1) at_k)
       | inr e ↦ rw e.0 (put_all b m rm in_m (λ j r. j ≢ k → P j r) (λ _. at_m) (λ j n n'. others j n' n) i e.1)
     ])
 
@@ -94,10 +94,11 @@ unfolding current_of
 current_of_is t b k e only =
     let inside : k < length b.regions = is_there b k (λ q. cc) in
     position_or_len_is (λ q. is_current t q.holder) b.regions k nowhere (omega arith)
-        (λ i before. elim (is_current t (region b i).holder) as (λ (c : Bool). is_current t (region b i).holder ≡ c → c ≡ false) [
-          | true ↦ λ y. absurd (let q = only i (current_true t (region b i).holder y) in omega arith)
-          | false ↦ λ y. refl ] refl)
-        (λ _. is_current-true t (region b k).holder e)
+    (λ i before. elim (is_current t (region b i).holder) as (λ (c : Bool). is_current t (region b i).holder ≡ c → c ≡ false) [
+      | true ↦ λ y. absurd (let q = only i (current_true t (region b i).holder y) in omega arith)
+      | false ↦ λ y. refl
+    ] refl)
+    (λ _. is_current-true t (region b k).holder e)
 
 -- the region that was found is current
 pub current_holds : (t : ℕ) (b : Book) → current_of t b < length b.regions → (region b (current_of t b)).holder ≡ Current t

@@ -112,13 +112,13 @@ module _ {t s : ℕ} {b : Book} (m : Made t s b) where
 
   pub born_shape : (child : ℕ) → length b.regions ≤ current_of child b → Shape (hand s (region b s).entries (Current child) b)
   born_shape child none = hand_shape (bears child) (record { room = (m.shape.fits s).room; held = tt }) (λ y. elim (eqb_tells child y) [
-      | inl e ↦
-          subst (λ z. (i : ℕ) → (region (hand s (region b s).entries (Current child) b) i).holder ≡ Current z → current_of z (hand s (region b s).entries (Current child) b) ≡ i) e.1
-          (hand_all (bears child) (λ i r. r.holder ≡ Current child → current_of child (hand s (region b s).entries (Current child) b) ≡ i)
-          (λ _. born_current child none)
-          (λ i n e. absurd (let a = m.shape.alone child i e in let l = is_there b i (λ z. cc) in omega arith)))
-      | inr e ↦ let n = e.1 in hand_alone (bears child) y (made_current y) (grind (arith, nat_tests)) (λ z. n (let c : Current child ≡ Current y = z in cc))
-    ])
+    | inl e ↦
+        subst (λ z. (i : ℕ) → (region (hand s (region b s).entries (Current child) b) i).holder ≡ Current z → current_of z (hand s (region b s).entries (Current child) b) ≡ i) e.1
+        (hand_all (bears child) (λ i r. r.holder ≡ Current child → current_of child (hand s (region b s).entries (Current child) b) ≡ i)
+        (λ _. born_current child none)
+        (λ i n e. absurd (let a = m.shape.alone child i e in let l = is_there b i (λ z. cc) in omega arith)))
+    | inr e ↦ let n = e.1 in hand_alone (bears child) y (made_current y) (grind (arith, nat_tests)) (λ z. n (let c : Current child ≡ Current y = z in cc))
+  ])
 
 -- the thread on which region m is current ends
 module _ {t m : ℕ} {b : Book} (o : Owned t m b) where
@@ -133,6 +133,6 @@ module _ {t m : ℕ} {b : Book} (o : Owned t m b) where
 
   pub end_shape : Shape (hand m (region b m).entries Lost b)
   end_shape = hand_shape ends (record { room = (o.shape.fits m).room; held = tt }) (λ y i e. elim (eqb_tells t y) [
-      | inl u ↦ absurd (end_none i (let v = u.1 in cc))
-      | inr u ↦ let n = u.1 in hand_alone ends y (ap (is_current y) o.current ∙ grind (arith, nat_tests)) refl (λ z. cc) i e
-    ])
+    | inl u ↦ absurd (end_none i (let v = u.1 in cc))
+    | inr u ↦ let n = u.1 in hand_alone ends y (ap (is_current y) o.current ∙ grind (arith, nat_tests)) refl (λ z. cc) i e
+  ])

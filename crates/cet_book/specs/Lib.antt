@@ -8,3 +8,6 @@ pub mod Hand
 pub mod Append
 pub mod Removes
 pub mod Supervisor
+pub mod Stack
+pub mod Kept
+pub mod First

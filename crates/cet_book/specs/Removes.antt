@@ -90,16 +90,16 @@ pub raised_shortened : (t m n : ℕ) (b next : Book) → Owned t m b → raised 
 raised_shortened t m = raised_all t m (λ n b next. Shortened t m n b next)
     (λ b o. record { owned = o; current = λ y. refl; same = same_none b; stacks = refl; fewer = omega arith })
     (λ n b mid next o removal rest.
-      let first = shortened o removal in
-      let a = first.same in
-      let c = rest.same in
-      record {
-        owned = rest.owned;
-        current = λ y. rest.current y ∙ first.current y;
-        same = record { len = c.len ∙ a.len; start = λ i. c.start i ∙ a.start i; end = λ i. c.end i ∙ a.end i };
-        stacks = rest.stacks ∙ first.stacks;
-        fewer = let x = first.fewer in let y = rest.fewer in omega arith;
-      })
+    let first = shortened o removal in
+    let a = first.same in
+    let c = rest.same in
+    record {
+      owned = rest.owned;
+      current = λ y. rest.current y ∙ first.current y;
+      same = record { len = c.len ∙ a.len; start = λ i. c.start i ∙ a.start i; end = λ i. c.end i ∙ a.end i };
+      stacks = rest.stacks ∙ first.stacks;
+      fewer = let x = first.fewer in let y = rest.fewer in omega arith;
+    })
 
 some_removed : (m : ℕ) (b : Book) (l : List Entry) → 0 < length l → (next : Book) × (remove_entry m l b ≡ Some next)
 some_removed m b [] l = absurd (omega arith)

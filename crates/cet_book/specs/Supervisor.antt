@@ -20,14 +20,14 @@ free_true (Some x) e = absurd (false≢true e)
 
 pub stack_of-put_stack : (b : Book) (k j : ℕ) (o : Option ℕ) → k < length b.stacks → stack_of (put_stack b k o) j ≡ cond (eqb j k) o (stack_of b j)
 stack_of-put_stack b k j o inside = elim (eqb_tells j k) [
-    inl e ↦ rw e.0 (subst (λ n. get_or (set b.stacks k o) n None ≡ o) (sym e.1) (get_or-set_same b.stacks k o None inside))
+  | inl e ↦ rw e.0 (subst (λ n. get_or (set b.stacks k o) n None ≡ o) (sym e.1) (get_or-set_same b.stacks k o None inside))
   | inr e ↦ rw e.0 (get_or-set_other b.stacks k j o None e.1)
 ]
 
 -- a stack that a thread holds is one of the list's
 stack_there : (t k : ℕ) (b : Book) → stack_of b k ≡ Some t → k < length b.stacks
 stack_there t k b e = elim (cases_lt k (length b.stacks)) [
-    inl l ↦ l
+  | inl l ↦ l
   | inr g ↦ absurd (let z : stack_of b k ≡ None = get_or_past b.stacks k None g in cc)
 ]
 

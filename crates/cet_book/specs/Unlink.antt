@@ -101,26 +101,26 @@ module _ {t m s : ℕ} {es : List Entry} {b : Book} (l : Linked t m s es b) {g :
 
   chain_here : (z : ℕ) → links z es ≡ one (is_left m (region (unlink m s es g b) z).holder)
   chain_here z = elim (eqb_tells z s) [
-      | inl e ↦
-          subst (λ n. links n es ≡ one (is_left m (region (unlink m s es g b) n).holder)) (sym e.1)
-          (rw (gone_now m) (chained l).1)
-      | inr e ↦
-          let n = e.1 in
-          let other : eqb s z ≡ false = grind (arith, nat_tests) in
-          let counted : links z (Previous s ∷ es) ≡ one (is_left m (region b z).holder) = ap (links z) (sym l.entries) ∙ l.owned.shape.chain m z in
-          let rest : links z es ≡ one (is_left m (region b z).holder) = (let q = rw other at counted in omega arith) in
-          rw (unlink_left l g m z n) rest
-    ]
+    | inl e ↦
+        subst (λ n. links n es ≡ one (is_left m (region (unlink m s es g b) n).holder)) (sym e.1)
+        (rw (gone_now m) (chained l).1)
+    | inr e ↦
+        let n = e.1 in
+        let other : eqb s z ≡ false = grind (arith, nat_tests) in
+        let counted : links z (Previous s ∷ es) ≡ one (is_left m (region b z).holder) = ap (links z) (sym l.entries) ∙ l.owned.shape.chain m z in
+        let rest : links z es ≡ one (is_left m (region b z).holder) = (let q = rw other at counted in omega arith) in
+        rw (unlink_left l g m z n) rest
+  ]
 
   chain_other : (q z : ℕ) → q ≢ m → links z (region b q).entries ≡ one (is_left q (region (unlink m s es g b) z).holder)
   chain_other q z n = elim (eqb_tells z s) [
-      | inl e ↦
-          let other : eqb m q ≡ false = grind (arith, nat_tests) in
-          let none : is_left q (region b s).holder ≡ false = ap (is_left q) (linked_left l) ∙ other in
-          subst (λ n. links n (region b q).entries ≡ one (is_left q (region (unlink m s es g b) n).holder)) (sym e.1)
-          (rw (gone_now q) (l.owned.shape.chain q s ∙ rw none refl))
-      | inr e ↦ rw (unlink_left l g q z e.1) (l.owned.shape.chain q z)
-    ]
+    | inl e ↦
+        let other : eqb m q ≡ false = grind (arith, nat_tests) in
+        let none : is_left q (region b s).holder ≡ false = ap (is_left q) (linked_left l) ∙ other in
+        subst (λ n. links n (region b q).entries ≡ one (is_left q (region (unlink m s es g b) n).holder)) (sym e.1)
+        (rw (gone_now q) (l.owned.shape.chain q s ∙ rw none refl))
+    | inr e ↦ rw (unlink_left l g q z e.1) (l.owned.shape.chain q z)
+  ]
 
   pub unlink_shape : HolderFits (region b s) g → Shape (unlink m s es g b)
   unlink_shape held = record {
@@ -129,8 +129,8 @@ module _ {t m s : ℕ} {es : List Entry} {b : Book} (l : Linked t m s es b) {g :
     fits = unlink_all l g (λ i r. Fits r)
         (record { room = (l.owned.shape.fits s).room; held = gone_fits (region b s) g d held })
         (let room : (region b m).start + 8 * length (Previous s ∷ es) ≤ (region b m).end
-           = subst (λ l. (region b m).start + 8 * length l ≤ (region b m).end) l.entries (l.owned.shape.fits m).room in
-         record { room = omega arith; held = subst (HolderFits (now l g)) (sym l.owned.current) tt })
+        = subst (λ l. (region b m).start + 8 * length l ≤ (region b m).end) l.entries (l.owned.shape.fits m).room in
+        record { room = omega arith; held = subst (HolderFits (now l g)) (sym l.owned.current) tt })
         (λ i n n'. l.owned.shape.fits i);
     apart = apart_same (unlink_same l g) l.owned.shape;
     alone = λ y. unlink_all l g (λ i r. r.holder ≡ Current y → current_of y (unlink m s es g b) ≡ i)
