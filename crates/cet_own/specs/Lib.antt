@@ -1,3 +1,9 @@
 pub mod Event
 pub mod Safe
 pub mod Report
+pub mod Frame
+pub mod Holds
+pub mod Relies
+pub mod Writes
+pub mod Kept
+pub mod Own
