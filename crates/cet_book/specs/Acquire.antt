@@ -1,9 +1,9 @@
 -- A parked region becomes current on a thread, and the one that was current is left for it.
-use Rattle.std.proofs.Common.{◌≡◌, ◌≢◌, ℕ, ◌+◌, ◌-◌, ◌*◌, ◌<◌, ◌≤◌, ◌&&◌, inl, inr, Bool, true, false, List, ◌∷◌, length, refl, sym, ◌∙◌, ap, subst, eqb, arith}
+use Rattle.std.proofs.Common.{◌≡◌, ◌≢◌, ℕ, ◌+◌, ◌<◌, ◌≤◌, inl, inr, Bool, true, false, ◌∷◌, length, refl, sym, ◌∙◌, ap, subst, eqb, arith}
 use Rattle.std.proofs.lemmas.Bool.{false≢true}
 use Rattle.std.proofs.lemmas.Bool.Decides.{eqb_tells, nat_tests}
 use Rattle.std.proofs.lemmas.List.Sums.{passes_at_first}
-use Rattle.cet_book.specs.Book.{Entry, Previous, Holder, Maker, Current, Parked, Left, Lost, Region, Book, nowhere, region, put, top, is_parked, has_token, parked_at, is_current, current_of, acquire}
+use Rattle.cet_book.specs.Book.{Previous, Holder, Maker, Current, Parked, Left, Lost, Region, Book, nowhere, region, put, top, is_parked, has_token, parked_at, is_current, current_of, acquire}
 use Rattle.cet_book.specs.Shape.{HolderFits, Fits, is_left, one, links, Shape}
 use Rattle.cet_book.specs.Edits.{Owned, owned_there, owned_only, is_there, put_all, put2_all, SameBounds, same-put2, some_same, bounds_same, apart_same, current_of-put, current_of_is}
 

@@ -1,5 +1,5 @@
 -- A region is claimed: it stands after the others.
-use Rattle.std.proofs.Common.{◌≡◌, ◌≢◌, ℕ, ◌+◌, ◌-◌, ◌*◌, ◌<◌, ◌≤◌, ◌⊎◌, inl, inr, Bool, true, false, List, [], ◌∷◌, ◌++◌, length, get_or, refl, sym, ◌∙◌, ap, subst, eqb, arith, length-append}
+use Rattle.std.proofs.Common.{◌≡◌, ◌≢◌, ℕ, ◌+◌, ◌-◌, ◌<◌, ◌≤◌, ◌⊎◌, inl, inr, true, false, List, [], ◌∷◌, ◌++◌, length, refl, sym, ◌∙◌, ap, subst, eqb, arith, length-append}
 use Rattle.std.specs.Prelude.{not}
 use Rattle.std.proofs.lemmas.Bool.{cases_lt}
 use Rattle.std.proofs.lemmas.Bool.Decides.{eqb_tells, nat_tests}
@@ -7,7 +7,7 @@ use Rattle.std.proofs.lemmas.List.{get_or_past, get_or_append_left}
 use Rattle.std.proofs.lemmas.List.Folds.{position_or_len_push}
 use Rattle.std.proofs.lemmas.List.Sums.{prefix_len-le-length}
 use Rattle.std.proofs.Math.Seq.{get_or-append_seam}
-use Rattle.cet_book.specs.Book.{Entry, Holder, Maker, Current, Parked, Left, Lost, Region, Book, nowhere, region, is_current, current_of, last_end}
+use Rattle.cet_book.specs.Book.{Entry, Maker, Current, Parked, Lost, Region, Book, nowhere, region, is_current, current_of, last_end}
 use Rattle.cet_book.specs.Shape.{Bounds, HolderFits, Fits, is_left, one, links, Shape}
 use Rattle.cet_book.specs.Edits.{is_there}
 

@@ -1,8 +1,8 @@
 -- A region that was left for no other gets another holder: it is seeded, a thread is born onto it, or its thread ends.
-use Rattle.std.proofs.Common.{◌≡◌, ◌≢◌, ℕ, zero, suc, ◌+◌, ◌*◌, ◌<◌, ◌≤◌, inl, inr, Bool, true, false, List, [], ◌∷◌, length, replicate, refl, sym, ◌∙◌, ap, subst, eqb, arith}
+use Rattle.std.proofs.Common.{◌≡◌, ◌≢◌, ℕ, zero, suc, ◌+◌, ◌*◌, ◌<◌, ◌≤◌, inl, inr, false, List, [], length, replicate, refl, sym, ◌∙◌, ap, subst, arith}
 use Rattle.std.proofs.lemmas.List.{length-replicate}
 use Rattle.std.proofs.lemmas.Bool.Decides.{eqb_tells, nat_tests}
-use Rattle.cet_book.specs.Book.{Entry, Blank, Holder, Maker, Current, Parked, Left, Lost, Region, Book, region, put, top, is_current, current_of}
+use Rattle.cet_book.specs.Book.{Entry, Blank, Holder, Maker, Current, Parked, Lost, Region, Book, region, put, is_current, current_of}
 use Rattle.cet_book.specs.Shape.{HolderFits, Fits, is_left, one, links, Shape}
 use Rattle.cet_book.specs.Edits.{Owned, owned_there, owned_only, is_there, put_all, SameBounds, same-put, some_same, bounds_same, apart_same, current_of-put, current_of_is}
 

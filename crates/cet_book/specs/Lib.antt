@@ -9,5 +9,7 @@ pub mod Append
 pub mod Removes
 pub mod Supervisor
 pub mod Stack
-pub mod Kept
 pub mod First
+pub mod Relies
+pub mod Cases
+pub mod Kept

@@ -1,6 +1,6 @@
 -- The list of the region that is current on a thread changes, but for its Previous entries.
-use Rattle.std.proofs.Common.{◌≡◌, ◌≢◌, ℕ, ◌+◌, ◌*◌, ◌<◌, ◌≤◌, List, length, refl, sym, ◌∙◌, ap, subst, arith}
-use Rattle.cet_book.specs.Book.{Entry, Holder, Maker, Current, Parked, Left, Lost, Region, Book, region, put, top, current_of, relist}
+use Rattle.std.proofs.Common.{◌≡◌, ◌≢◌, ℕ, ◌+◌, ◌*◌, ◌≤◌, List, length, refl, sym, ◌∙◌, subst}
+use Rattle.cet_book.specs.Book.{Entry, Region, Book, region, current_of, relist}
 use Rattle.cet_book.specs.Shape.{HolderFits, Fits, is_left, one, links, Shape}
 use Rattle.cet_book.specs.Edits.{Owned, owned_there, put_all, SameBounds, same-put, some_same, bounds_same, apart_same, current_of-put}
 

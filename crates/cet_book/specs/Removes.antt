@@ -1,8 +1,8 @@
 -- The newest entries of the region that is current on a thread go, one after another.
-use Rattle.std.proofs.Common.{◌≡◌, ◌≢◌, ℕ, zero, suc, ◌+◌, ◌*◌, ◌<◌, ◌≤◌, Bool, true, false, List, [], ◌∷◌, length, Option, Some, None, refl, sym, ◌∙◌, ap, subst, arith}
+use Rattle.std.proofs.Common.{◌≡◌, ℕ, zero, suc, ◌+◌, ◌<◌, ◌≤◌, false, List, [], ◌∷◌, length, Option, Some, None, refl, sym, ◌∙◌, ap, subst, arith}
 use Rattle.std.specs.Prelude.{option_and_then}
-use Rattle.cet_book.specs.Book.{Entry, Call, Restorer, Frame, Previous, Blank, Holder, Maker, Current, Parked, Left, Lost, Region, Book, region, top, current_of, relist, unlink, returned, remove_entry, raised}
-use Rattle.cet_book.specs.Shape.{Fits, is_previous, links, Shape}
+use Rattle.cet_book.specs.Book.{Entry, Call, Restorer, Frame, Previous, Blank, Lost, Region, Book, region, current_of, relist, unlink, returned, remove_entry, raised}
+use Rattle.cet_book.specs.Shape.{is_previous, links, Shape}
 use Rattle.cet_book.specs.Edits.{Owned, SameBounds}
 use Rattle.cet_book.specs.Relist.{relist_shape, relist_owned, relist_current, relist_same, relist_here}
 use Rattle.cet_book.specs.Unlink.{Gone, lost, Linked, unlink_shape, unlink_current, unlink_same, unlink_here}

@@ -1,10 +1,10 @@
 -- A supervisor stack becomes busy or free.
-use Rattle.std.proofs.Common.{◌≡◌, ◌≢◌, ℕ, ◌+◌, ◌<◌, ◌≤◌, inl, inr, Bool, true, false, List, length, get_or, set, Option, Some, None, refl, sym, ◌∙◌, ap, subst, eqb, cond, arith, length-set, get_or-set_same, get_or-set_other}
+use Rattle.std.proofs.Common.{◌≡◌, ◌≢◌, ℕ, ◌<◌, ◌≤◌, inl, inr, true, false, length, get_or, set, Option, Some, None, refl, sym, ◌∙◌, ap, subst, eqb, cond, arith, length-set, get_or-set_same, get_or-set_other}
 use Rattle.std.proofs.lemmas.Bool.{cases_lt, false≢true}
 use Rattle.std.proofs.lemmas.Bool.Decides.{eqb_tells, nat_tests}
 use Rattle.std.proofs.lemmas.List.{get_or_past}
 use Rattle.std.proofs.lemmas.List.Sums.{fails_before_first}
-use Rattle.cet_book.specs.Book.{Book, region, stack_of, put_stack, holds_stack, is_free, held_by, current_of}
+use Rattle.cet_book.specs.Book.{Book, stack_of, put_stack, holds_stack, is_free, held_by, current_of}
 use Rattle.cet_book.specs.Shape.{Shape, StackShape}
 
 pub holds_true : (t : ℕ) (o : Option ℕ) → holds_stack t o ≡ true → o ≡ Some t
@@ -25,7 +25,7 @@ stack_of-put_stack b k j o inside = elim (eqb_tells j k) [
 ]
 
 -- a stack that a thread holds is one of the list's
-stack_there : (t k : ℕ) (b : Book) → stack_of b k ≡ Some t → k < length b.stacks
+pub stack_there : (t k : ℕ) (b : Book) → stack_of b k ≡ Some t → k < length b.stacks
 stack_there t k b e = elim (cases_lt k (length b.stacks)) [
   | inl l ↦ l
   | inr g ↦ absurd (let z : stack_of b k ≡ None = get_or_past b.stacks k None g in cc)

@@ -2,7 +2,7 @@
 use Rattle.std.proofs.Common.{◌≡◌, ◌≢◌, ℕ, ◌+◌, ◌*◌, ◌<◌, ◌≤◌, inl, inr, Bool, true, false, List, ◌∷◌, length, refl, sym, ◌∙◌, ap, subst, eqb, arith}
 use Rattle.std.proofs.lemmas.Bool.{false≢true}
 use Rattle.std.proofs.lemmas.Bool.Decides.{eqb_tells, nat_tests}
-use Rattle.cet_book.specs.Book.{Entry, Previous, Holder, Maker, Current, Parked, Left, Lost, Region, Book, region, put, top, is_current, current_of, relist, unlink}
+use Rattle.cet_book.specs.Book.{Entry, Previous, Holder, Maker, Current, Parked, Left, Lost, Region, Book, region, top, is_current, current_of, relist, unlink}
 use Rattle.cet_book.specs.Shape.{HolderFits, Fits, is_left, one, links, Shape}
 use Rattle.cet_book.specs.Edits.{Owned, owned_there, is_there, put_all, put2_all, SameBounds, same-put2, some_same, bounds_same, apart_same, current_of-put}
 

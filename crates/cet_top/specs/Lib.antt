@@ -6,3 +6,9 @@ pub mod Line
 pub mod Report
 pub mod Schedule
 pub mod Turns
+pub mod Field
+pub mod Written
+pub mod Outcome
+pub mod FirstStack
+pub mod Text
+pub mod Accepts

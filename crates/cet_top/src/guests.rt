@@ -6,6 +6,7 @@ ghost use Rattle.cet_words.specs.declared.accesses.Access.{Access};
 ghost use Rattle.cet_cpu.specs.Core.{next_access, taken};
 ghost use Rattle.cet_cpu.specs.Machine.{thread_after};
 ghost use Rattle.cet_cpu.specs.Within.{IsCore};
+ghost use Rattle.cet_top.specs.Outcome.{thread_out};
 
 use crate::outcomes::{Records, ThreadOut};
 use cet_cpu::Cpu;
@@ -45,6 +46,22 @@ impl Guest {
         ensures { result ≡ self.now.core.over }
     {
         self.cpu.end()
+    }
+
+    /// The thread's shadow stack pointer.
+    pub fn ssp(&self) -> u64
+        ensures { result ≡ self.now.core.arch.ssp }
+    {
+        self.cpu.arch().ssp
+    }
+
+    /// The thread, which has ended, as a part of an outcome.
+    pub fn out(self) -> ThreadOut
+        ensures { result ≡ thread_out self }
+    {
+        let end = self.end().unwrap_or(End::Group);
+        let Guest { cpu: _, records } = self;
+        ThreadOut { records, end }
     }
 
     /// The thread makes its next access on the words.

@@ -1,17 +1,22 @@
 //! What the program `cetvm` does, over a source of bytes and a sink of bytes.
 #![tactic(auto)]
 
+mod ends;
 mod guests;
 mod lines;
+mod loads;
 mod memory_streams;
 mod outcomes;
 mod reports;
+mod stacks;
 mod status;
 mod std_streams;
 mod streams;
+mod texts;
 mod transfers;
 mod turns;
 mod words;
+mod written;
 
 pub use memory_streams::{MemSink, SureSink, SureSource};
 pub use outcomes::{

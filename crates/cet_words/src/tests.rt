@@ -144,6 +144,13 @@ fn keeps_lists(rt: HostRuntime) -> Result<(), Fail> {
     Ok(())
 }
 
+#[test]
+fn prints_no_memory(rt: HostRuntime) -> Result<(), Fail> {
+    let text = format!(in rt.alloc(); "{NoMemory}")?;
+    assert_eq!(rt; text.as_str(), "out of memory");
+    Ok(())
+}
+
 fn is_shared<T: Send + Sync>() {}
 
 #[test]

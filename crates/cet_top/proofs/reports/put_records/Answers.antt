@@ -1,6 +1,6 @@
 use Rattle.std.proofs.Common.{sym, ◌∙◌}
 use Rattle.cet_top.specs.Report.{record_text}
-use Rattle.cet_top.proofs.Texts.{item_appended}
+use Rattle.cet_top.proofs.Appended.{item_appended}
 use Rattle.cet_top.proofs.reports.put_records.Goals as goal
 
 pub loop-at-preserved : goal.loop-at-preserved

@@ -1,5 +1,5 @@
 use Rattle.cet_top.specs.Report.{thread_text}
-use Rattle.cet_top.proofs.Texts.{numbered_appended}
+use Rattle.cet_top.proofs.Appended.{numbered_appended}
 use Rattle.cet_top.proofs.reports.put_threads.Goals as goal
 
 pub loop-number-preserved : goal.loop-number-preserved
