@@ -3,7 +3,7 @@ pub mod Safe
 pub mod Report
 pub mod Frame
 pub mod Holds
-pub mod Relies
+pub mod Standing
 pub mod Writes
 pub mod Kept
 pub mod Own

@@ -11,7 +11,6 @@ use Rattle.cet_book.specs.Unlink.{Gone, lost, Linked, linked_left, unlink_all, u
 use Rattle.cet_book.specs.Removes.{Removal, plain, linked}
 use Rattle.cet_book.specs.Stack.{slot, slot_word, Stack, tops}
 use Rattle.cet_own.specs.Holds.{Sound, IsBack, Backs, HasBack, In, Holds}
-use Rattle.cet_own.specs.Relies.{Owns, Relies}
 use Rattle.cet_own.specs.Writes.{Place, in_place, list_kept, list_free, slot_same}
 use Rattle.cet_own.specs.Kept.{size_kept, pages_out, pages_same, gates_out, gates_same}
 
