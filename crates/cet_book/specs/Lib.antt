@@ -11,5 +11,6 @@ pub mod Removes
 pub mod Supervisor
 pub mod First
 pub mod Relies
+pub mod Addresses
 pub mod Cases
 pub mod Kept
