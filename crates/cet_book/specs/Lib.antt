@@ -14,3 +14,4 @@ pub mod Relies
 pub mod Addresses
 pub mod Cases
 pub mod Kept
+pub mod Ways
