@@ -15,3 +15,4 @@ pub mod Addresses
 pub mod Cases
 pub mod Kept
 pub mod Ways
+pub mod Top
