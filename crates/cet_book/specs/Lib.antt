@@ -11,5 +11,8 @@ pub mod Supervisor
 pub mod Stack
 pub mod First
 pub mod Relies
+pub mod Addresses
 pub mod Cases
 pub mod Kept
+pub mod Ways
+pub mod Top

@@ -46,7 +46,7 @@ relies_same t b = record {
   free = λ k e. e;
 }
 
-owns_current : (t : ℕ) (h : Holder) → h ≡ Current t → Owns t h
+pub owns_current : (t : ℕ) (h : Holder) → h ≡ Current t → Owns t h
 owns_current t h e = subst (Owns t) (sym e) refl
 
 pub relies_then : {t : ℕ} {a b c : Book} → Relies t a b → Relies t b c → Relies t a c
