@@ -2,7 +2,7 @@
 use Rattle.std.proofs.Common.{◌≡◌, ◌≢◌, ℕ, suc, ◌+◌, ◌-◌, ◌*◌, ◌<◌, ◌≤◌, ◌⊎◌, inl, inr, Bool, true, false, ◌&&◌, List, [], ◌∷◌, length, Option, Some, None, refl, sym, ◌∙◌, ap, subst, arith}
 use Rattle.std.specs.Prelude.{nat_lt, nat_le, option_and_then}
 use Rattle.std.proofs.lemmas.Bool.Decides.{nat_tests}
-use Rattle.cet_book.specs.Change.{Change, Called, Returned, Raised, Acquired, Released, Claimed, Seeded, Born, Pushed, Popped, Ended, Busied, Freed}
+use Rattle.cet_words.specs.Change.{Change, Called, Returned, Raised, Acquired, Released, Claimed, Seeded, Born, Pushed, Popped, Ended, Busied, Freed}
 use Rattle.cet_book.specs.Book.{Entry, Call, Restorer, Frame, Previous, Blank, Maker, Parked, Lost, Region, Book, region, capacity, is_maker, current_of, parked_at, starting_at, held_by, stack_of, holds_stack, is_free, with_current, relist, unlink, called, returned, raised, acquired, released, claim, can_claim, claimed, seeded, born, pushed, popped, ended, busied, freed, book_after, books_after}
 use Rattle.cet_book.specs.Shape.{Bounds, links, Shape, StackShape, IsBook}
 use Rattle.cet_book.specs.Edits.{Owned, owned, owned_there}

@@ -4,7 +4,7 @@ use Rattle.std.specs.Prelude.{nat_lt, nat_le}
 use Rattle.std.proofs.lemmas.Bool.{false≢true}
 use Rattle.std.proofs.lemmas.Bool.Decides.{nat_tests}
 use Rattle.std.proofs.lemmas.List.Sums.{position_or_len_is}
-use Rattle.cet_book.specs.Change.{Called, Returned, Raised, Acquired, Released, Claimed, Seeded, Born, Pushed, Popped, Ended, Busied, Freed}
+use Rattle.cet_words.specs.Change.{Called, Returned, Raised, Acquired, Released, Claimed, Seeded, Born, Pushed, Popped, Ended, Busied, Freed}
 use Rattle.cet_book.specs.Book.{Entry, Call, Restorer, Frame, Previous, Blank, Holder, Maker, Current, Parked, Lost, Region, Book, nowhere, region, capacity, top, is_maker, has_token, current_of, called, pushed, ended, popped, returned, acquired, parked_at, starting_at, held_by, stack_of, put_stack, is_free, with_current, relist, unlink, acquire, raised, released, claim, book_after}
 use Rattle.cet_book.specs.Shape.{is_previous, Shape}
 use Rattle.cet_book.specs.Edits.{Owned, owned_there, is_there}

@@ -1,32 +1,17 @@
 -- Words and book in step. Source: own.
-use Rattle.std.specs.Prelude.{◌≡◌, ◌≢◌, ℕ, ◌+◌, ◌-◌, ◌*◌, ◌<◌, ◌≤◌, ◌⊎◌, List, [], ◌∷◌, length, slice_index, Option, Some, None}
+use Rattle.std.specs.Prelude.{◌≡◌, ◌≢◌, ℕ, ◌+◌, ◌-◌, ◌*◌, ◌<◌, ◌≤◌, ◌⊎◌, List, length, slice_index, Option, Some, None}
 use Rattle.cet_words.specs.Job.{ImageData}
 use Rattle.cet_words.specs.Layout.{entry_word, entry_of}
-use Rattle.cet_book.specs.Book.{Entry, Call, Restorer, Frame, Previous, Blank, Book, Region, region, top, stack_of}
+use Rattle.cet_book.specs.Book.{Book, Region, region, top, stack_of}
 use Rattle.cet_book.specs.Shape.{IsBook}
+use Rattle.cet_book.specs.Addresses.{Returns}
 use Rattle.cet_book.specs.Stack.{Stack, tops}
 use Rattle.cet_cpu.specs.Gate.{token, token_word}
-
--- an address that follows an instruction of the image
-pub record IsBack (back : ℕ) : Type 0 where
-  pub low : 0x400000 ≤ back
-  pub high : back ≤ 0x800000
-
-abbrev pub HasBack : Entry → Type 0
-HasBack (Call back) = IsBack back
-HasBack (Restorer back) = IsBack back
-HasBack Frame = Unit {0}
-HasBack (Previous s) = Unit {0}
-HasBack Blank = Unit {0}
-
-abbrev pub Backs : List Entry → Type 0
-Backs [] = Unit {0}
-Backs (e ∷ es) = HasBack e × Backs es
 
 -- the facts on the book alone
 pub record Sound (b : Book) : Type 0 where
   pub book : IsBook b
-  pub backs : (i : ℕ) → Backs (region b i).entries
+  pub returns : Returns b
 
 -- an address of a region
 pub record In (r : Region) (addr : ℕ) : Type 0 where

@@ -7,3 +7,4 @@ pub mod Standing
 pub mod Writes
 pub mod Kept
 pub mod Own
+pub mod Classes

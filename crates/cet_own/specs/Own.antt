@@ -3,14 +3,14 @@ use Rattle.std.proofs.Common.{◌≡◌, ◌≢◌, ℕ, suc, ◌+◌, ◌-◌, 
 use Rattle.std.specs.Prelude.{slice_set}
 use Rattle.cet_words.specs.Job.{ImageData}
 use Rattle.cet_book.specs.Book.{Entry, Call, Holder, Current, Left, Lost, Previous, Book, Region, region, top, current_of, relist, unlink}
-use Rattle.cet_book.specs.Shape.{is_previous, links, IsBook}
+use Rattle.cet_book.specs.Shape.{links}
 use Rattle.cet_book.specs.Edits.{Owned, owned_there}
 use Rattle.cet_book.specs.Acquire.{unlinked}
 use Rattle.cet_book.specs.Relist.{relist_all, relist_same, relist_other, relist_here, relist_holder, relist_current}
 use Rattle.cet_book.specs.Unlink.{Gone, lost, Linked, linked_left, unlink_all, unlink_same, unlink_top, unlink_other, unlink_current}
 use Rattle.cet_book.specs.Removes.{Removal, plain, linked}
 use Rattle.cet_book.specs.Stack.{slot, slot_word, Stack, tops}
-use Rattle.cet_own.specs.Holds.{Sound, IsBack, Backs, HasBack, In, Holds}
+use Rattle.cet_own.specs.Holds.{Sound, In, Holds}
 use Rattle.cet_own.specs.Writes.{Place, in_place, list_kept, list_free, slot_same}
 use Rattle.cet_own.specs.Kept.{size_kept, pages_out, pages_same, gates_out, gates_same}
 
@@ -34,8 +34,8 @@ below_top {m = m} {b = b} o room =
 
 module _ (image : ImageData) (words : List ℕ) {t m : ℕ} {b : Book} (o : Owned t m b) (back : ℕ) where
   -- a return address is stored below the top, and is the newest entry
-  pub holds_push : (region b m).start + 8 ≤ top (region b m) → IsBack back → IsBook (relist m (Call back ∷ (region b m).entries) b) → Holds image words b → Holds image (slice_set words (slot (top (region b m) - 8)) back) (relist m (Call back ∷ (region b m).entries) b)
-  holds_push room is_back book h =
+  pub holds_push : (region b m).start + 8 ≤ top (region b m) → Sound (relist m (Call back ∷ (region b m).entries) b) → Holds image words b → Holds image (slice_set words (slot (top (region b m) - 8)) back) (relist m (Call back ∷ (region b m).entries) b)
+  holds_push room sound h =
       let es : List Entry = Call back ∷ (region b m).entries in
       let next = relist m (Call back ∷ (region b m).entries) b in
       let p = top (region b m) - 8 in
@@ -50,10 +50,7 @@ module _ (image : ImageData) (words : List ℕ) {t m : ℕ} {b : Book} (o : Owne
       let up : top (region b m) ≡ top (region b m) - 8 + 8 = omega arith in
       record {
         size = size_kept words (slot (top (region b m) - 8)) back h.size;
-        sound = record {
-          book = book;
-          backs = relist_all o (Call back ∷ (region b m).entries) (λ i r. Backs r.entries) (is_back, h.sound.backs m) (λ i n. h.sound.backs i);
-        };
+        sound = sound;
         stacks = relist_all o (Call back ∷ (region b m).entries)
             (λ i r. Stack (slice_set words (slot (top (region b m) - 8)) back) (tops (relist m (Call back ∷ (region b m).entries) b)) (top r) r.entries)
             (subst (λ a. Stack (slice_set words (slot (top (region b m) - 8)) back) (tops (relist m (Call back ∷ (region b m).entries) b)) a (Call back ∷ (region b m).entries)) (sym now)
@@ -74,33 +71,30 @@ tail_of words f end e es l is room h =
     let up : end - 8 * length l + 8 ≡ end - 8 * length es = omega arith in
     subst (λ a. Stack words f a es) up s.1
 
-backs_tail : (e : Entry) (es l : List Entry) → l ≡ e ∷ es → Backs l → Backs es
-backs_tail e es l is h = let s : Backs (e ∷ es) = subst Backs is h in s.1
-
 -- the newest entry goes, and no word is written
-pub holds_pop : (image : ImageData) (words : List ℕ) {t m : ℕ} {b next : Book} → Owned t m b → Removal t m b next → IsBook next → Holds image words b → Holds image words next
-holds_pop image words {m = m} {b = b} {next = next} o (plain e es list not_link is) book h =
-    subst (λ n. IsBook n → Holds image words n) is (λ book'.
+pub holds_pop : (image : ImageData) (words : List ℕ) {t m : ℕ} {b next : Book} → Owned t m b → Removal t m b next → Sound next → Holds image words b → Holds image words next
+holds_pop image words {m = m} {b = b} {next = next} o (plain e es list not_link is) sound h =
+    subst (λ n. Sound n → Holds image words n) is (λ sound'.
     let same : (s : ℕ) → s ≢ m → tops (relist m es b) s ≡ tops b s = λ s n. ap (λ (r : Region). top r) (relist_other o es s n) in
     let old : (i : ℕ) → Stack words (tops (relist m es b)) (top (region b i)) (region b i).entries = λ i. list_kept words words b (relist m es b) m i o.shape (none_leads o) same (λ a lo hi even. refl) (h.stacks i) in
     let room = (o.shape.fits m).room in
     record {
       size = h.size;
-      sound = record { book = book'; backs = relist_all o es (λ i r. Backs r.entries) (backs_tail e es (region b m).entries list (h.sound.backs m)) (λ i n. h.sound.backs i) };
+      sound = sound';
       stacks = relist_all o es (λ i r. Stack words (tops (relist m es b)) (top r) r.entries)
           (tail_of words (tops (relist m es b)) (region b m).end e es (region b m).entries list (omega arith) (old m)) (λ i n. old i);
       pages = pages_same image words b (relist m es b) (relist_same o es) h.pages;
       gates = gates_same words b (relist m es b) refl h.gates;
-    }) book
-holds_pop image words {m = m} {b = b} {next = next} o (linked s es l is) book h =
-    subst (λ n. IsBook n → Holds image words n) is (λ book'.
+    }) sound
+holds_pop image words {m = m} {b = b} {next = next} o (linked s es l is) sound h =
+    subst (λ n. Sound n → Holds image words n) is (λ sound'.
     let old : (i : ℕ) → Stack words (tops (unlink m s es Lost b)) (top (region b i)) (region b i).entries = λ i. list_kept words words b (unlink m s es Lost b) m i o.shape (none_leads o) (unlink_top l Lost) (λ a lo hi even. refl) (h.stacks i) in
     let room = (o.shape.fits m).room in
     record {
       size = h.size;
-      sound = record { book = book'; backs = unlink_all l Lost (λ i r. Backs r.entries) (h.sound.backs s) (backs_tail (Previous s) es (region b m).entries l.entries (h.sound.backs m)) (λ i n n'. h.sound.backs i) };
+      sound = sound';
       stacks = unlink_all l Lost (λ i r. Stack words (tops (unlink m s es Lost b)) (top r) r.entries) (old s)
           (tail_of words (tops (unlink m s es Lost b)) (region b m).end (Previous s) es (region b m).entries l.entries (omega arith) (old m)) (λ i n n'. old i);
       pages = pages_same image words b (unlink m s es Lost b) (unlink_same l Lost) h.pages;
       gates = gates_same words b (unlink m s es Lost b) refl h.gates;
-    }) book
+    }) sound
