@@ -8,3 +8,6 @@ pub mod Writes
 pub mod Kept
 pub mod Own
 pub mod Classes
+pub mod Laws
+pub mod Keeps
+pub mod Held
