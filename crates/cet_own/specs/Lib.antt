@@ -11,3 +11,5 @@ pub mod Classes
 pub mod Laws
 pub mod Keeps
 pub mod Held
+pub mod Places
+pub mod Parts
