@@ -41,7 +41,7 @@ held_taken t k b inside free j =
     ]
 
 -- the one stack of the thread was given back
-held_given : (t k : ℕ) (b : Book) → k < length b.stacks → StackShape b.stacks → stack_of b k ≡ Some t → Held t (put_stack b k None) None
+pub held_given : (t k : ℕ) (b : Book) → k < length b.stacks → StackShape b.stacks → stack_of b k ≡ Some t → Held t (put_stack b k None) None
 held_given t k b inside s held j =
     let at = stack_of-put_stack b k j None inside in
     ( λ e. cc

@@ -13,3 +13,4 @@ pub mod Keeps
 pub mod Held
 pub mod Places
 pub mod Parts
+pub mod GateParts
