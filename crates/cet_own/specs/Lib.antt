@@ -14,3 +14,4 @@ pub mod Held
 pub mod Places
 pub mod Parts
 pub mod GateParts
+pub mod Calls

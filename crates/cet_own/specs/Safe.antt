@@ -1,5 +1,5 @@
 -- What every run promises of shadow stacks. Source: Intel SDM volume 1 (CET shadow stacks) for returns; own for the book.
-use Rattle.std.specs.Prelude.{◌≡◌, ◌≢◌, ℕ, ◌<◌, ◌⊎◌, ◌↔◌, List, [], ◌∷◌, length, Option, Some, None, slice_get}
+use Rattle.std.specs.Prelude.{◌≡◌, ◌≢◌, ℕ, ◌<◌, ◌↔◌, List, [], ◌∷◌, length, Option, Some, None, slice_get}
 use Rattle.std.specs.Prelude.{IsTrue}
 use Rattle.cet_words.specs.Access.{answer}
 use Rattle.cet_words.specs.Bytes.{code_byte}
@@ -43,9 +43,9 @@ IsReturnFault Pf code = Unit {0}
 IsReturnFault Ac code = Unit {0}
 IsReturnFault Cp code = code ≡ 1
 
--- the bytes at RIP are a near return
+-- the bytes at RIP are a near return; one with an immediate isn't built, and is an invalid opcode
 abbrev pub is_return : Decoding → Type 0
-is_return (Read i len) = (i ≡ instr.Ret) ⊎ ((bytes : ℕ) × (i ≡ instr.RetImm bytes))
+is_return (Read i len) = i ≡ instr.Ret
 is_return Short = ⊥
 is_return Unknown = ⊥
 
