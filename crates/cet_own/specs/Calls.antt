@@ -72,27 +72,31 @@ module _ (job : JobData) (arch : Arch) where
   push_claim : (before s : State) (target sp word back : ℕ) → AtRest arch.number s.book arch.ssp → word ≡ slot (arch.ssp - 8) → (region s.book (current_of arch.number s.book)).start + 8 ≤ top (region s.book (current_of arch.number s.book)) → IsReturn back → Claim job arch (EndsRow job arch) before s (store_as (Called back ∷ []) word back >>= (λ _. done (called arch target sp (below arch.ssp 8))))
   unfolding store_as
   push_claim before s target sp word back rest w room is_return =
-      claim_bind job arch (EndsRow job arch) before s (store_as (Called back ∷ []) word back) _
-      ( rest.stacked
-      , λ now r known.
-        let rest' = rest_kept r rest in
-        let has = rest'.stacked.top.has in
-        let at = rest'.stacked.top.at in
-        let low = rest'.stacked.low in
-        let high = rest'.stacked.high in
-        let o : Owned arch.number (current_of arch.number now.book) now.book = owned arch.number now.book known.sound.book.shape has in
-        let same = own_kept arch.number s.book now.book r rest.stacked.top.has in
-        let room' : (region now.book (current_of arch.number now.book)).start + 8 ≤ top (region now.book (current_of arch.number now.book)) = rw same room in
-        let fits = (known.sound.book.shape.fits (current_of arch.number now.book)).room in
-        let way = called_way o back (omega arith) in
-        let sh = (book_kept arch.number (Called back) now.book (relist (current_of arch.number now.book) (Call back ∷ (region now.book (current_of arch.number now.book)).entries) now.book) known.sound.book way).book.shape in
-        let is : below arch.ssp 8 ≡ arch.ssp - 8 = below_is arch.ssp low high in
-        let top' = relist_top o (Call back ∷ (region now.book (current_of arch.number now.book)).entries) sh (below arch.ssp 8) (omega arith) in
-        ( pushes (current_of arch.number now.book) back o.current (ap (λ n. access.Store n back) (w ∙ ap (λ n. slot (n - 8)) at)) room' is_return refl
-        , record now { book = relist (current_of arch.number now.book) (Call back ∷ (region now.book (current_of arch.number now.book)).entries) now.book }
-        , one_after arch.number now (relist (current_of arch.number now.book) (Call back ∷ (region now.book (current_of arch.number now.book)).entries) now.book) (Called back) way
-        , ( record { stacked = stacked arch.number (relist (current_of arch.number now.book) (Call back ∷ (region now.book (current_of arch.number now.book)).entries) now.book) (below arch.ssp 8) sh top'; free = rest'.free }
-          , λ held later. tt ) ) )
+      claim_bind job arch (EndsRow job arch) before s (store_as (Called back ∷ []) word back) _ (
+        rest.stacked,
+        λ now r known.
+            let rest' = rest_kept r rest in
+            let has = rest'.stacked.top.has in
+            let at = rest'.stacked.top.at in
+            let low = rest'.stacked.low in
+            let high = rest'.stacked.high in
+            let o : Owned arch.number (current_of arch.number now.book) now.book = owned arch.number now.book known.sound.book.shape has in
+            let same = own_kept arch.number s.book now.book r rest.stacked.top.has in
+            let room' : (region now.book (current_of arch.number now.book)).start + 8 ≤ top (region now.book (current_of arch.number now.book)) = rw same room in
+            let fits = (known.sound.book.shape.fits (current_of arch.number now.book)).room in
+            let way = called_way o back (omega arith) in
+            let sh = (book_kept arch.number (Called back) now.book (relist (current_of arch.number now.book) (Call back ∷ (region now.book (current_of arch.number now.book)).entries) now.book) known.sound.book way).book.shape in
+            let is : below arch.ssp 8 ≡ arch.ssp - 8 = below_is arch.ssp low high in
+            let top' = relist_top o (Call back ∷ (region now.book (current_of arch.number now.book)).entries) sh (below arch.ssp 8) (omega arith) in (
+              pushes (current_of arch.number now.book) back o.current (ap (λ n. access.Store n back) (w ∙ ap (λ n. slot (n - 8)) at)) room' is_return refl,
+              record now { book = relist (current_of arch.number now.book) (Call back ∷ (region now.book (current_of arch.number now.book)).entries) now.book },
+              one_after arch.number now (relist (current_of arch.number now.book) (Call back ∷ (region now.book (current_of arch.number now.book)).entries) now.book) (Called back) way,
+              (
+                record { stacked = stacked arch.number (relist (current_of arch.number now.book) (Call back ∷ (region now.book (current_of arch.number now.book)).entries) now.book) (below arch.ssp 8) sh top'; free = rest'.free },
+                λ held later. tt,
+              ),
+            ),
+      )
 
   pub call_claim : (before s : State) (back target : ℕ) → AtRest arch.number s.book arch.ssp → IsReturn back → Claim job arch (EndsRow job arch) before s (call arch back target)
   unfolding call
@@ -108,7 +112,7 @@ module _ (job : JobData) (arch : Arch) where
       let rest2 = rest_kept r2 rest1 in
       let at = rest2.stacked.top.at in
       let room = room_below now2.book (current_of arch.number now2.book) i known.sound.book.shape rest2.stacked.top.has
-        (subst (In (region now2.book i)) (is ∙ ap (λ n. n - 8) at) inn) in
+      (subst (In (region now2.book i)) (is ∙ ap (λ n. n - 8) at) inn) in
       store_then job arch (EndsRow job arch) now2 now2 (word_in page (below (rsp arch) 8)) back _ (page_word page (below (rsp arch) 8) p) rest2.stacked (λ now3 r3.
       let rest3 = rest_kept r3 rest2 in
       let same = own_kept arch.number now2.book now3.book r3 rest2.stacked.top.has in

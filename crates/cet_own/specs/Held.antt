@@ -43,12 +43,13 @@ held_taken t k b inside free j =
 -- the one stack of the thread was given back
 pub held_given : (t k : ℕ) (b : Book) → k < length b.stacks → StackShape b.stacks → stack_of b k ≡ Some t → Held t (put_stack b k None) None
 held_given t k b inside s held j =
-    let at = stack_of-put_stack b k j None inside in
-    ( λ e. cc
-    , λ e. elim (eqb_tells j k) [
-      | inl u ↦ absurd (let none = rw u.0 at at in cc)
-      | inr u ↦ absurd (u.1 (s.alone t j k (sym (rw u.0 at at) ∙ e) held))
-    ] )
+    let at = stack_of-put_stack b k j None inside in (
+      λ e. cc,
+      λ e. elim (eqb_tells j k) [
+        | inl u ↦ absurd (let none = rw u.0 at at in cc)
+        | inr u ↦ absurd (u.1 (s.alone t j k (sym (rw u.0 at at) ∙ e) held))
+      ],
+    )
 
 held_refused : (k value v : ℕ) (held : Option ℕ) → v ≢ token k → held_after k (access.CompareExchange (token_word k) (token k) value) v held ≡ held
 held_refused k value v held n =

@@ -15,3 +15,5 @@ pub mod Places
 pub mod Parts
 pub mod GateParts
 pub mod Calls
+pub mod Returns
+pub mod Rows

@@ -44,8 +44,8 @@ module _ (image : ImageData) (words : List ℕ) {t m : ℕ} {b : Book} (o : Owne
       let high = at.place.high in
       let same : (s : ℕ) → s ≢ m → tops (relist m (Call back ∷ (region b m).entries) b) s ≡ tops b s = λ s n. ap (λ (r : Region). top r) (relist_other o (Call back ∷ (region b m).entries) s n) in
       let old : (i : ℕ) → Stack (slice_set words (slot (top (region b m) - 8)) back) (tops (relist m (Call back ∷ (region b m).entries) b)) (top (region b i)) (region b i).entries = λ i.
-          list_kept words (slice_set words (slot (top (region b m) - 8)) back) b (relist m (Call back ∷ (region b m).entries) b) m i o.shape (none_leads o) same
-          (λ a lo hi even. list_free words b (top (region b m) - 8) back m i a o.shape at.place at.inside (omega arith) lo hi even) (h.stacks i) in
+      list_kept words (slice_set words (slot (top (region b m) - 8)) back) b (relist m (Call back ∷ (region b m).entries) b) m i o.shape (none_leads o) same
+      (λ a lo hi even. list_free words b (top (region b m) - 8) back m i a o.shape at.place at.inside (omega arith) lo hi even) (h.stacks i) in
       let now : (region b m).end - 8 * length (Call back ∷ (region b m).entries) ≡ top (region b m) - 8 = omega arith in
       let up : top (region b m) ≡ top (region b m) - 8 + 8 = omega arith in
       record {
@@ -53,9 +53,10 @@ module _ (image : ImageData) (words : List ℕ) {t m : ℕ} {b : Book} (o : Owne
         sound = sound;
         stacks = relist_all o (Call back ∷ (region b m).entries)
             (λ i r. Stack (slice_set words (slot (top (region b m) - 8)) back) (tops (relist m (Call back ∷ (region b m).entries) b)) (top r) r.entries)
-            (subst (λ a. Stack (slice_set words (slot (top (region b m) - 8)) back) (tops (relist m (Call back ∷ (region b m).entries) b)) a (Call back ∷ (region b m).entries)) (sym now)
-            ( slot_same words (top (region b m) - 8) back h.size at.place
-            , subst (λ a. Stack (slice_set words (slot (top (region b m) - 8)) back) (tops (relist m (Call back ∷ (region b m).entries) b)) a (region b m).entries) up (old m) ))
+            (subst (λ a. Stack (slice_set words (slot (top (region b m) - 8)) back) (tops (relist m (Call back ∷ (region b m).entries) b)) a (Call back ∷ (region b m).entries)) (sym now) (
+              slot_same words (top (region b m) - 8) back h.size at.place,
+              subst (λ a. Stack (slice_set words (slot (top (region b m) - 8)) back) (tops (relist m (Call back ∷ (region b m).entries) b)) a (region b m).entries) up (old m),
+            ))
             (λ i n. old i);
         pages = pages_same image (slice_set words (slot (top (region b m) - 8)) back) b (relist m (Call back ∷ (region b m).entries) b) (relist_same o (Call back ∷ (region b m).entries))
             (pages_out image words b (slot (top (region b m) - 8)) back (omega arith) h.pages);

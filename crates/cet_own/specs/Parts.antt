@@ -54,20 +54,22 @@ module _ (job : JobData) (arch : Arch) where
       claim_bind Q before s (tested addr size) f
       (claim_cond (λ z n x. Claim job arch Q z n (f x)) before s (canonical addr) _ _
       (λ c. claim_cond (λ z n x. Claim job arch Q z n (f x)) before s (addr % size == 0) (done tt) (fault (misaligned addr))
-        (λ e. h c (eqb-true (addr % size) 0 e)) (λ _. (rest, λ _. tt)))
+      (λ e. h c (eqb-true (addr % size) 0 e)) (λ _. (rest, λ _. tt)))
       (λ _. (rest, λ _. tt)))
 
   look_at : {A : Type 0} (Q : State → State → A → Type 0) (before s : State) (at : Option ℕ) (w : Who) (kd : Kind) (addr : ℕ) (f : ℕ → Script A) → AtRest arch.number s.book arch.ssp → ((now : State) → Relies arch.number s.book now.book → (page v : ℕ) → at ≡ Some page → Known job.image arch.number now.book (access.Look page) v → allows v kd w ≡ true → Claim job arch Q now now (f page)) → Claim job arch (λ z n x. Claim job arch Q z n (f x)) before s (look_in at kd w addr)
   unfolding look_in
   look_at Q before s None w kd addr f rest h = (rest, λ _. tt)
-  look_at Q before s (Some page) w kd addr f rest h =
-      ( rest.stacked
-      , λ now r v known.
-        ( looks page refl refl
-        , now
-        , refl
-        , claim_cond (λ z n x. Claim job arch Q z n (f x)) now now (allows v kd w) (done page) (fault (page_fault v kd w addr))
-          (λ a. h now r page v refl known a) (λ _. (rest_kept r rest, λ _. tt)) ) )
+  look_at Q before s (Some page) w kd addr f rest h = (
+    rest.stacked,
+    λ now r v known. (
+      looks page refl refl,
+      now,
+      refl,
+      claim_cond (λ z n x. Claim job arch Q z n (f x)) now now (allows v kd w) (done page) (fault (page_fault v kd w addr))
+          (λ a. h now r page v refl known a) (λ _. (rest_kept r rest, λ _. tt)),
+    ),
+  )
 
   -- a look, with what it found
   pub look_then : {A : Type 0} (Q : State → State → A → Type 0) (before s : State) (w : Who) (kd : Kind) (addr : ℕ) (f : ℕ → Script A) → AtRest arch.number s.book arch.ssp → ((now : State) → Relies arch.number s.book now.book → (page v : ℕ) → page_at addr ≡ Some page → Known job.image arch.number now.book (access.Look page) v → allows v kd w ≡ true → Claim job arch Q now now (f page)) → Claim job arch Q before s (look w kd addr >>= f)
@@ -83,10 +85,10 @@ module _ (job : JobData) (arch : Arch) where
   pub shadow_look_then : {A : Type 0} (Q : State → State → A → Type 0) (before s : State) (kd : Kind) (addr : ℕ) (f : ℕ → Script A) → 0x200000000 ≤ addr → addr < 0x200400000 → AtRest arch.number s.book arch.ssp → ((now : State) → (r : Relies arch.number s.book now.book) → (v : ℕ) → Known job.image arch.number now.book (access.Look (2112 + (addr - 0x200000000) / 4096)) v → (i : ℕ) → In (region now.book i) addr → Claim job arch Q now now (f (2112 + (addr - 0x200000000) / 4096))) → Claim job arch Q before s (look User kd addr >>= f)
   shadow_look_then Q before s kd addr f low high rest h =
       look_then Q before s User kd addr f rest (λ now r page v at known a.
-        let is : 2112 + (addr - 0x200000000) / 4096 ≡ page = (let e = shadow_page addr low high in cc) in
-        let known' = subst (λ p. Known job.image arch.number now.book (access.Look p) v) (sym is) known in
-        let lies = known'.look (2112 + (addr - 0x200000000) / 4096) refl (omega arith) (omega arith) (entry_there kd v a) in
-        subst (λ p. Claim job arch Q now now (f p)) is (h now r v known' lies.0 (in_page now.book lies.0 addr low high lies.1)))
+      let is : 2112 + (addr - 0x200000000) / 4096 ≡ page = (let e = shadow_page addr low high in cc) in
+      let known' = subst (λ p. Known job.image arch.number now.book (access.Look p) v) (sym is) known in
+      let lies = known'.look (2112 + (addr - 0x200000000) / 4096) refl (omega arith) (omega arith) (entry_there kd v a) in
+      subst (λ p. Claim job arch Q now now (f p)) is (h now r v known' lies.0 (in_page now.book lies.0 addr low high lies.1)))
 
   pub peek_then : {A : Type 0} (Q : State → State → A → Type 0) (before s : State) (page : ℕ) (f : ℕ → Script A) → Stacked arch.number s.book arch.ssp → ((now : State) → Relies arch.number s.book now.book → (v : ℕ) → Claim job arch Q now now (f v)) → Claim job arch Q before s (peek page >>= f)
   unfolding peek
@@ -111,6 +113,7 @@ module _ (job : JobData) (arch : Arch) where
   pub clears_claim : (k : ℕ) (Q : State → State → Unit {0} → Type 0) (before s : State) (count page : ℕ) → 2112 ≤ page → page + count ≤ 3136 → Inside arch.number k s.book arch.ssp → ((z n : State) → Inside arch.number k n.book arch.ssp → Q z n tt) → Claim job arch Q before s (clears count page)
   unfolding clears
   clears_claim k Q before s zero page lo hi inside h = h before s inside
-  clears_claim k Q before s (suc count) page lo hi inside h =
-      ( inside.stacked
-      , λ now r known. (cleared page refl lo (omega arith) refl, now, refl, clears_claim k Q now now count (page + 1) (omega arith) (omega arith) (inside_kept r inside) h) )
+  clears_claim k Q before s (suc count) page lo hi inside h = (
+    inside.stacked,
+    λ now r known. (cleared page refl lo (omega arith) refl, now, refl, clears_claim k Q now now count (page + 1) (omega arith) (omega arith) (inside_kept r inside) h),
+  )

@@ -52,7 +52,7 @@ high_entry image page l =
 pub store_page : (image : ImageData) (page v : ℕ) → IsEntry image page v → allows v kind.Store User ≡ true → page < 2112
 store_page image page v (inl z) a = absurd (false≢true (sym (ap (λ n. allows n kind.Store User) z) ∙ a))
 store_page image page v (inr e) a = elim (cases_lt page 2112) [
-    inl l ↦ l
+  | inl l ↦ l
   | inr g ↦ absurd (false≢true (sym (high_entry image page g) ∙ sym (ap (λ n. allows n kind.Store User) e) ∙ a))
 ]
 
@@ -87,7 +87,7 @@ in_page b i addr low high l =
 -- at the top there is an entry
 pub entry_at : (b : Book) (m i : ℕ) → Shape b → m < length b.regions → In (region b i) (top (region b m)) → 1 ≤ length (region b m).entries
 entry_at b m i h l inn = elim (cases_lt 0 (length (region b m).entries)) [
-    inl g ↦ omega arith
+  | inl g ↦ omega arith
   | inr g ↦ absurd (
       let li = in_there b i (top (region b m)) inn in
       let full = (h.bounds m l).full in

@@ -12,7 +12,7 @@ use Rattle.cet_own.specs.Holds.{In}
 -- a region with an address is one of the book's
 pub in_there : (b : Book) (i a : ℕ) → In (region b i) a → i < length b.regions
 in_there b i a h = elim (cases_lt i (length b.regions)) [
-    inl l ↦ l
+  | inl l ↦ l
   | inr g ↦ absurd (let e : (region b i).end ≡ 0 = ap (λ (r : Region). r.end) (get_or_past b.regions i nowhere g) in let l = h.high in omega arith)
 ]
 
@@ -32,7 +32,7 @@ in_one b i j a s x y =
 
 pub top_even : (b : Book) (i : ℕ) → Shape b → top (region b i) % 8 ≡ 0
 top_even b i s = elim (cases_lt i (length b.regions)) [
-    inl l ↦ let e = (s.bounds i l).last in let o = (s.fits i).room in omega arith
+  | inl l ↦ let e = (s.bounds i l).last in let o = (s.fits i).room in omega arith
   | inr g ↦ ap (λ (r : Region). top r % 8) (get_or_past b.regions i nowhere g)
 ]
 
@@ -46,9 +46,10 @@ word_of_same f g a Blank h = refl
 -- a list stands in other words and by other tops, where its words and the tops that it names are as they were
 pub stack_agrees : (words words' : List ℕ) (f g : ℕ → ℕ) (a : ℕ) (es : List Entry) → a % 8 ≡ 0 → ((x : ℕ) → a ≤ x → x < a + 8 * length es → x % 8 ≡ 0 → slot_word words' x ≡ slot_word words x) → ((s : ℕ) → links s es ≢ 0 → g s ≡ f s) → Stack words f a es → Stack words' g a es
 stack_agrees words words' f g a [] even w t h = tt
-stack_agrees words words' f g a (e ∷ es) even w t h =
-    ( w a (omega arith) (omega arith) even ∙ h.0 ∙ sym (word_of_same f g a e (λ s p. t s (let q : one (is_previous s e) ≡ 1 = rw p refl in omega arith)))
-    , stack_agrees words words' f g (a + 8) es (omega arith) (λ x l u n. w x (omega arith) (omega arith) n) (λ s n. t s (omega arith)) h.1 )
+stack_agrees words words' f g a (e ∷ es) even w t h = (
+  w a (omega arith) (omega arith) even ∙ h.0 ∙ sym (word_of_same f g a e (λ s p. t s (let q : one (is_previous s e) ≡ 1 = rw p refl in omega arith))),
+  stack_agrees words words' f g (a + 8) es (omega arith) (λ x l u n. w x (omega arith) (omega arith) n) (λ s n. t s (omega arith)) h.1,
+)
 
 -- The old lists stand by the new tops, where only the top of region m may have changed, and no entry leads to m.
 pub list_kept : (words words' : List ℕ) (b next : Book) (m i : ℕ) → Shape b → ((x : ℕ) → links m (region b x).entries ≡ 0) → ((s : ℕ) → s ≢ m → tops next s ≡ tops b s) → ((a : ℕ) → top (region b i) ≤ a → a < (region b i).end → a % 8 ≡ 0 → slot_word words' a ≡ slot_word words a) → Stack words (tops b) (top (region b i)) (region b i).entries → Stack words' (tops next) (top (region b i)) (region b i).entries
