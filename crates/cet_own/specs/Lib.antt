@@ -17,3 +17,4 @@ pub mod GateParts
 pub mod Calls
 pub mod Returns
 pub mod Rows
+pub mod Stands
