@@ -18,3 +18,6 @@ pub mod Calls
 pub mod Returns
 pub mod Rows
 pub mod Stands
+pub mod Turn
+pub mod First
+pub mod Turns

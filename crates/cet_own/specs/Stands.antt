@@ -91,7 +91,7 @@ recorded_stands job next s false j rest w = record { waits = w; number = refl; b
 abbrev pub left_by : JobData → Arch → Option ℕ → Seen → Came Finish → Option Core → After
 left_by job arch held seen c child = record { core = core_by job arch held seen c; noted = noted_by arch c; child = child }
 
-came_stands : (job : JobData) (core : Core) (held : Option ℕ) (seen : Seen) (before s : State) (child : Option Core) (c : Came Finish) → IsJob job → Left job (unheld core.arch) before s seen → OnCame (rules job core.arch.number) (During (unheld core.arch)) (Ends job (unheld core.arch)) (Fails job (unheld core.arch)) before s c → IsCore job (core_by job core.arch held seen c) → CoreStands job core.arch.number s (core_by job core.arch held seen c) (core_by job core.arch held seen c).over × NotedReturns job (entries_of core.arch.number before.book) core (left_by job core.arch held seen c child) (noted_by core.arch c)
+pub came_stands : (job : JobData) (core : Core) (held : Option ℕ) (seen : Seen) (before s : State) (child : Option Core) (c : Came Finish) → IsJob job → Left job (unheld core.arch) before s seen → OnCame (rules job core.arch.number) (During (unheld core.arch)) (Ends job (unheld core.arch)) (Fails job (unheld core.arch)) before s c → IsCore job (core_by job core.arch held seen c) → CoreStands job core.arch.number s (core_by job core.arch held seen c) (core_by job core.arch held seen c).over × NotedReturns job (entries_of core.arch.number before.book) core (left_by job core.arch held seen c child) (noted_by core.arch c)
 came_stands job core held seen before s child (Wants a) j l o w = (record { waits = w; number = refl; before = before; left = l }, tt)
 came_stands job core held seen before s child (Faulted e) j l o w =
     (recorded_stands job (kept_by core.arch held (faulted core.arch e)) s (core.arch.count + 1 == job.limit) j o.0 w, λ r. (o.1 r, refl))
@@ -101,6 +101,6 @@ came_stands job core held seen before s child (Over (Posted next) left values) j
 came_stands job core held seen before s child (Over (Exited next r status) left values) j l o w = (o.0, o.1 core.arch.held held)
 came_stands job core held seen before s child (Over Stopped left values) j l o w = (o, tt)
 
-after_book : (t : ℕ) (s next : State) (o : Option Book) → option_map (λ b. record s { book = b }) o ≡ Some next → o ≡ Some next.book
+pub after_book : (t : ℕ) (s next : State) (o : Option Book) → option_map (λ b. record s { book = b }) o ≡ Some next → o ≡ Some next.book
 after_book t s next None e = cc
 after_book t s next (Some b) e = let same : record s { book = b } ≡ next = cc in ap (λ (x : State). Some x.book) same

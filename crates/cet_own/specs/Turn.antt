@@ -1,0 +1,108 @@
+-- One access of a thread keeps where all threads stand. Source: own.
+use Rattle.std.proofs.Common.{add-one, ◌≡◌, ◌≢◌, ℕ, zero, suc, ◌+◌, ◌<◌, ◌≤◌, inl, inr, Bool, true, false, cond, List, [], ◌∷◌, length, Option, Some, None, refl, sym, ◌∙◌, ap, subst, arith, eqb, get_or, set, length-set, get_or-set_same, get_or-set_other}
+use Rattle.std.specs.Prelude.{slice_get, slice_set}
+use Rattle.std.proofs.lemmas.Bool.{cases_lt}
+use Rattle.std.proofs.lemmas.Bool.Decides.{eqb_tells}
+use Rattle.std.proofs.lemmas.Option.{slice_get_past, slice_get_within, slice_get-get_or}
+use Rattle.cet_words.specs.Access.{answer, after}
+use Rattle.cet_words.specs.Job.{JobData, IsJob}
+use Rattle.cet_words.specs.Change.{Change}
+use Rattle.cet_words.specs.declared.accesses.Access.{Access}
+use Rattle.cet_isa.specs.declared.threads.End.{End}
+use Rattle.cet_book.specs.Book.{Book, Holder, Current, region, current_of, books_after}
+use Rattle.cet_book.specs.Relies.{Relies}
+use Rattle.cet_isa.specs.declared.threads.Arch.{Arch}
+use Rattle.cet_cpu.specs.Script.{Came, Over, Faulted, Wants}
+use Rattle.cet_cpu.specs.declared.rows.Finish.{Finish}
+use Rattle.cet_cpu.specs.declared.rows.Finish.TheVariants.{Noted, Posted, Exited, Stopped}
+use Rattle.cet_cpu.specs.Seen.{Seen, seen_after}
+use Rattle.cet_cpu.specs.Row.{row}
+use Rattle.cet_cpu.specs.Core.{Core, After, unheld, come, wanted, access_of, next_access, held_after, core_by, answered, taken, child_of}
+use Rattle.cet_cpu.specs.OrderlyRows.{Ends, orderly_row}
+use Rattle.cet_cpu.specs.Orderly.{Results}
+use Rattle.cet_cpu.specs.Script.{changes_at}
+use Rattle.cet_cpu.specs.Within.{Waits, IsCore, taken_is, no_child}
+use Rattle.cet_cpu.specs.Machine.{Thread, Machine, thread_after, with_child, made_by, act, step_by, step}
+use Rattle.cet_own.specs.Event.{changes_of, access_changes, thread_changes, turn_changes}
+use Rattle.cet_own.specs.Safe.{NotedReturns, AccessReturns, ThreadReturns, TurnReturns}
+use Rattle.cet_own.specs.Frame.{goes, on_came}
+use Rattle.cet_own.specs.Holds.{Holds}
+use Rattle.cet_own.specs.Held.{Held, held_kept}
+use Rattle.cet_own.specs.Classes.{State, Owed, own_stack, rules}
+use Rattle.cet_own.specs.Laws.{known}
+use Rattle.cet_own.specs.Keeps.{keeps, others}
+use Rattle.cet_own.specs.Parts.{During, Fails}
+use Rattle.cet_own.specs.Calls.{entries_of}
+use Rattle.cet_own.specs.Calls as calls
+use Rattle.cet_own.specs.Rows.{stack_below}
+use Rattle.cet_own.specs.Stands.{Left, InRow, CoreStands, ThreadStands, thread_relies, came_stands, after_book}
+
+-- what an access of thread t leads to
+pub record Led (job : JobData) (words : List ℕ) (t : ℕ) (s : State) (core : Core) (a : Access) : Type 0 where
+  pub next : State
+  pub owed : Owed t (own_stack job t) s.book a (answer words a) (changes_of job core (answer words a))
+  pub is : books_after t s.book (changes_of job core (answer words a)) ≡ Some next.book
+  pub holds : Holds job.image (after words a) next.book
+  pub others : (y : ℕ) → t ≢ y → Relies y s.book next.book
+  pub held : Held t next.book (taken job core (answer words a)).core.arch.held
+  pub stands : CoreStands job t next (taken job core (answer words a)).core (taken job core (answer words a)).core.over
+  pub returns : NotedReturns job (entries_of t s.book) core (taken job core (answer words a)) (taken job core (answer words a)).noted
+
+-- the same where the thread's next access is known
+pub record LedBy (job : JobData) (words : List ℕ) (s : State) (core : Core) (a : Access) (left : After) : Type 0 where
+  pub next : State
+  pub owed : Owed core.arch.number (own_stack job core.arch.number) s.book a (answer words a) (changes_of job core (answer words a))
+  pub is : books_after core.arch.number s.book (changes_of job core (answer words a)) ≡ Some next.book
+  pub holds : Holds job.image (after words a) next.book
+  pub others : (y : ℕ) → core.arch.number ≢ y → Relies y s.book next.book
+  pub held : Held core.arch.number next.book left.core.arch.held
+  pub stands : CoreStands job core.arch.number next left.core left.core.over
+  pub returns : NotedReturns job (entries_of core.arch.number s.book) core left left.noted
+
+-- a thread holds what its access left it
+held_by : (job : JobData) (arch : Arch) (held : Option ℕ) (seen : Seen) (c : Came Finish) → (core_by job arch held seen c).arch.held ≡ held
+held_by job arch held seen (Wants a) = refl
+held_by job arch held seen (Faulted e) = refl
+held_by job arch held seen (Over (Noted next r) left values) = refl
+held_by job arch held seen (Over (Posted next) left values) = refl
+held_by job arch held seen (Over (Exited next r status) left values) = refl
+held_by job arch held seen (Over Stopped left values) = refl
+
+led_wants : (job : JobData) (j : IsJob job) (words : List ℕ) (s : State) (core : Core) (a : Access) → Holds job.image words s.book → Held core.arch.number s.book core.arch.held → InRow job core.arch.number s core → come job core.arch core.seen ≡ Wants a → IsCore job (answered job core (answer words a) (Wants a)).core → LedBy job words s core a (answered job core (answer words a) (Wants a))
+led_wants job j words s core a h held r w is_core =
+    let arch = unheld core.arch in
+    let v = answer words a in
+    let seen = seen_after core.seen a (answer words a) in
+    let g = goes (rules job core.arch.number) (During (unheld core.arch)) (calls.Ends job (unheld core.arch)) (Fails job (unheld core.arch)) (Results (Ends (unheld core.arch))) false 4096 31 words r.before s
+        (row job (unheld core.arch)) core.seen.count core.seen.kept a (orderly_row job (unheld core.arch)) r.left w (known job.image core.arch.number words s.book a h) in
+    let is = after_book core.arch.number s g.next (books_after core.arch.number s.book (changes_of job core (answer words a))) g.is in
+    let left : Left job (unheld core.arch) s g.next (seen_after core.seen a (answer words a)) = rw add-one g.left in
+    let came = on_came (rules job core.arch.number) (During (unheld core.arch)) (calls.Ends job (unheld core.arch)) (Fails job (unheld core.arch)) s g.next
+        (row job (unheld core.arch)) (core.seen.count + 1) (seen_after core.seen a (answer words a)).kept left in
+    let k = came_stands job core (held_after (own_stack job core.arch.number) a (answer words a) core.arch.held) (seen_after core.seen a (answer words a)) s g.next
+        (child_of core.arch (changes_of job core (answer words a))) (come job core.arch (seen_after core.seen a (answer words a))) j left came is_core in
+    record {
+      next = g.next;
+      owed = g.owed;
+      is = is;
+      holds = keeps job.image core.arch.number (own_stack job core.arch.number) words s.book g.next.book a (changes_of job core (answer words a)) g.owed is h;
+      others = λ y n. others core.arch.number (own_stack job core.arch.number) y s.book g.next.book a (answer words a) (changes_of job core (answer words a)) n h.sound g.owed is;
+      held = subst (Held core.arch.number g.next.book)
+          (sym (held_by job core.arch (held_after (own_stack job core.arch.number) a (answer words a) core.arch.held) (seen_after core.seen a (answer words a)) (come job core.arch (seen_after core.seen a (answer words a)))))
+          (held_kept job.image core.arch.number (own_stack job core.arch.number) words s.book g.next.book a (changes_of job core (answer words a)) core.arch.held (stack_below job core.arch.number j) g.owed is h held);
+      stands = k.0;
+      returns = k.1;
+    }
+
+led_come : (job : JobData) (j : IsJob job) (words : List ℕ) (s : State) (core : Core) (a : Access) → Holds job.image words s.book → Held core.arch.number s.book core.arch.held → InRow job core.arch.number s core → come job core.arch core.seen ≡ Wants a → LedBy job words s core a (taken job core (answer words a))
+unfolding taken
+led_come job j words s core a h held r w =
+    let is_core : IsCore job (answered job core (answer words a) (Wants a)).core = subst (λ c. IsCore job (answered job core (answer words a) c).core) w (taken_is job core (answer words a) r.waits) in
+    subst (λ c. LedBy job words s core a (answered job core (answer words a) c)) (sym w) (led_wants job j words s core a h held r w is_core)
+
+-- an access of a thread that waits for it
+pub led : (job : JobData) (j : IsJob job) (words : List ℕ) (t : ℕ) (s : State) (core : Core) (a : Access) → Holds job.image words s.book → Held t s.book core.arch.held → InRow job t s core → come job core.arch core.seen ≡ Wants a → Led job words t s core a
+led job j words t s core a h held r w =
+    subst (λ n. Led job words n s core a) r.number
+    (let d = led_come job j words s core a h (subst (λ n. Held n s.book core.arch.held) (sym r.number) held) (subst (λ n. InRow job n s core) (sym r.number) r) w in
+    record { next = d.next; owed = d.owed; is = d.is; holds = d.holds; others = d.others; held = d.held; stands = d.stands; returns = d.returns })
