@@ -21,3 +21,4 @@ pub mod Stands
 pub mod Turn
 pub mod First
 pub mod Turns
+pub mod Run

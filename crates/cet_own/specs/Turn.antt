@@ -74,13 +74,13 @@ led_wants job j words s core a h held r w is_core =
     let v = answer words a in
     let seen = seen_after core.seen a (answer words a) in
     let g = goes (rules job core.arch.number) (During (unheld core.arch)) (calls.Ends job (unheld core.arch)) (Fails job (unheld core.arch)) (Results (Ends (unheld core.arch))) false 4096 31 words r.before s
-        (row job (unheld core.arch)) core.seen.count core.seen.kept a (orderly_row job (unheld core.arch)) r.left w (known job.image core.arch.number words s.book a h) in
+    (row job (unheld core.arch)) core.seen.count core.seen.kept a (orderly_row job (unheld core.arch)) r.left w (known job.image core.arch.number words s.book a h) in
     let is = after_book core.arch.number s g.next (books_after core.arch.number s.book (changes_of job core (answer words a))) g.is in
     let left : Left job (unheld core.arch) s g.next (seen_after core.seen a (answer words a)) = rw add-one g.left in
     let came = on_came (rules job core.arch.number) (During (unheld core.arch)) (calls.Ends job (unheld core.arch)) (Fails job (unheld core.arch)) s g.next
-        (row job (unheld core.arch)) (core.seen.count + 1) (seen_after core.seen a (answer words a)).kept left in
+    (row job (unheld core.arch)) (core.seen.count + 1) (seen_after core.seen a (answer words a)).kept left in
     let k = came_stands job core (held_after (own_stack job core.arch.number) a (answer words a) core.arch.held) (seen_after core.seen a (answer words a)) s g.next
-        (child_of core.arch (changes_of job core (answer words a))) (come job core.arch (seen_after core.seen a (answer words a))) j left came is_core in
+    (child_of core.arch (changes_of job core (answer words a))) (come job core.arch (seen_after core.seen a (answer words a))) j left came is_core in
     record {
       next = g.next;
       owed = g.owed;

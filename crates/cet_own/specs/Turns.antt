@@ -106,12 +106,12 @@ pub record TurnedBy (job : JobData) (m : Machine) (t : ℕ) (s : State) (thread 
   pub stands : Stands job (act job m t thread a) next
   pub returns : AccessReturns job m thread (entries_of t s.book) a
 
-stays : (job : JobData) (m : Machine) (t : ℕ) (s : State) (thread : Thread) → Stands job m s → TurnedBy job m t s thread None
+pub stays : (job : JobData) (m : Machine) (t : ℕ) (s : State) (thread : Thread) → Stands job m s → TurnedBy job m t s thread None
 stays job m t s thread st = record { next = s; is = refl; stands = st; returns = tt }
 
 get_other : (threads : List Thread) (t y : ℕ) (x : Thread) → y ≢ t → slice_get (slice_set threads t x) y ≡ slice_get threads y
 get_other threads t y x n = elim (cases_lt y (length threads)) [
-    inl l ↦
+  | inl l ↦
       let l' : y < length (slice_set threads t x) = omega (arith, length-set threads t x) in
       slice_get-get_or (slice_set threads t x) y x l' ∙ ap Some (get_or-set_other threads t y x x n) ∙ sym (slice_get-get_or threads y x l)
   | inr g ↦
@@ -128,7 +128,7 @@ get_same threads t x l =
 childless : (job : JobData) (thread : Thread) (v : ℕ) (threads : List Thread) → with_child threads (taken job thread.core v).child ≡ threads
 childless job thread v threads = ap (with_child threads) (no_child job thread.core v)
 
-acts : (job : JobData) (j : IsJob job) (m : Machine) (t : ℕ) (s : State) (thread : Thread) (a : Access) → Stands job m s → slice_get m.threads t ≡ Some thread → ThreadStands job t s (Some thread) → InRow job t s thread.core → come job thread.core.arch thread.core.seen ≡ Wants a → TurnedBy job m t s thread (Some a)
+pub acts : (job : JobData) (j : IsJob job) (m : Machine) (t : ℕ) (s : State) (thread : Thread) (a : Access) → Stands job m s → slice_get m.threads t ≡ Some thread → ThreadStands job t s (Some thread) → InRow job t s thread.core → come job thread.core.arch thread.core.seen ≡ Wants a → TurnedBy job m t s thread (Some a)
 acts job j m t s thread a st e at r w =
     let d = led job j m.words t s thread.core a st.holds at.0 r w in
     let new : Thread = thread_after thread (taken job thread.core (answer m.words a)) in
