@@ -20,5 +20,7 @@ pub mod Rows
 pub mod Stands
 pub mod Turn
 pub mod First
+pub mod Ages
 pub mod Turns
 pub mod Run
+pub mod Reported

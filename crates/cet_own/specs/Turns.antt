@@ -18,12 +18,13 @@ use Rattle.cet_cpu.specs.Row.{row}
 use Rattle.cet_cpu.specs.Script.{Wants}
 use Rattle.cet_cpu.specs.Machine.{Thread, Machine, thread_after, with_child, made_by, act, step_by, step}
 use Rattle.cet_cpu.specs.Within.{no_child}
-use Rattle.cet_own.specs.Event.{access_changes, thread_changes, turn_changes}
+use Rattle.cet_own.specs.Event.{changes_of, access_changes, thread_changes, turn_changes}
 use Rattle.cet_own.specs.Safe.{AccessReturns, ThreadReturns, TurnReturns, KeepsStack, HasStack, IsSafeAt, Safe}
 use Rattle.cet_own.specs.Frame.{during_at}
 use Rattle.cet_own.specs.Holds.{Holds}
 use Rattle.cet_own.specs.Standing.{Stacked, AtRest, HasNone}
-use Rattle.cet_own.specs.Classes.{State, rules}
+use Rattle.cet_own.specs.Ages.{Ages, ages, ages_none}
+use Rattle.cet_own.specs.Classes.{State, own_stack, rules}
 use Rattle.cet_own.specs.Parts.{During, Fails}
 use Rattle.cet_own.specs.Calls.{entries_of, Ends}
 use Rattle.cet_own.specs.Stands.{InRow, CoreStands, ThreadStands, thread_relies}
@@ -50,14 +51,14 @@ row_stacked job t s core r =
     (during_at (rules job core.arch.number) (During (unheld core.arch)) (Ends job (unheld core.arch)) (Fails job (unheld core.arch)) r.before s
     (row job (unheld core.arch)) core.seen.count core.seen.kept r.waits.waits.0 r.left r.waits.waits.1)
 
-core_stacked : (job : JobData) (t : ℕ) (s : State) (core : Core) (over : Option End) → CoreStands job t s core over → KeepsStack over → Stacked t s.book core.arch.ssp
+pub core_stacked : (job : JobData) (t : ℕ) (s : State) (core : Core) (over : Option End) → CoreStands job t s core over → KeepsStack over → Stacked t s.book core.arch.ssp
 core_stacked job t s core None h k = row_stacked job t s core h
 core_stacked job t s core (Some (ending.Exit status)) h k = absurd k
 core_stacked job t s core (Some ending.Group) h k = h.stacked
 core_stacked job t s core (Some ending.Limit) h k = h.stacked
 
 -- a thread that has nothing is current on no region
-none_current : (t i : ℕ) (b : Book) → Shape b → HasNone t b → (region b i).holder ≡ Current t → ⊥
+pub none_current : (t i : ℕ) (b : Book) → Shape b → HasNone t b → (region b i).holder ≡ Current t → ⊥
 none_current t i b h n e =
     let at = h.alone t i e in
     let inside = is_there b i (λ z. cc) in
@@ -97,6 +98,8 @@ pub record Turned (job : JobData) (m : Machine) (t : ℕ) (s : State) (o : Optio
   pub next : State
   pub is : books_after t s.book (thread_changes job m o) ≡ Some next.book
   pub stands : Stands job (step_by job m t o) next
+  pub ages : Ages s.book next.book
+  pub count : length (step_by job m t o).threads ≡ length m.threads
   pub returns : ThreadReturns job m s.book t o
 
 -- and by its next access
@@ -104,10 +107,12 @@ pub record TurnedBy (job : JobData) (m : Machine) (t : ℕ) (s : State) (thread 
   pub next : State
   pub is : books_after t s.book (access_changes job m thread a) ≡ Some next.book
   pub stands : Stands job (act job m t thread a) next
+  pub ages : Ages s.book next.book
+  pub count : length (act job m t thread a).threads ≡ length m.threads
   pub returns : AccessReturns job m thread (entries_of t s.book) a
 
 pub stays : (job : JobData) (m : Machine) (t : ℕ) (s : State) (thread : Thread) → Stands job m s → TurnedBy job m t s thread None
-stays job m t s thread st = record { next = s; is = refl; stands = st; returns = tt }
+stays job m t s thread st = record { next = s; is = refl; stands = st; ages = ages_none s.book; count = refl; returns = tt }
 
 get_other : (threads : List Thread) (t y : ℕ) (x : Thread) → y ≢ t → slice_get (slice_set threads t x) y ≡ slice_get threads y
 get_other threads t y x n = elim (cases_lt y (length threads)) [
@@ -148,5 +153,7 @@ acts job j m t s thread a st e at r w =
               (thread_relies job y s d.next (slice_get m.threads y) (d.others y (λ z. u.1 (sym z))) (st.threads y))
         ]);
       };
+      ages = ages t (own_stack job t) s.book d.next.book a (answer m.words a) (changes_of job thread.core (answer m.words a)) st.holds.sound.book.shape d.owed d.is;
+      count = ap (λ (l : List Thread). length l) same ∙ length-set m.threads t (thread_after thread (taken job thread.core (answer m.words a)));
       returns = d.returns;
     }
