@@ -1,9 +1,9 @@
 -- What no access changes: how many regions there are, where they lie, and that a region comes to no thread. Source: own.
-use Rattle.std.proofs.Common.{◌≡◌, ◌≢◌, ℕ, ◌+◌, ◌*◌, ◌<◌, ◌≤◌, ◌⊎◌, inl, inr, Bool, true, false, ◌&&◌, List, [], ◌∷◌, length, Option, Some, None, refl, sym, ◌∙◌, ap, subst, arith}
+use Rattle.std.proofs.Common.{◌≡◌, ℕ, ◌⊎◌, inl, inr, Bool, ◌&&◌, List, [], ◌∷◌, length, Option, Some, None, refl, sym, ◌∙◌, subst, arith}
 use Rattle.std.specs.Prelude.{nat_lt, nat_le, if◌then◌else◌}
 use Rattle.cet_words.specs.Change.{Change, Called, Returned, Ended, Busied, Freed}
 use Rattle.cet_words.specs.declared.accesses.Access.{Access}
-use Rattle.cet_book.specs.Book.{Holder, Current, Lost, Previous, Call, Book, Region, region, top, stack_of, put_stack, holds_stack, is_free, held_by, relist, unlink, returned, book_after, books_after}
+use Rattle.cet_book.specs.Book.{Lost, Call, Book, region, stack_of, put_stack, holds_stack, is_free, held_by, relist, returned, book_after, books_after}
 use Rattle.cet_book.specs.Cases.{if_some}
 use Rattle.cet_book.specs.Edits.{Owned, SameBounds}
 use Rattle.cet_book.specs.Hand.{hand, ends, hand_same, hand_all}

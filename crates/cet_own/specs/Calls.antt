@@ -1,43 +1,33 @@
 -- What a thread claims of CALL and RET. Source: own.
-use Rattle.std.proofs.Common.{◌≡◌, ◌≢◌, ℕ, suc, ◌+◌, ◌-◌, ◌*◌, ◌/◌, ◌%◌, ◌^◌, ◌<◌, ◌≤◌, ◌⊎◌, inl, inr, Bool, true, false, ◌&&◌, cond, List, [], ◌∷◌, length, Option, Some, None, refl, sym, ◌∙◌, ap, subst, arith}
-use Rattle.std.specs.Prelude.{◌==◌, if◌then◌else◌, IsTrue, All}
-use Rattle.std.proofs.lemmas.Bool.{eqb-true, false≢true}
-use Rattle.std.proofs.lemmas.Bool.Decides.{nat_tests}
-use Rattle.cet_words.specs.Bytes.{code_byte, code_place}
-use Rattle.cet_words.specs.Job.{JobData, IsJob, IsSegment}
+use Rattle.std.proofs.Common.{◌≡◌, ℕ, ◌+◌, ◌-◌, ◌/◌, ◌<◌, ◌≤◌, inl, List, [], ◌∷◌, length, Option, refl, ◌∙◌, ap, subst, arith}
+use Rattle.cet_words.specs.Job.{JobData}
 use Rattle.cet_words.specs.Layout.{word_in}
-use Rattle.cet_words.specs.Change.{Change, Called, Returned}
-use Rattle.cet_words.specs.declared.images.Segment.{Segment}
+use Rattle.cet_words.specs.Change.{Called}
 use Rattle.cet_words.specs.declared.accesses.Access.TheVariants as access
-use Rattle.cet_isa.specs.Address.{canonical}
 use Rattle.cet_isa.specs.declared.threads.Arch.{Arch}
 use Rattle.cet_isa.specs.declared.threads.Record.{Record}
-use Rattle.cet_book.specs.Book.{Entry, Call, Restorer, Frame, Previous, Blank, Holder, Current, Book, Region, region, top, current_of, stack_of, relist, unlink, returned as book_returned, Lost}
+use Rattle.cet_book.specs.Book.{Entry, Call, Book, region, top, current_of, relist}
 use Rattle.cet_book.specs.Addresses.{IsReturn}
 use Rattle.cet_book.specs.Edits.{Owned, owned, current_holds}
 use Rattle.cet_book.specs.Kept.{book_kept}
 use Rattle.cet_book.specs.Relies.{Relies, owns_current}
-use Rattle.cet_book.specs.Relist.{relist_shape}
-use Rattle.cet_book.specs.Removes.{Removal, returned_is, shortened}
-use Rattle.cet_book.specs.Stack.{slot, word_of, tops}
-use Rattle.cet_book.specs.Top.{AtTop, relist_top, removal_top}
-use Rattle.cet_book.specs.Unlink.{Linked, left_there}
-use Rattle.cet_book.specs.Ways.{with_current_at, called_way}
+use Rattle.cet_book.specs.Stack.{slot}
+use Rattle.cet_book.specs.Top.{relist_top}
+use Rattle.cet_book.specs.Ways.{called_way}
 use Rattle.cet_cpu.specs.Core.{kept_by}
-use Rattle.cet_cpu.specs.Script.{Script, done, fault, ◌>>=◌}
-use Rattle.cet_cpu.specs.Finish.{above, below, rsp, Row}
-use Rattle.cet_cpu.specs.Flow.{called, call, call_next, returned, returned_if, return_differs, ret}
-use Rattle.cet_cpu.specs.Parts.{general_protection, tested, look, load, load_as, store, store_as}
+use Rattle.cet_cpu.specs.Script.{done, ◌>>=◌}
+use Rattle.cet_cpu.specs.Finish.{below, rsp}
+use Rattle.cet_cpu.specs.Flow.{called, call, call_next}
+use Rattle.cet_cpu.specs.Parts.{store_as}
 use Rattle.cet_cpu.specs.declared.checks.Kind.TheVariants as kind
-use Rattle.cet_cpu.specs.declared.checks.Who.TheVariants.{User}
 use Rattle.cet_cpu.specs.declared.rows.Finish.{Finish}
 use Rattle.cet_cpu.specs.declared.rows.Finish.TheVariants.{Noted, Posted, Exited, Stopped}
-use Rattle.cet_own.specs.Safe.{GoesRight, ReturnsBy}
-use Rattle.cet_own.specs.Holds.{Sound, In, IsOut}
-use Rattle.cet_own.specs.Standing.{Stacked, stacked, Free, AtRest, rest_kept, HasNone}
-use Rattle.cet_own.specs.Classes.{State, state_after, HeadWord, Known, Owed, loads, pushes, pops, own_stack, rules}
-use Rattle.cet_own.specs.Parts.{During, Fails, Claim, one_after, claim_bind, claim_cond, tested_then, look_then, store_look_then, shadow_look_then, load_then, store_then}
-use Rattle.cet_own.specs.Places.{shadow_slot, below_is, above_is, entry_at, room_below}
+use Rattle.cet_own.specs.Safe.{ReturnsBy}
+use Rattle.cet_own.specs.Holds.{In, IsOut}
+use Rattle.cet_own.specs.Standing.{stacked, AtRest, rest_kept, HasNone}
+use Rattle.cet_own.specs.Classes.{State, pushes}
+use Rattle.cet_own.specs.Parts.{Claim, one_after, claim_bind, tested_then, store_look_then, shadow_look_then, store_then}
+use Rattle.cet_own.specs.Places.{shadow_slot, below_is, room_below}
 
 -- the entries of a thread's region
 abbrev pub entries_of : (t : ℕ) → Book → List Entry

@@ -1,5 +1,5 @@
 -- The classes of accesses: what is known of each answer, and what is owed to the book. Source: own.
-use Rattle.std.specs.Prelude.{◌≡◌, ◌≢◌, ℕ, ◌+◌, ◌-◌, ◌%◌, ◌<◌, ◌≤◌, List, [], ◌∷◌, length, Option, Some, None, option_map}
+use Rattle.std.specs.Prelude.{◌≡◌, ◌≢◌, ℕ, ◌+◌, ◌-◌, ◌%◌, ◌<◌, ◌≤◌, List, [], ◌∷◌, length, Option, Some, option_map}
 use Rattle.cet_words.specs.Job.{JobData, ImageData}
 use Rattle.cet_words.specs.Layout.{entry_word}
 use Rattle.cet_words.specs.Change.{Change, Called, Returned, Ended, Busied, Freed}

@@ -1,26 +1,24 @@
 -- The start words and the first book are in step, and thread 0 is at rest. Source: own.
-use Rattle.std.proofs.Common.{◌≡◌, ◌≢◌, ℕ, zero, suc, ◌+◌, ◌-◌, ◌*◌, ◌/◌, ◌%◌, ◌<◌, ◌≤◌, ◌⊎◌, inl, inr, Bool, true, false, ◌&&◌, ◌||◌, cond, List, [], ◌∷◌, length, Option, Some, None, refl, sym, ◌∙◌, ap, subst, arith, get_or}
-use Rattle.std.specs.Prelude.{slice_index, slice_get, nat_lt, nat_le, ◌==◌, if◌then◌else◌}
+use Rattle.std.proofs.Common.{◌≡◌, ◌≢◌, ℕ, zero, suc, ◌+◌, ◌-◌, ◌*◌, ◌%◌, ◌<◌, ◌≤◌, ◌⊎◌, inl, inr, Bool, true, false, List, [], ◌∷◌, length, None, refl, sym, ◌∙◌, ap, subst, arith}
+use Rattle.std.specs.Prelude.{slice_index, slice_get, nat_lt, ◌==◌}
 use Rattle.std.proofs.lemmas.Bool.{cases_lt, false≢true}
 use Rattle.std.proofs.lemmas.Bool.Decides.{nat_tests}
 use Rattle.std.proofs.lemmas.List.{get_or_past}
 use Rattle.cet_words.specs.Job.{JobData, IsJob, ImageData}
 use Rattle.cet_words.specs.Layout.{entry_word, entry_of}
-use Rattle.cet_words.specs.Start.{is_token, kernel_word, is_present, start_entry, start_word, IsStart}
-use Rattle.cet_book.specs.Book.{Holder, Current, Region, Book, region, top, current_of, stack_of, nowhere, first_book}
+use Rattle.cet_words.specs.Start.{kernel_word, is_present, start_entry, start_word, IsStart}
+use Rattle.cet_book.specs.Book.{Current, region, top, current_of, stack_of, first_book}
 use Rattle.cet_book.specs.Addresses.{first_returns}
 use Rattle.cet_book.specs.Edits.{current_holds}
-use Rattle.cet_book.specs.First.{first_empty, first_current, first_shape, first_is_book}
+use Rattle.cet_book.specs.First.{first_empty, first_current, first_is_book}
 use Rattle.cet_book.specs.Stack.{Stack, tops}
-use Rattle.cet_book.specs.Top.{AtTop}
-use Rattle.cet_cpu.specs.Core.{Core, first_core, unheld}
+use Rattle.cet_cpu.specs.Core.{first_core, unheld}
 use Rattle.cet_cpu.specs.Gate.{token, token_word}
 use Rattle.cet_cpu.specs.Machine.{Machine, Thread, Starts}
 use Rattle.cet_cpu.specs.Within.{first_waits}
 use Rattle.cet_own.specs.Holds.{LiesIn, IsEntry, Pages, busy, Gates, Holds}
-use Rattle.cet_own.specs.Standing.{Stacked, Free, AtRest, HasNone}
-use Rattle.cet_own.specs.Held.{Held, held_free}
-use Rattle.cet_own.specs.Classes.{State}
+use Rattle.cet_own.specs.Standing.{Free, AtRest, HasNone}
+use Rattle.cet_own.specs.Held.{held_free}
 use Rattle.cet_own.specs.Rows.{row_claim}
 use Rattle.cet_own.specs.Stands.{InRow, ThreadStands}
 

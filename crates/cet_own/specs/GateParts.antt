@@ -1,28 +1,25 @@
 -- What a thread claims of the gate's way in and way out. Source: own.
-use Rattle.std.proofs.Common.{◌≡◌, ◌≢◌, ℕ, ◌+◌, ◌-◌, ◌*◌, ◌%◌, ◌<◌, ◌≤◌, inl, inr, Bool, true, false, cond, List, [], ◌∷◌, length, Option, Some, None, refl, sym, ◌∙◌, ap, subst, arith, eqb}
-use Rattle.std.specs.Prelude.{option_map, option_and_then, ◌==◌, if◌then◌else◌}
+use Rattle.std.proofs.Common.{◌≡◌, ℕ, ◌+◌, ◌-◌, ◌<◌, ◌≤◌, inl, inr, true, [], ◌∷◌, length, Option, Some, None, refl, sym, ◌∙◌, ap, arith, eqb}
+use Rattle.std.specs.Prelude.{option_map, option_and_then}
 use Rattle.std.proofs.lemmas.Bool.{cases_lt}
 use Rattle.std.proofs.lemmas.Bool.Decides.{eqb_tells, nat_tests}
 use Rattle.cet_words.specs.Job.{JobData}
-use Rattle.cet_words.specs.Change.{Change, Busied, Freed, Ended}
-use Rattle.cet_words.specs.declared.accesses.Access.TheVariants as access
+use Rattle.cet_words.specs.Change.{Busied, Freed, Ended}
 use Rattle.cet_isa.specs.declared.threads.Arch.{Arch}
-use Rattle.cet_book.specs.Book.{Holder, Current, Lost, Book, region, top, stack_of, put_stack, current_of, book_after}
+use Rattle.cet_book.specs.Book.{Lost, Book, region, top, stack_of, put_stack, current_of, book_after}
 use Rattle.cet_book.specs.Shape.{StackShape}
 use Rattle.cet_book.specs.Edits.{Owned, owned, current_holds}
 use Rattle.cet_book.specs.Hand.{hand, end_none}
 use Rattle.cet_book.specs.Supervisor.{stack_of-put_stack, current_of-put_stack}
 use Rattle.cet_book.specs.Ways.{busied_way, freed_way, ended_way}
-use Rattle.cet_book.specs.Relies.{Relies}
-use Rattle.cet_book.specs.Top.{AtTop}
-use Rattle.cet_cpu.specs.Script.{Script, done, ◌>>=◌}
-use Rattle.cet_cpu.specs.Parts.{peek, load, store, exchange_as}
-use Rattle.cet_cpu.specs.Gate.{token, token_page, token_word, kernel_return, busied_if, gate_in, gate_out}
-use Rattle.cet_own.specs.Holds.{Sound, IsOut, busy}
-use Rattle.cet_own.specs.Standing.{Stacked, Free, AtRest, rest_kept, stacked_kept, Inside, inside_kept, HasNone}
-use Rattle.cet_own.specs.Held.{Held, held_given}
-use Rattle.cet_own.specs.Classes.{State, state_after, Known, Owed, refused, enters, leaves, exits, own_stack, rules}
-use Rattle.cet_own.specs.Parts.{During, Fails, Claim, one_after, claim_bind, claim_cond, peek_then, load_then, store_then}
+use Rattle.cet_cpu.specs.Script.{Script, ◌>>=◌}
+use Rattle.cet_cpu.specs.Parts.{exchange_as}
+use Rattle.cet_cpu.specs.Gate.{token, token_page, token_word, kernel_return, gate_in, gate_out}
+use Rattle.cet_own.specs.Holds.{IsOut, busy}
+use Rattle.cet_own.specs.Standing.{Stacked, Free, AtRest, rest_kept, Inside, inside_kept, HasNone}
+use Rattle.cet_own.specs.Held.{held_given}
+use Rattle.cet_own.specs.Classes.{State, refused, enters, leaves, exits, own_stack}
+use Rattle.cet_own.specs.Parts.{Claim, one_after, claim_bind, peek_then, load_then, store_then}
 
 -- regions don't see supervisor stacks
 stacked_put : (t k ssp : ℕ) (o : Option ℕ) (b : Book) → Stacked t b ssp → Stacked t (put_stack b k o) ssp

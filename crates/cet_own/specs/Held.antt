@@ -1,22 +1,21 @@
 -- The field held of a thread is the supervisor stack that the book says. Source: own.
-use Rattle.std.proofs.Common.{◌≡◌, ◌≢◌, ℕ, ◌+◌, ◌<◌, inl, inr, Bool, true, false, List, [], ◌∷◌, length, Option, Some, None, refl, sym, ◌∙◌, ap, subst, arith, eqb}
-use Rattle.std.specs.Prelude.{◌==◌, ◌↔◌, if◌then◌else◌}
+use Rattle.std.proofs.Common.{◌≡◌, ◌≢◌, ℕ, ◌+◌, ◌<◌, inl, inr, true, false, List, [], ◌∷◌, length, Option, Some, None, refl, sym, ◌∙◌, ap, subst, arith}
+use Rattle.std.specs.Prelude.{◌==◌, ◌↔◌}
 use Rattle.std.proofs.lemmas.Bool.Decides.{eqb_tells, nat_tests}
 use Rattle.cet_words.specs.Access.{answer}
 use Rattle.cet_words.specs.Job.{ImageData}
 use Rattle.cet_words.specs.Change.{Change, Called, Returned, Ended, Busied, Freed}
 use Rattle.cet_words.specs.declared.accesses.Access.{Access}
 use Rattle.cet_words.specs.declared.accesses.Access.TheVariants as access
-use Rattle.cet_book.specs.Book.{Call, Current, Lost, Book, region, stack_of, put_stack, relist, returned, book_after, books_after}
+use Rattle.cet_book.specs.Book.{Call, Lost, Book, region, stack_of, put_stack, relist, returned, book_after, books_after}
 use Rattle.cet_book.specs.Shape.{StackShape}
-use Rattle.cet_book.specs.Edits.{Owned}
 use Rattle.cet_book.specs.Hand.{hand}
 use Rattle.cet_book.specs.Removes.{returned_is, shortened}
 use Rattle.cet_book.specs.Supervisor.{stack_of-put_stack}
 use Rattle.cet_book.specs.Ways.{with_current_at, called_way, ended_way, freed_way, busied_way}
 use Rattle.cet_cpu.specs.Core.{held_after}
 use Rattle.cet_cpu.specs.Gate.{token, token_word}
-use Rattle.cet_own.specs.Holds.{busy, Holds}
+use Rattle.cet_own.specs.Holds.{Holds}
 use Rattle.cet_own.specs.Standing.{Free}
 use Rattle.cet_own.specs.Classes.{Owed, looks, loads, stores, exchanges, clears, pushes, pops, refused, enters, leaves, exits}
 use Rattle.cet_own.specs.Laws.{same_book, then_by, one_book}

@@ -1,26 +1,23 @@
 -- Each class of access keeps words and book in step, leaves to other threads what they rely on, and sets the thread's
 -- field held as the book has it. Source: own.
-use Rattle.std.proofs.Common.{◌≡◌, ◌≢◌, ℕ, ◌+◌, ◌-◌, ◌*◌, ◌%◌, ◌<◌, ◌≤◌, inl, inr, Bool, true, false, List, [], ◌∷◌, length, Option, Some, None, refl, sym, ◌∙◌, ap, subst, arith, eqb}
-use Rattle.std.specs.Prelude.{slice_index, slice_set, ◌==◌, ◌↔◌, if◌then◌else◌}
-use Rattle.std.proofs.lemmas.Bool.Decides.{eqb_tells, nat_tests}
+use Rattle.std.proofs.Common.{◌≡◌, ◌≢◌, ℕ, ◌+◌, ◌-◌, ◌<◌, List, [], ◌∷◌, Option, Some, None, refl, sym, ◌∙◌, ap, subst, arith}
+use Rattle.std.specs.Prelude.{slice_index, slice_set, ◌==◌}
 use Rattle.cet_words.specs.Access.{answer, after}
 use Rattle.cet_words.specs.Job.{ImageData}
 use Rattle.cet_words.specs.Layout.{entry_word}
 use Rattle.cet_words.specs.Change.{Change, Called, Returned, Ended, Busied, Freed}
 use Rattle.cet_words.specs.declared.accesses.Access.{Access}
 use Rattle.cet_words.specs.declared.accesses.Access.TheVariants as access
-use Rattle.cet_book.specs.Book.{Call, Holder, Current, Lost, Book, region, top, stack_of, put_stack, relist, returned, book_after, books_after}
+use Rattle.cet_book.specs.Book.{Call, Current, Lost, Book, region, top, stack_of, put_stack, relist, returned, book_after, books_after}
 use Rattle.cet_book.specs.Edits.{Owned}
 use Rattle.cet_book.specs.Hand.{hand}
 use Rattle.cet_book.specs.Removes.{returned_is}
 use Rattle.cet_book.specs.Kept.{NoneBorn, others_rely}
 use Rattle.cet_book.specs.Relies.{Relies}
 use Rattle.cet_book.specs.Stack.{slot}
-use Rattle.cet_book.specs.Supervisor.{stack_of-put_stack}
 use Rattle.cet_book.specs.Ways.{with_current_at, called_way, ended_way, freed_way, busied_way}
-use Rattle.cet_cpu.specs.Core.{held_after}
 use Rattle.cet_cpu.specs.Gate.{token, token_word}
-use Rattle.cet_own.specs.Holds.{Sound, busy, Holds, IsOut}
+use Rattle.cet_own.specs.Holds.{Sound, busy, Holds}
 use Rattle.cet_own.specs.Kept.{holds_out, holds_clear}
 use Rattle.cet_own.specs.Own.{holds_push, holds_pop}
 use Rattle.cet_own.specs.Classes.{Owed, looks, loads, stores, exchanges, clears, pushes, pops, refused, enters, leaves, exits}

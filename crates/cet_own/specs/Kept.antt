@@ -1,17 +1,17 @@
 -- Writes that change no book: words of no stack, cleared entries. And what pages and tokens are after a change. Source: own.
-use Rattle.std.proofs.Common.{◌≡◌, ◌≢◌, ℕ, ◌+◌, ◌-◌, ◌*◌, ◌/◌, ◌%◌, ◌<◌, ◌≤◌, ◌⊎◌, inl, inr, Bool, true, false, List, length, Option, Some, None, refl, sym, ◌∙◌, ap, subst, arith, get_or, set, length-set, get_or-set_other, get_or-set_same}
+use Rattle.std.proofs.Common.{◌≡◌, ◌≢◌, ℕ, ◌+◌, ◌<◌, ◌≤◌, ◌⊎◌, inl, inr, List, length, Option, None, refl, sym, ◌∙◌, ap, subst, arith, get_or, length-set, get_or-set_other, get_or-set_same}
 use Rattle.std.specs.Prelude.{slice_index, slice_set}
 use Rattle.std.proofs.lemmas.Bool.Decides.{eqb_tells}
 use Rattle.cet_words.specs.Job.{ImageData}
-use Rattle.cet_words.specs.Layout.{entry_word, entry_of}
-use Rattle.cet_book.specs.Book.{Book, Region, region, top, stack_of, put_stack}
+use Rattle.cet_words.specs.Layout.{entry_word}
+use Rattle.cet_book.specs.Book.{Book, region, top, stack_of, put_stack}
 use Rattle.cet_book.specs.Shape.{Shape}
 use Rattle.cet_book.specs.Edits.{SameBounds}
 use Rattle.cet_book.specs.Supervisor.{stack_of-put_stack}
-use Rattle.cet_book.specs.Stack.{slot, Stack, tops}
+use Rattle.cet_book.specs.Stack.{Stack, tops}
 use Rattle.cet_cpu.specs.Gate.{token, token_word}
-use Rattle.cet_own.specs.Holds.{Sound, In, LiesIn, IsEntry, Pages, busy, Gates, Holds, IsOut}
-use Rattle.cet_own.specs.Writes.{stack_agrees, top_even, list_out, Place}
+use Rattle.cet_own.specs.Holds.{LiesIn, IsEntry, Pages, busy, Gates, Holds, IsOut}
+use Rattle.cet_own.specs.Writes.{stack_agrees, top_even, list_out}
 
 -- the lists, where no word of the shadow area was written
 pub lists_out : (words : List ℕ) (b : Book) (w x : ℕ) → Shape b → (w < 1081344) ⊎ (1605632 ≤ w) → ((i : ℕ) → Stack words (tops b) (top (region b i)) (region b i).entries) → (i : ℕ) → Stack (slice_set words w x) (tops b) (top (region b i)) (region b i).entries

@@ -1,27 +1,22 @@
 -- Each class of access keeps words and book in step, and leaves to other threads what they rely on. Source: own.
-use Rattle.std.proofs.Common.{◌≡◌, ◌≢◌, ℕ, ◌+◌, ◌-◌, ◌*◌, ◌%◌, ◌<◌, ◌≤◌, ◌⊎◌, inl, inr, Bool, true, false, cond, List, [], ◌∷◌, length, Option, Some, None, refl, sym, ◌∙◌, ap, subst, arith}
-use Rattle.std.specs.Prelude.{slice_index, slice_set, option_map, option_and_then, ◌==◌}
+use Rattle.std.proofs.Common.{◌≡◌, ◌≢◌, ℕ, ◌+◌, ◌<◌, inr, Bool, true, false, List, [], ◌∷◌, Option, Some, None, refl, sym, ◌∙◌, ap, subst, arith}
+use Rattle.std.specs.Prelude.{slice_index, slice_set, option_and_then, ◌==◌}
 use Rattle.std.proofs.lemmas.Bool.Decides.{nat_tests}
 use Rattle.cet_words.specs.Access.{answer, after}
-use Rattle.cet_words.specs.Job.{JobData, ImageData}
-use Rattle.cet_words.specs.Layout.{entry_word}
-use Rattle.cet_words.specs.Change.{Change, Called, Returned, Ended, Busied, Freed}
+use Rattle.cet_words.specs.Job.{ImageData}
+use Rattle.cet_words.specs.Change.{Change}
 use Rattle.cet_words.specs.declared.accesses.Access.{Access}
 use Rattle.cet_words.specs.declared.accesses.Access.TheVariants as access
-use Rattle.cet_book.specs.Book.{Entry, Call, Restorer, Frame, Previous, Blank, Holder, Current, Lost, Book, Region, region, top, current_of, stack_of, put_stack, relist, returned, book_after, books_after}
+use Rattle.cet_book.specs.Book.{Entry, Call, Restorer, Frame, Previous, Blank, Lost, Book, region, top, current_of, put_stack, book_after, books_after}
 use Rattle.cet_book.specs.Edits.{Owned}
 use Rattle.cet_book.specs.Hand.{hand, hand_all, hand_same, ends}
-use Rattle.cet_book.specs.Removes.{Removal, returned_is}
 use Rattle.cet_book.specs.Addresses.{ChangeReturns}
-use Rattle.cet_book.specs.Kept.{book_kept, NoneBorn, others_rely}
-use Rattle.cet_book.specs.Relies.{Relies}
+use Rattle.cet_book.specs.Kept.{book_kept}
 use Rattle.cet_book.specs.Stack.{slot, word_of, Stack, tops}
-use Rattle.cet_book.specs.Ways.{with_current_at, called_way, ended_way, freed_way, busied_way}
 use Rattle.cet_cpu.specs.Gate.{token, token_word}
-use Rattle.cet_own.specs.Holds.{Sound, LiesIn, IsEntry, busy, Holds, IsOut}
-use Rattle.cet_own.specs.Kept.{holds_out, holds_clear, size_kept, lists_out, pages_out, pages_same, gates_set, gates_same}
-use Rattle.cet_own.specs.Own.{holds_push, holds_pop}
-use Rattle.cet_own.specs.Classes.{State, state_after, HeadWord, Known, Owed, looks, loads, stores, exchanges, clears, pushes, pops, refused, enters, leaves, exits}
+use Rattle.cet_own.specs.Holds.{Sound, IsEntry, busy, Holds}
+use Rattle.cet_own.specs.Kept.{size_kept, lists_out, pages_out, pages_same, gates_set, gates_same}
+use Rattle.cet_own.specs.Classes.{HeadWord, Known}
 
 -- ---- what an answer tells
 

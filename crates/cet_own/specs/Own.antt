@@ -1,15 +1,15 @@
 -- The list of the region that is current on a thread changes, in memory and in the book. Source: own.
-use Rattle.std.proofs.Common.{◌≡◌, ◌≢◌, ℕ, suc, ◌+◌, ◌-◌, ◌*◌, ◌/◌, ◌%◌, ◌<◌, ◌≤◌, inl, inr, Bool, true, false, List, [], ◌∷◌, length, Option, Some, None, refl, sym, ◌∙◌, ap, subst, arith}
+use Rattle.std.proofs.Common.{◌≡◌, ◌≢◌, ℕ, suc, ◌+◌, ◌-◌, ◌*◌, ◌≤◌, List, ◌∷◌, length, refl, sym, ap, subst, arith}
 use Rattle.std.specs.Prelude.{slice_set}
 use Rattle.cet_words.specs.Job.{ImageData}
-use Rattle.cet_book.specs.Book.{Entry, Call, Holder, Current, Left, Lost, Previous, Book, Region, region, top, current_of, relist, unlink}
+use Rattle.cet_book.specs.Book.{Entry, Call, Current, Lost, Previous, Book, Region, region, top, relist, unlink}
 use Rattle.cet_book.specs.Shape.{links}
 use Rattle.cet_book.specs.Edits.{Owned, owned_there}
 use Rattle.cet_book.specs.Acquire.{unlinked}
-use Rattle.cet_book.specs.Relist.{relist_all, relist_same, relist_other, relist_here, relist_holder, relist_current}
-use Rattle.cet_book.specs.Unlink.{Gone, lost, Linked, linked_left, unlink_all, unlink_same, unlink_top, unlink_other, unlink_current}
+use Rattle.cet_book.specs.Relist.{relist_all, relist_same, relist_other}
+use Rattle.cet_book.specs.Unlink.{unlink_all, unlink_same, unlink_top}
 use Rattle.cet_book.specs.Removes.{Removal, plain, linked}
-use Rattle.cet_book.specs.Stack.{slot, slot_word, Stack, tops}
+use Rattle.cet_book.specs.Stack.{slot, Stack, tops}
 use Rattle.cet_own.specs.Holds.{Sound, In, Holds}
 use Rattle.cet_own.specs.Writes.{Place, in_place, list_kept, list_free, slot_same}
 use Rattle.cet_own.specs.Kept.{size_kept, pages_out, pages_same, gates_out, gates_same}

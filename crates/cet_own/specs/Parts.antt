@@ -1,19 +1,19 @@
 -- What a thread claims of the parts of its row, each with what follows it. Source: own.
-use Rattle.std.proofs.Common.{◌≡◌, ◌≢◌, ℕ, zero, suc, ◌+◌, ◌-◌, ◌*◌, ◌/◌, ◌%◌, ◌<◌, ◌≤◌, inl, inr, Bool, true, false, cond, List, [], ◌∷◌, length, Option, Some, None, refl, sym, ◌∙◌, ap, subst, arith}
-use Rattle.std.specs.Prelude.{option_map, option_and_then, ◌==◌, if◌then◌else◌}
+use Rattle.std.proofs.Common.{◌≡◌, ℕ, zero, suc, ◌+◌, ◌-◌, ◌/◌, ◌%◌, ◌<◌, ◌≤◌, Bool, true, false, cond, [], ◌∷◌, Option, Some, None, refl, sym, ap, subst, arith}
+use Rattle.std.specs.Prelude.{option_map, option_and_then, ◌==◌}
 use Rattle.std.proofs.lemmas.Bool.{eqb-true}
 use Rattle.cet_words.specs.Job.{JobData}
-use Rattle.cet_words.specs.Layout.{page_at, entry_word}
+use Rattle.cet_words.specs.Layout.{page_at}
 use Rattle.cet_words.specs.Change.{Change}
 use Rattle.cet_words.specs.declared.accesses.Access.TheVariants as access
 use Rattle.cet_isa.specs.Address.{canonical}
 use Rattle.cet_isa.specs.declared.threads.Arch.{Arch}
 use Rattle.cet_isa.specs.declared.threads.Fault.{Fault}
-use Rattle.cet_book.specs.Book.{Book, book_after, current_of, region, top}
-use Rattle.cet_book.specs.Relies.{Relies, relies_same}
-use Rattle.cet_cpu.specs.Script.{Script, done, fault, ask, tell, ◌>>=◌, silent}
+use Rattle.cet_book.specs.Book.{Book, book_after, region, top}
+use Rattle.cet_book.specs.Relies.{Relies}
+use Rattle.cet_cpu.specs.Script.{Script, done, fault, ◌>>=◌}
 use Rattle.cet_cpu.specs.Page.{allows, page_fault}
-use Rattle.cet_cpu.specs.Parts.{tested, look_in, look, peek, load_as, load, store_as, store, exchange_as, exchange, misaligned, general_protection}
+use Rattle.cet_cpu.specs.Parts.{tested, look_in, look, peek, load_as, load, store_as, store, exchange_as, exchange, misaligned}
 use Rattle.cet_cpu.specs.Gate.{clears}
 use Rattle.cet_cpu.specs.declared.checks.Kind.{Kind}
 use Rattle.cet_cpu.specs.declared.checks.Kind.TheVariants as kind
@@ -22,8 +22,8 @@ use Rattle.cet_cpu.specs.declared.checks.Who.TheVariants.{User}
 use Rattle.cet_own.specs.Safe.{AtReturn, IsReturnFault}
 use Rattle.cet_own.specs.Frame.{Steady, steady_bind, steady_cond}
 use Rattle.cet_own.specs.Holds.{In, IsOut}
-use Rattle.cet_own.specs.Standing.{Stacked, AtRest, rest_kept, stacked_kept, Inside, inside_kept}
-use Rattle.cet_own.specs.Classes.{State, state_after, Known, Owed, looks, loads, stores, exchanges, clears as cleared, own_stack, rules}
+use Rattle.cet_own.specs.Standing.{Stacked, AtRest, rest_kept, Inside, inside_kept}
+use Rattle.cet_own.specs.Classes.{State, state_after, Known, looks, loads, stores, exchanges, clears as cleared, rules}
 use Rattle.cet_own.specs.Places.{store_page, entry_there, shadow_page, in_page}
 
 -- SSP is at the top of the thread's region before each access

@@ -1,5 +1,5 @@
 -- What the page check tells of a page, and what a look at a shadow stack's page tells of its region. Source: own.
-use Rattle.std.proofs.Common.{◌≡◌, ◌≢◌, ℕ, suc, ◌+◌, ◌-◌, ◌*◌, ◌/◌, ◌%◌, ◌^◌, ◌<◌, ◌≤◌, ◌⊎◌, inl, inr, Bool, true, false, ◌&&◌, cond, List, length, Option, Some, None, refl, sym, ◌∙◌, ap, subst, arith, lit<}
+use Rattle.std.proofs.Common.{◌≡◌, ◌≢◌, ℕ, ◌+◌, ◌-◌, ◌*◌, ◌/◌, ◌%◌, ◌^◌, ◌<◌, ◌≤◌, inl, inr, Bool, true, false, length, Some, refl, sym, ◌∙◌, ap, subst, arith, lit<}
 use Rattle.std.specs.Prelude.{bit_and, nat_lt, ◌==◌, if◌then◌else◌}
 use Rattle.std.specs.Int.Bits.{and_zero_r}
 use Rattle.std.proofs.lemmas.Nat.{and_block}
@@ -10,7 +10,7 @@ use Rattle.cet_words.specs.Layout.{page_at, word_in, entry_of, entry_with, no_ex
 use Rattle.cet_book.specs.Book.{Book, region, top}
 use Rattle.cet_book.specs.Shape.{Shape}
 use Rattle.cet_book.specs.Stack.{slot}
-use Rattle.cet_cpu.specs.Page.{allows, has}
+use Rattle.cet_cpu.specs.Page.{allows}
 use Rattle.cet_cpu.specs.Finish.{above, below}
 use Rattle.cet_cpu.specs.declared.checks.Kind.{Kind}
 use Rattle.cet_cpu.specs.declared.checks.Kind.TheVariants as kind

@@ -1,18 +1,18 @@
 -- What the last book of a run is, for every list of turns. Source: own.
-use Rattle.std.proofs.Common.{◌≡◌, ◌≢◌, ℕ, zero, suc, ◌+◌, ◌*◌, ◌<◌, ◌≤◌, ◌⊎◌, inl, inr, List, [], ◌∷◌, ◌++◌, length, Option, Some, None, refl, sym, ◌∙◌, ap, subst, arith, get_or}
-use Rattle.std.specs.Prelude.{map, option_and_then, slice_get}
+use Rattle.std.proofs.Common.{◌≡◌, ℕ, ◌⊎◌, inl, inr, List, [], ◌∷◌, ◌++◌, length, Option, Some, None, refl, ◌∙◌, ap, subst, arith, get_or}
+use Rattle.std.specs.Prelude.{option_and_then, slice_get}
 use Rattle.cet_words.specs.Job.{JobData, IsJob}
 use Rattle.cet_words.specs.Change.{Change}
 use Rattle.cet_isa.specs.declared.threads.End.{End}
 use Rattle.cet_isa.specs.declared.threads.End.TheVariants as ending
-use Rattle.cet_book.specs.Book.{Holder, Current, Lost, Book, Region, nowhere, region, top, current_of, book_after, books_after, first_book}
+use Rattle.cet_book.specs.Book.{Current, Lost, Book, Region, nowhere, region, current_of, book_after, books_after, first_book}
 use Rattle.cet_book.specs.Edits.{current_holds}
 use Rattle.cet_book.specs.Stack.{tops}
 use Rattle.cet_cpu.specs.Machine.{Machine, Thread, step, run, Starts}
-use Rattle.cet_own.specs.Event.{Event, events_by, turn_changes, events, book_by, book_of}
+use Rattle.cet_own.specs.Event.{Event, events_by, turn_changes, events, book_by}
 use Rattle.cet_own.specs.Safe.{KeepsStack}
 use Rattle.cet_own.specs.Report.{LastBook}
-use Rattle.cet_own.specs.Standing.{Stacked, HasNone}
+use Rattle.cet_own.specs.Standing.{HasNone}
 use Rattle.cet_own.specs.Classes.{State}
 use Rattle.cet_own.specs.Stands.{CoreStands, ThreadStands}
 use Rattle.cet_own.specs.Turns.{Stands, core_stacked, none_current}

@@ -1,33 +1,32 @@
 -- What a thread claims of RET: where it completes, it goes where the newest entry lets it. Source: own.
-use Rattle.std.proofs.Common.{◌≡◌, ◌≢◌, ℕ, suc, ◌+◌, ◌-◌, ◌*◌, ◌/◌, ◌%◌, ◌^◌, ◌<◌, ◌≤◌, ◌⊎◌, inl, inr, Bool, true, false, ◌&&◌, cond, List, [], ◌∷◌, length, Option, Some, None, refl, sym, ◌∙◌, ap, subst, arith, get_or}
+use Rattle.std.proofs.Common.{◌≡◌, ℕ, ◌+◌, ◌-◌, ◌/◌, ◌^◌, ◌<◌, ◌≤◌, ◌⊎◌, inl, inr, Bool, true, false, ◌&&◌, List, [], ◌∷◌, length, Option, Some, None, refl, sym, ◌∙◌, ap, subst, arith, get_or}
 use Rattle.std.specs.Prelude.{◌==◌, if◌then◌else◌}
 use Rattle.std.proofs.lemmas.Bool.{eqb-true, false≢true}
 use Rattle.std.proofs.lemmas.Bool.Decides.{nat_tests}
 use Rattle.cet_words.specs.Bytes.{code_byte, code_place}
 use Rattle.cet_words.specs.Job.{JobData, IsJob}
 use Rattle.cet_words.specs.Layout.{word_in}
-use Rattle.cet_words.specs.Change.{Change, Returned}
+use Rattle.cet_words.specs.Change.{Returned}
 use Rattle.cet_words.specs.declared.accesses.Access.TheVariants as access
 use Rattle.cet_isa.specs.Address.{canonical}
 use Rattle.cet_isa.specs.declared.threads.Arch.{Arch}
 use Rattle.cet_book.specs.Book.{Entry, Call, Restorer, Frame, Previous, Blank, Lost, Region, Book, region, top, current_of, relist, unlink, returned as book_returned}
 use Rattle.cet_book.specs.Edits.{Owned, owned}
-use Rattle.cet_book.specs.Relies.{Relies}
-use Rattle.cet_book.specs.Removes.{Removal, returned_is, shortened}
-use Rattle.cet_book.specs.Stack.{slot, word_of, tops}
+use Rattle.cet_book.specs.Removes.{returned_is, shortened}
+use Rattle.cet_book.specs.Stack.{slot, tops}
 use Rattle.cet_book.specs.Top.{AtTop, removal_top}
 use Rattle.cet_book.specs.Unlink.{Linked, left_there}
 use Rattle.cet_book.specs.Ways.{with_current_at}
-use Rattle.cet_cpu.specs.Script.{Script, done, fault, ◌>>=◌}
+use Rattle.cet_cpu.specs.Script.{done, fault, ◌>>=◌}
 use Rattle.cet_cpu.specs.Finish.{above, rsp}
 use Rattle.cet_cpu.specs.Flow.{returned, returned_if, return_differs, ret}
 use Rattle.cet_cpu.specs.Parts.{general_protection, load_as}
 use Rattle.cet_cpu.specs.declared.checks.Kind.TheVariants as kind
 use Rattle.cet_cpu.specs.declared.checks.Who.TheVariants.{User}
 use Rattle.cet_own.specs.Safe.{GoesRight}
-use Rattle.cet_own.specs.Holds.{Sound, In}
-use Rattle.cet_own.specs.Standing.{Stacked, stacked, Free, AtRest, rest_kept}
-use Rattle.cet_own.specs.Classes.{State, state_after, HeadWord, Known, Owed, loads, pops, own_stack, rules}
+use Rattle.cet_own.specs.Holds.{In}
+use Rattle.cet_own.specs.Standing.{stacked, Free, AtRest, rest_kept}
+use Rattle.cet_own.specs.Classes.{State, state_after, HeadWord, Known, Owed, loads, pops, own_stack}
 use Rattle.cet_own.specs.Parts.{Claim, one_after, claim_bind, tested_then, look_then, shadow_look_then, load_then}
 use Rattle.cet_own.specs.Places.{shadow_slot, above_is, entry_at}
 use Rattle.cet_own.specs.Calls.{entries_of, EndsRow, own_kept}

@@ -1,12 +1,11 @@
 -- What a thread claims of each of its rows. Source: own.
-use Rattle.std.proofs.Common.{◌≡◌, ◌≢◌, ℕ, zero, suc, ◌+◌, ◌-◌, ◌*◌, ◌/◌, ◌%◌, ◌^◌, ◌<◌, ◌≤◌, inl, inr, Bool, true, false, cond, List, [], ◌∷◌, length, Option, Some, None, refl, sym, ◌∙◌, ap, subst, arith}
-use Rattle.std.specs.Prelude.{◌==◌, if◌then◌else◌, ℤ}
+use Rattle.std.proofs.Common.{◌≡◌, ℕ, zero, suc, ◌+◌, ◌-◌, ◌<◌, ◌≤◌, inr, length, Option, Some, None, refl, subst, arith}
+use Rattle.std.specs.Prelude.{◌==◌, ℤ}
 use Rattle.std.specs.Int.{w64, cast_unsigned}
 use Rattle.std.proofs.Math.Nat.{mod-lt}
 use Rattle.cet_words.specs.Bytes.{code_byte, code_place}
 use Rattle.cet_words.specs.Job.{JobData, IsJob}
 use Rattle.cet_words.specs.Layout.{page_at}
-use Rattle.cet_words.specs.declared.accesses.Access.TheVariants as access
 use Rattle.cet_isa.specs.Address.{canonical}
 use Rattle.cet_isa.specs.Reading.{Decoding, Read, Short, Unknown, decoded}
 use Rattle.cet_isa.specs.ReadingLaws.{decoded_within}
@@ -18,21 +17,15 @@ use Rattle.cet_isa.specs.declared.instructions.Size.{Size}
 use Rattle.cet_isa.specs.declared.instructions.Size.TheVariants as size
 use Rattle.cet_isa.specs.declared.threads.Arch.{Arch}
 use Rattle.cet_isa.specs.declared.threads.Fault.{Fault}
-use Rattle.cet_isa.specs.declared.threads.Record.{Record}
 use Rattle.cet_book.specs.Addresses.{IsReturn}
-use Rattle.cet_book.specs.Relies.{Relies}
-use Rattle.cet_cpu.specs.Script.{Script, done, fault, ◌>>=◌}
+use Rattle.cet_cpu.specs.Script.{◌>>=◌}
 use Rattle.cet_cpu.specs.Fetch.{fetchable, joined, missing, missing_in}
 use Rattle.cet_cpu.specs.Finish.{Row, noted, above, rax, IsMade}
-use Rattle.cet_cpu.specs.Flow.{call_relative, relative, ret}
-use Rattle.cet_cpu.specs.Gate.{exit_word, pend_word, handler_word, token_word, made_page, clears, exit, exit_status, no_call, service, syscall, inside, found_busy, signal_of, kill, deliver}
-use Rattle.cet_cpu.specs.Page.{page_fault}
-use Rattle.cet_cpu.specs.Parts.{general_protection, invalid_opcode}
+use Rattle.cet_cpu.specs.Flow.{call_relative, relative}
+use Rattle.cet_cpu.specs.Gate.{exit_word, pend_word, handler_word, made_page, clears, exit, no_call, service, syscall, inside, signal_of, kill, deliver}
+use Rattle.cet_cpu.specs.Parts.{invalid_opcode}
 use Rattle.cet_cpu.specs.Row.{move, execute, fetched, instruction, instruction_bytes, boundary, row, row_from}
-use Rattle.cet_cpu.specs.declared.checks.Kind.TheVariants as kind
-use Rattle.cet_cpu.specs.declared.checks.Who.TheVariants.{User}
-use Rattle.cet_cpu.specs.declared.rows.Finish.{Finish}
-use Rattle.cet_own.specs.Safe.{AtReturn, is_return}
+use Rattle.cet_own.specs.Safe.{is_return}
 use Rattle.cet_own.specs.Holds.{IsOut}
 use Rattle.cet_own.specs.Standing.{AtRest, rest_kept, Inside, inside_kept}
 use Rattle.cet_own.specs.Classes.{State, looks, own_stack}

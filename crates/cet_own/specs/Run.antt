@@ -2,18 +2,16 @@
 use Rattle.std.proofs.Common.{◌≡◌, ℕ, List, [], ◌∷◌, length, Option, Some, None, refl, sym, ◌∙◌, ap, subst}
 use Rattle.std.specs.Prelude.{slice_get}
 use Rattle.cet_words.specs.Job.{JobData, IsJob}
-use Rattle.cet_words.specs.declared.accesses.Access.{Access}
 use Rattle.cet_isa.specs.declared.threads.End.{End}
-use Rattle.cet_book.specs.Book.{Book, Holder, Current, region, current_of, books_after, first_book}
-use Rattle.cet_cpu.specs.Core.{Core, wanted, access_of, next_access}
-use Rattle.cet_cpu.specs.Machine.{Thread, Machine, step_by, step, Starts}
+use Rattle.cet_book.specs.Book.{region, books_after, first_book}
+use Rattle.cet_cpu.specs.Core.{wanted, access_of, next_access}
+use Rattle.cet_cpu.specs.Machine.{Thread, Machine, step, Starts}
 use Rattle.cet_own.specs.Event.{turn_changes}
 use Rattle.cet_own.specs.Safe.{AccessReturns, TurnReturns, Safe}
 use Rattle.cet_own.specs.Ages.{Ages, ages_none}
-use Rattle.cet_own.specs.Calls.{entries_of}
 use Rattle.cet_own.specs.Classes.{State}
 use Rattle.cet_own.specs.First.{first_holds, first_threads}
-use Rattle.cet_own.specs.Stands.{InRow, CoreStands, ThreadStands}
+use Rattle.cet_own.specs.Stands.{CoreStands, ThreadStands}
 use Rattle.cet_own.specs.Turns.{Stands, safe_at, Turned, TurnedBy, stays, acts}
 
 -- a thread's turn, by its end

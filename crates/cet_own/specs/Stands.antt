@@ -1,37 +1,28 @@
 -- Where each thread of a machine stands, and one access of a thread. Source: own.
-use Rattle.std.proofs.Common.{add-one, ◌≡◌, ◌≢◌, ℕ, suc, ◌+◌, ◌<◌, ◌≤◌, Bool, true, false, List, [], ◌∷◌, length, Option, Some, None, refl, sym, ◌∙◌, ap, subst, arith}
-use Rattle.std.specs.Prelude.{option_map, ◌==◌, ◌↔◌, if◌then◌else◌, slice_get}
-use Rattle.cet_words.specs.Access.{answer, after}
+use Rattle.std.proofs.Common.{◌≡◌, ℕ, ◌+◌, Bool, true, false, Option, Some, None, refl, sym, ap, subst}
+use Rattle.std.specs.Prelude.{option_map, ◌==◌, if◌then◌else◌}
 use Rattle.cet_words.specs.Job.{JobData, IsJob}
-use Rattle.cet_words.specs.Change.{Change}
-use Rattle.cet_words.specs.declared.accesses.Access.{Access}
 use Rattle.cet_isa.specs.declared.threads.Arch.{Arch}
 use Rattle.cet_isa.specs.declared.threads.End.{End}
 use Rattle.cet_isa.specs.declared.threads.End.TheVariants as ending
-use Rattle.cet_book.specs.Book.{Book, stack_of, books_after}
+use Rattle.cet_book.specs.Book.{Book}
 use Rattle.cet_book.specs.Relies.{Relies}
-use Rattle.cet_cpu.specs.Script.{Came, Over, Faulted, Wants, play, changes_at}
-use Rattle.cet_cpu.specs.Seen.{Seen, nothing_seen, seen_after}
-use Rattle.cet_cpu.specs.Finish.{IsMade}
+use Rattle.cet_cpu.specs.Script.{Came, Over, Faulted, Wants}
+use Rattle.cet_cpu.specs.Seen.{Seen, nothing_seen}
 use Rattle.cet_cpu.specs.Row.{row}
-use Rattle.cet_cpu.specs.Core.{Core, After, unheld, come, held_after, kept_by, recorded, faulted, core_by, noted_by, answered, taken}
-use Rattle.cet_cpu.specs.OrderlyRows.{orderly_row}
-use Rattle.cet_cpu.specs.Within.{Waits, CoreAt, IsCore, taken_is}
+use Rattle.cet_cpu.specs.Core.{Core, After, unheld, kept_by, faulted, core_by, noted_by}
+use Rattle.cet_cpu.specs.Within.{Waits, CoreAt, IsCore}
 use Rattle.cet_cpu.specs.Machine.{Thread}
 use Rattle.cet_cpu.specs.declared.rows.Finish.{Finish}
 use Rattle.cet_cpu.specs.declared.rows.Finish.TheVariants.{Noted, Posted, Exited, Stopped}
-use Rattle.cet_own.specs.Event.{changes_of}
 use Rattle.cet_own.specs.Safe.{NotedReturns}
-use Rattle.cet_own.specs.Frame.{SteadyAt, others_at, during_at, Goes, goes, OnCame, on_came}
-use Rattle.cet_own.specs.Holds.{Holds}
-use Rattle.cet_own.specs.Standing.{Stacked, stacked_kept, AtRest, rest_kept, HasNone, none_kept}
-use Rattle.cet_own.specs.Held.{Held, held_kept}
-use Rattle.cet_own.specs.Classes.{State, state_after, Known, Owed, own_stack, rules}
-use Rattle.cet_own.specs.Laws.{known}
-use Rattle.cet_own.specs.Keeps.{keeps, others}
+use Rattle.cet_own.specs.Frame.{SteadyAt, others_at, OnCame}
+use Rattle.cet_own.specs.Standing.{stacked_kept, AtRest, rest_kept, HasNone, none_kept}
+use Rattle.cet_own.specs.Held.{Held}
+use Rattle.cet_own.specs.Classes.{State, rules}
 use Rattle.cet_own.specs.Parts.{During, Fails}
 use Rattle.cet_own.specs.Calls.{entries_of, Ends}
-use Rattle.cet_own.specs.Rows.{stack_below, row_claim}
+use Rattle.cet_own.specs.Rows.{row_claim}
 
 -- the claim on what is left of a thread's row
 abbrev pub Left : JobData → Arch → (before s : State) → Seen → Type 0

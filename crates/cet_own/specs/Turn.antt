@@ -1,15 +1,9 @@
 -- One access of a thread keeps where all threads stand. Source: own.
-use Rattle.std.proofs.Common.{add-one, ◌≡◌, ◌≢◌, ℕ, zero, suc, ◌+◌, ◌<◌, ◌≤◌, inl, inr, Bool, true, false, cond, List, [], ◌∷◌, length, Option, Some, None, refl, sym, ◌∙◌, ap, subst, arith, eqb, get_or, set, length-set, get_or-set_same, get_or-set_other}
-use Rattle.std.specs.Prelude.{slice_get, slice_set}
-use Rattle.std.proofs.lemmas.Bool.{cases_lt}
-use Rattle.std.proofs.lemmas.Bool.Decides.{eqb_tells}
-use Rattle.std.proofs.lemmas.Option.{slice_get_past, slice_get_within, slice_get-get_or}
+use Rattle.std.proofs.Common.{add-one, ◌≡◌, ◌≢◌, ℕ, ◌+◌, false, List, Option, Some, refl, sym, subst}
 use Rattle.cet_words.specs.Access.{answer, after}
 use Rattle.cet_words.specs.Job.{JobData, IsJob}
-use Rattle.cet_words.specs.Change.{Change}
 use Rattle.cet_words.specs.declared.accesses.Access.{Access}
-use Rattle.cet_isa.specs.declared.threads.End.{End}
-use Rattle.cet_book.specs.Book.{Book, Holder, Current, region, current_of, books_after}
+use Rattle.cet_book.specs.Book.{books_after}
 use Rattle.cet_book.specs.Relies.{Relies}
 use Rattle.cet_isa.specs.declared.threads.Arch.{Arch}
 use Rattle.cet_cpu.specs.Script.{Came, Over, Faulted, Wants}
@@ -17,14 +11,12 @@ use Rattle.cet_cpu.specs.declared.rows.Finish.{Finish}
 use Rattle.cet_cpu.specs.declared.rows.Finish.TheVariants.{Noted, Posted, Exited, Stopped}
 use Rattle.cet_cpu.specs.Seen.{Seen, seen_after}
 use Rattle.cet_cpu.specs.Row.{row}
-use Rattle.cet_cpu.specs.Core.{Core, After, unheld, come, wanted, access_of, next_access, held_after, core_by, answered, taken, child_of}
+use Rattle.cet_cpu.specs.Core.{Core, After, unheld, come, held_after, core_by, answered, taken, child_of}
 use Rattle.cet_cpu.specs.OrderlyRows.{Ends, orderly_row}
 use Rattle.cet_cpu.specs.Orderly.{Results}
-use Rattle.cet_cpu.specs.Script.{changes_at}
-use Rattle.cet_cpu.specs.Within.{Waits, IsCore, taken_is, no_child}
-use Rattle.cet_cpu.specs.Machine.{Thread, Machine, thread_after, with_child, made_by, act, step_by, step}
-use Rattle.cet_own.specs.Event.{changes_of, access_changes, thread_changes, turn_changes}
-use Rattle.cet_own.specs.Safe.{NotedReturns, AccessReturns, ThreadReturns, TurnReturns}
+use Rattle.cet_cpu.specs.Within.{IsCore, taken_is}
+use Rattle.cet_own.specs.Event.{changes_of}
+use Rattle.cet_own.specs.Safe.{NotedReturns}
 use Rattle.cet_own.specs.Frame.{goes, on_came}
 use Rattle.cet_own.specs.Holds.{Holds}
 use Rattle.cet_own.specs.Held.{Held, held_kept}
@@ -35,7 +27,7 @@ use Rattle.cet_own.specs.Parts.{During, Fails}
 use Rattle.cet_own.specs.Calls.{entries_of}
 use Rattle.cet_own.specs.Calls as calls
 use Rattle.cet_own.specs.Rows.{stack_below}
-use Rattle.cet_own.specs.Stands.{Left, InRow, CoreStands, ThreadStands, thread_relies, came_stands, after_book}
+use Rattle.cet_own.specs.Stands.{Left, InRow, CoreStands, came_stands, after_book}
 
 -- what an access of thread t leads to
 pub record Led (job : JobData) (words : List ℕ) (t : ℕ) (s : State) (core : Core) (a : Access) : Type 0 where

@@ -1,34 +1,33 @@
 -- One turn keeps where all threads stand, and returns go right; so every run is safe. Source: own.
-use Rattle.std.proofs.Common.{◌≡◌, ◌≢◌, ℕ, ◌+◌, ◌<◌, ◌≤◌, inl, inr, Bool, true, false, cond, List, [], ◌∷◌, length, Option, Some, None, refl, sym, ◌∙◌, ap, subst, arith, eqb, get_or, set, length-set, get_or-set_same, get_or-set_other}
+use Rattle.std.proofs.Common.{◌≡◌, ◌≢◌, ℕ, ◌<◌, ◌≤◌, inl, inr, List, length, Option, Some, None, refl, sym, ◌∙◌, ap, subst, arith, length-set, get_or-set_same, get_or-set_other}
 use Rattle.std.specs.Prelude.{slice_get, slice_set}
 use Rattle.std.proofs.lemmas.Bool.{cases_lt}
 use Rattle.std.proofs.lemmas.Bool.Decides.{eqb_tells}
 use Rattle.std.proofs.lemmas.Option.{slice_get_past, slice_get_within, slice_get-get_or}
-use Rattle.cet_words.specs.Access.{answer, after}
+use Rattle.cet_words.specs.Access.{answer}
 use Rattle.cet_words.specs.Job.{JobData, IsJob}
 use Rattle.cet_words.specs.declared.accesses.Access.{Access}
 use Rattle.cet_isa.specs.declared.threads.End.{End}
 use Rattle.cet_isa.specs.declared.threads.End.TheVariants as ending
-use Rattle.cet_book.specs.Book.{Book, Holder, Current, region, top, current_of, stack_of, books_after}
+use Rattle.cet_book.specs.Book.{Book, Current, region, current_of, stack_of, books_after}
 use Rattle.cet_book.specs.Shape.{Shape}
 use Rattle.cet_book.specs.Edits.{is_there, current_holds}
-use Rattle.cet_book.specs.Relies.{Relies}
-use Rattle.cet_cpu.specs.Core.{Core, unheld, come, wanted, access_of, next_access, taken}
+use Rattle.cet_cpu.specs.Core.{Core, unheld, come, taken}
 use Rattle.cet_cpu.specs.Row.{row}
 use Rattle.cet_cpu.specs.Script.{Wants}
-use Rattle.cet_cpu.specs.Machine.{Thread, Machine, thread_after, with_child, made_by, act, step_by, step}
+use Rattle.cet_cpu.specs.Machine.{Thread, Machine, thread_after, with_child, act, step_by}
 use Rattle.cet_cpu.specs.Within.{no_child}
-use Rattle.cet_own.specs.Event.{changes_of, access_changes, thread_changes, turn_changes}
-use Rattle.cet_own.specs.Safe.{AccessReturns, ThreadReturns, TurnReturns, KeepsStack, HasStack, IsSafeAt, Safe}
+use Rattle.cet_own.specs.Event.{changes_of, access_changes, thread_changes}
+use Rattle.cet_own.specs.Safe.{AccessReturns, ThreadReturns, KeepsStack, HasStack, IsSafeAt}
 use Rattle.cet_own.specs.Frame.{during_at}
 use Rattle.cet_own.specs.Holds.{Holds}
-use Rattle.cet_own.specs.Standing.{Stacked, AtRest, HasNone}
+use Rattle.cet_own.specs.Standing.{Stacked, HasNone}
 use Rattle.cet_own.specs.Ages.{Ages, ages, ages_none}
 use Rattle.cet_own.specs.Classes.{State, own_stack, rules}
 use Rattle.cet_own.specs.Parts.{During, Fails}
 use Rattle.cet_own.specs.Calls.{entries_of, Ends}
 use Rattle.cet_own.specs.Stands.{InRow, CoreStands, ThreadStands, thread_relies}
-use Rattle.cet_own.specs.Turn.{Led, led}
+use Rattle.cet_own.specs.Turn.{led}
 
 -- words and book in step, and every thread where it should be
 pub record Stands (job : JobData) (m : Machine) (s : State) : Type 0 where
