@@ -43,7 +43,7 @@ none_held t b none k e =
 pub held_none : (t : ℕ) (b : Book) → ((k : ℕ) → stack_of b k ≢ Some t) → length b.stacks ≤ held_by t b
 unfolding held_by
 held_none t b none = elim (cases_lt (held_by t b) (length b.stacks)) [
-    inl l ↦ absurd (none (held_by t b) (holds_true t (stack_of b (held_by t b)) (passes_at_first (holds_stack t) b.stacks None l)))
+  | inl l ↦ absurd (none (held_by t b) (holds_true t (stack_of b (held_by t b)) (passes_at_first (holds_stack t) b.stacks None l)))
   | inr g ↦ g
 ]
 

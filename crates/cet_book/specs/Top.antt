@@ -19,7 +19,7 @@ pub record AtTop (t : ℕ) (b : Book) (ssp : ℕ) : Type 0 where
 pub top_relies : {t : ℕ} {b now : Book} {ssp : ℕ} → Relies t b now → AtTop t b ssp → AtTop t now ssp
 top_relies {t = t} {b = b} {now = now} r a =
     let same : region now (current_of t now) ≡ region b (current_of t b)
-      = ap (region now) (r.found a.has) ∙ r.kept (current_of t b) (owns_current t (region b (current_of t b)).holder (current_holds t b a.has)) in
+    = ap (region now) (r.found a.has) ∙ r.kept (current_of t b) (owns_current t (region b (current_of t b)).holder (current_holds t b a.has)) in
     record {
       has = let g = r.grows in let e = r.found a.has in let l = a.has in omega arith;
       at = a.at ∙ sym (ap (λ (q : Region). top q) same);

@@ -79,12 +79,12 @@ parked_at_is p b i h x =
     let inside : i < length b.regions = is_there b i (λ e. let c = x.parked in cc) in
     position_or_len_is (has_token p) b.regions i nowhere (omega arith)
     (λ j before. not_passed (has_token p (region b j)) (λ e.
-        let y = has_token_true p (region b j) e in
-        let apart = h.apart j i before inside in
-        let room = parked_fits (region b i) (h.fits i) x.parked in
-        let there = x.top_is in
-        let other = y.top_is in
-        omega arith))
+    let y = has_token_true p (region b j) e in
+    let apart = h.apart j i before inside in
+    let room = parked_fits (region b i) (h.fits i) x.parked in
+    let there = x.top_is in
+    let other = y.top_is in
+    omega arith))
     (λ _. has_token-true p (region b i) x)
 
 -- no two regions start at one address
@@ -93,10 +93,10 @@ unfolding starting_at
 starting_at_is start b i h inside e =
     position_or_len_is (λ r. eqb r.start start) b.regions i nowhere (omega arith)
     (λ j before.
-        let apart = h.apart j i before inside in
-        let full = (h.bounds j (omega arith)).full in
-        let n : (region b j).start ≢ start = omega arith in
-        grind (arith, nat_tests))
+    let apart = h.apart j i before inside in
+    let full = (h.bounds j (omega arith)).full in
+    let n : (region b j).start ≢ start = omega arith in
+    grind (arith, nat_tests))
     (λ _. grind (arith, nat_tests))
 
 -- a restore token at p is taken exactly where a parked region has its token there
