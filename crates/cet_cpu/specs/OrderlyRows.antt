@@ -16,6 +16,8 @@ use Rattle.cet_isa.specs.declared.instructions.Size.TheVariants as size
 use Rattle.cet_isa.specs.declared.threads.Fault.{Fault}
 use Rattle.cet_isa.specs.declared.threads.Record.{Record}
 use Rattle.cet_isa.specs.declared.threads.Arch.{Arch}
+use Rattle.cet_isa.specs.declared.threads.What.{What}
+use Rattle.cet_isa.specs.declared.threads.What.TheVariants as what
 use Rattle.cet_words.specs.Change.{Change, Busied, Returned, Freed, Ended}
 use Rattle.cet_cpu.specs.Script.{Script, done, fault, ask, tell, ◌>>=◌, Wants, play, birth}
 use Rattle.cet_cpu.specs.Parts.{load_as, peek, exchange_as}
@@ -28,16 +30,36 @@ use Rattle.cet_cpu.specs.Orderly.{Orderly, Results, orderly_bind, orderly_cond, 
 use Rattle.cet_cpu.specs.declared.rows.Finish.{Finish}
 use Rattle.cet_cpu.specs.declared.rows.Finish.TheVariants.{Noted, Posted, Exited, Stopped}
 
--- a record raises the count by one, nothing changes where the kernel-made shadow stack is, and no signal is posted yet
+-- the record tells of no new shadow stack
+abbrev pub names_no_stack : What → Bool
+names_no_stack what.Claim = false
+names_no_stack what.Born = false
+names_no_stack what.Step = true
+names_no_stack what.Call = true
+names_no_stack what.Ret = true
+names_no_stack what.Raise = true
+names_no_stack what.Take = true
+names_no_stack what.Save = true
+names_no_stack what.Busy = true
+names_no_stack what.Sys = true
+names_no_stack what.Wrote = true
+names_no_stack what.Signal = true
+names_no_stack what.Ignore = true
+names_no_stack what.SigReturn = true
+names_no_stack (what.Fault name) = true
+names_no_stack what.Kill = true
+
+-- A record raises the count by one, and nothing changes where the kernel-made shadow stack is. No signal is posted yet, and
+-- no shadow stack is made.
 abbrev pub Ends : Arch → Finish → Type 0
-Ends arch (Noted next noted) = (next.count ≡ arch.count + 1) × (next.made ≡ arch.made)
+Ends arch (Noted next noted) = (next.count ≡ arch.count + 1) × (next.made ≡ arch.made) × (names_no_stack noted.what ≡ true)
 Ends arch (Posted next) = ⊥
-Ends arch (Exited next noted status) = (next.count ≡ arch.count + 1) × (next.made ≡ arch.made)
+Ends arch (Exited next noted status) = (next.count ≡ arch.count + 1) × (next.made ≡ arch.made) × (names_no_stack noted.what ≡ true)
 Ends arch Stopped = Unit {0}
 
 -- the same of the part of an instruction
 abbrev pub EndsRow : Arch → Arch × Record → Type 0
-EndsRow arch x = (x.0.count ≡ arch.count + 1) × (x.0.made ≡ arch.made)
+EndsRow arch x = (x.0.count ≡ arch.count + 1) × (x.0.made ≡ arch.made) × (names_no_stack x.1.what ≡ true)
 
 no_birth_returned : (word shadow_word : ℕ) (b : Bool) → birth (cond b (Returned ∷ []) []) ≡ None
 no_birth_returned word shadow_word true = refl
@@ -57,14 +79,14 @@ orderly_call arch back target =
     (look_then 4094 29 _ _ _ _ _ refl refl (λ page.
     look_then 4093 28 _ _ _ _ _ refl refl (λ shadow.
     store_then 4092 27 false _ _ _ _ _ refl refl
-    (store_then 4091 27 true _ _ _ _ _ refl refl (refl, refl)))))
+    (store_then 4091 27 true _ _ _ _ _ refl refl (refl, refl, refl)))))
 
 orderly_call_next : (arch : Arch) (back : ℕ) → Orderly 4094 29 false (λ n k w x. EndsRow arch x) (call_next arch back)
 unfolding call_next
 orderly_call_next arch back =
     tested_then 4094 29 _ _ 8 _
     (look_then 4094 29 _ _ _ _ _ refl refl (λ page.
-    store_then 4093 28 false _ _ _ _ _ refl refl (refl, refl)))
+    store_then 4093 28 false _ _ _ _ _ refl refl (refl, refl, refl)))
 
 orderly_call_relative : (arch : Arch) (disp : ℤ) (next : ℕ) → Orderly 4094 29 false (λ n k w x. EndsRow arch x) (call_relative arch disp next)
 orderly_call_relative arch disp next =
@@ -79,7 +101,7 @@ orderly_ret arch =
     load_then 4092 27 false _ _ _ _ refl refl (λ word. (refl,
     load_then 4091 26 false _ _ _ _ refl refl (λ shadow_word. (no_birth_returned word shadow_word ((word == shadow_word) && canonical word),
     orderly_cond 4090 25 false _ (word == shadow_word) _ _
-        (λ _. orderly_cond 4090 25 false _ (canonical word) _ _ (λ _. (refl, refl)) (λ _. refl))
+        (λ _. orderly_cond 4090 25 false _ (canonical word) _ _ (λ _. (refl, refl, refl)) (λ _. refl))
         (λ _. refl))))))))
 
 -- ---- within the gate nothing faults, so whether something was written doesn't matter
@@ -118,11 +140,11 @@ orderly_exit : (arch : Arch) (k : ℕ) (w : Bool) → Orderly 4091 27 w (Results
 unfolding exit
 orderly_exit arch k w =
     orderly_bind 4091 27 w _ (clears 8 _) _ (orderly_clears w _ _
-    (orderly_gate_out 4083 27 true _ _ _ _ refl refl refl refl refl (λ w'. (refl, refl))))
+    (orderly_gate_out 4083 27 true _ _ _ _ refl refl refl refl refl (λ w'. (refl, refl, refl))))
 
 orderly_no_call : (arch : Arch) (next k : ℕ) (w : Bool) → Orderly 4091 27 w (Results (Ends arch)) (no_call arch next k)
 unfolding no_call
-orderly_no_call arch next k w = orderly_gate_out 4091 27 w _ _ _ _ refl refl refl refl refl (λ w'. (refl, refl))
+orderly_no_call arch next k w = orderly_gate_out 4091 27 w _ _ _ _ refl refl refl refl refl (λ w'. (refl, refl, refl))
 
 orderly_service : (arch : Arch) (next k : ℕ) (w : Bool) → Orderly 4091 27 w (Results (Ends arch)) (service arch next k)
 orderly_service arch next k w = orderly_cond 4091 27 w _ (rax arch == 60) _ _ (λ _. orderly_exit arch k w) (λ _. orderly_no_call arch next k w)
@@ -131,25 +153,25 @@ orderly_syscall : (job : JobData) (arch : Arch) (next : ℕ) → Orderly 4094 29
 unfolding syscall
 orderly_syscall job arch next =
     orderly_gate_in 4094 29 _ _ _ (record { first = refl; second = refl; third = refl; one = refl; two = refl })
-    (λ w. orderly_service arch next (stack_of job arch) w) (λ w found. (refl, refl))
+    (λ w. orderly_service arch next (stack_of job arch) w) (λ w found. (refl, refl, refl))
 
 orderly_kill : (arch : Arch) (signal k : ℕ) (w : Bool) → Orderly 4093 29 w (Results (Ends arch)) (kill arch signal k)
 unfolding kill
 orderly_kill arch signal k w =
     load_then 4093 29 w _ _ _ _ refl refl (λ handler. (refl,
     exchange_then 4092 28 (w || false) _ _ _ _ _ _ refl refl (λ before. (refl,
-    orderly_gate_out 4091 27 ((w || false) || (before == 0)) _ _ _ _ refl refl refl refl refl (λ w'. (refl, refl))))))
+    orderly_gate_out 4091 27 ((w || false) || (before == 0)) _ _ _ _ refl refl refl refl refl (λ w'. (refl, refl, refl))))))
 
 orderly_deliver : (job : JobData) (arch : Arch) (e : Fault) → Orderly 4096 31 false (Results (Ends arch)) (deliver job arch e)
 unfolding deliver
 orderly_deliver job arch e =
     orderly_gate_in 4096 31 _ _ _ (record { first = refl; second = refl; third = refl; one = refl; two = refl })
-    (λ w. orderly_kill arch (signal_of e.name) (stack_of job arch) w) (λ w found. (refl, refl))
+    (λ w. orderly_kill arch (signal_of e.name) (stack_of job arch) w) (λ w found. (refl, refl, refl))
 
 -- ---- the instruction and the boundary
 
 orderly_move : (arch : Arch) (s : Size) (dst src : Operand) (next : ℕ) → Orderly 4094 29 false (Results (Ends arch)) (move arch s dst src next)
-orderly_move arch size.Dword (operand.Reg r) (operand.Imm z) next = (refl, refl)
+orderly_move arch size.Dword (operand.Reg r) (operand.Imm z) next = (refl, refl, refl)
 orderly_move arch size.Dword (operand.Reg r) (operand.Reg q) next = refl
 orderly_move arch size.Dword (operand.Reg r) (operand.Mem m) next = refl
 orderly_move arch size.Dword (operand.Mem m) src next = refl

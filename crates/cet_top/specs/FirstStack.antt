@@ -1,6 +1,11 @@
 -- The shadow stack of thread 0, read from the words. Source: own.
 use Rattle.std.proofs.Common.{zero, suc}
-use Rattle.std.specs.Prelude.{◌≡◌, ℕ, ◌+◌, ◌-◌, ◌/◌, ◌≤◌, List, [], ◌∷◌, slice_index}
+use Rattle.std.specs.Prelude.{◌≡◌, ℕ, ◌+◌, ◌-◌, ◌/◌, ◌≤◌, List, [], ◌∷◌, map, length, unwrap_or, slice_index}
+use Rattle.cet_book.specs.Stack.{slot_word}
+use Rattle.cet_cpu.specs.Gate.{exit_word}
+use Rattle.cet_cpu.specs.Machine.{Thread}
+use Rattle.cet_top.specs.Outcome.{thread_out, process_end}
+use Rattle.cet_top.specs.declared.outcomes.Outcome.{Outcome}
 use Rattle.cet_isa.specs.declared.threads.End.{End}
 use Rattle.cet_isa.specs.declared.threads.End.TheVariants as ending
 use Rattle.cet_top.specs.declared.outcomes.Region.{Region}
@@ -8,14 +13,10 @@ use Rattle.cet_top.specs.declared.outcomes.Shown.{Shown}
 use Rattle.cet_top.specs.declared.outcomes.Shown.TheVariants as shown
 use Rattle.cet_top.specs.declared.outcomes.StackReport.{StackReport}
 
--- the number of the word at an address of the shadow area
-abbrev pub shadow_word : (addr : ℕ) → ℕ
-shadow_word addr = 1081344 + (addr - 0x200000000) / 8
-
 -- so many words from an address on
 unfoldable pub words_from : List ℕ → (addr count : ℕ) → List ℕ
 words_from words addr zero = []
-words_from words addr (suc count) = slice_index words (shadow_word addr) ∷ words_from words (addr + 8) count
+words_from words addr (suc count) = slot_word words addr ∷ words_from words (addr + 8) count
 
 abbrev pub first_region : Region
 first_region = record { start = 0x200001000; end = 0x200009000 }
@@ -31,3 +32,23 @@ abbrev pub KeepsFirst : End → (ssp : ℕ) → Type 0
 KeepsFirst (ending.Exit status) ssp = Unit {0}
 KeepsFirst ending.Group ssp = (0x200001000 ≤ ssp) × (ssp ≤ 0x200009000)
 KeepsFirst ending.Limit ssp = (0x200001000 ≤ ssp) × (ssp ≤ 0x200009000)
+
+abbrev pub end_of : Thread → End
+end_of thread = unwrap_or thread.core.over ending.Group
+
+-- of the first thread of a list
+abbrev pub first_stacks : List ℕ → List Thread → List StackReport
+first_stacks words [] = []
+first_stacks words (thread ∷ threads) = first_stack words (end_of thread) thread.core.arch.ssp ∷ []
+
+abbrev pub KeepsFirsts : List Thread → Type 0
+KeepsFirsts [] = Unit {0}
+KeepsFirsts (thread ∷ threads) = KeepsFirst (end_of thread) thread.core.arch.ssp
+
+-- the outcome of a run, with the words and threads that it has left, of which thread 0 alone has a shadow stack
+abbrev pub read_outcome : List ℕ → List Thread → Outcome
+read_outcome words threads = record {
+  threads = map thread_out threads;
+  stacks = first_stacks words threads;
+  process = process_end (slice_index words exit_word) (map thread_out threads);
+}

@@ -12,3 +12,6 @@ pub mod Outcome
 pub mod FirstStack
 pub mod Text
 pub mod Accepts
+pub mod Shown
+pub mod Answer
+pub mod Serves

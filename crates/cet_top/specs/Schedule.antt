@@ -30,6 +30,10 @@ abbrev pub IsRobin : JobData → Machine → (last : Option ℕ) → (turns : Li
 IsRobin job m last [] = next_turn m.threads last ≡ None
 IsRobin job m last (t ∷ ts) = (next_turn m.threads last ≡ Some t) × IsRobin job (step job m t) (Some t) ts
 
+-- Robin from the start
+abbrev pub ByRobin : JobData → Machine → (turns : List ℕ) → Type 0
+ByRobin job start turns = IsRobin job start None turns
+
 -- the given turns, and then Robin anew
 pub record IsFull (job : JobData) (m : Machine) (given turns : List ℕ) : Type 0 where
   pub rest : List ℕ

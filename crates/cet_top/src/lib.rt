@@ -1,6 +1,7 @@
 //! What the program `cetvm` does, over a source of bytes and a sink of bytes.
 #![tactic(auto)]
 
+mod commands;
 mod ends;
 mod guests;
 mod lines;
@@ -8,10 +9,13 @@ mod loads;
 mod memory_streams;
 mod outcomes;
 mod reports;
+mod runs;
 mod stacks;
 mod status;
 mod std_streams;
 mod streams;
+#[cfg(test)]
+mod tests;
 mod texts;
 mod transfers;
 mod turns;

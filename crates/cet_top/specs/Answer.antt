@@ -1,0 +1,73 @@
+-- What a command answers: its status and its output, by the words and the bytes of the source. Source: own.
+use Rattle.std.specs.Prelude.{◌≡◌, ℕ, ◌⊎◌, List, [], Option, Some, slice_index, map}
+use Rattle.cet_words.specs.Job.{ImageData, JobData}
+use Rattle.cet_book.specs.Book.{Book}
+use Rattle.cet_cpu.specs.Gate.{exit_word}
+use Rattle.cet_cpu.specs.Machine.{Machine, Starts, run}
+use Rattle.cet_own.specs.Event.{book_of}
+use Rattle.cet_top.specs.Accepts.{Accepts, image_of}
+use Rattle.cet_top.specs.Outcome.{thread_out, process_end}
+use Rattle.cet_top.specs.Report.{report_of}
+use Rattle.cet_top.specs.Schedule.{ByRobin}
+use Rattle.cet_top.specs.Shown.{shown_stacks}
+use Rattle.cet_top.specs.declared.outcomes.Outcome.{Outcome}
+use Rattle.cet_top.specs.declared.outcomes.ProcessEnd.{ProcessEnd}
+use Rattle.cet_top.specs.declared.outcomes.ProcessEnd.TheVariants as process
+use Rattle.cet_top.specs.declared.outcomes.Style.{Style}
+use Rattle.cet_top.specs.declared.outcomes.Style.TheVariants as style
+use Rattle.cet_top.specs.declared.status.Status.{Status}
+use Rattle.cet_top.specs.declared.status.Status.TheVariants as status
+use Rattle.cet_top.specs.declared.words.Command.{Command}
+use Rattle.cet_top.specs.declared.words.Command.TheVariants.{Run}
+
+-- what a finished run comes to, with its last book
+abbrev pub outcome_of : Machine → Book → Outcome
+outcome_of m b = record {
+  threads = map thread_out m.threads;
+  stacks = shown_stacks b m.threads;
+  process = process_end (slice_index m.words exit_word) (map thread_out m.threads);
+}
+
+-- A run of the job by this schedule, and its outcome.
+pub record Ran (job : JobData) (Schedule : Machine → List ℕ → Type 0) (outcome : Outcome) : Type 0 where
+  pub start : Machine
+  pub starts : Starts job start
+  pub turns : List ℕ
+  pub schedule : Schedule start turns
+  pub book : Book
+  pub legal : book_of job start turns ≡ Some book
+  pub is : outcome ≡ outcome_of (run job start turns) book
+
+-- the job of an image by the defaults: four processors, at most 100,000 records a thread, no signals
+abbrev pub job_with : ImageData → JobData
+job_with image = record { image = image; procs = 4; limit = 100000; signals = [] }
+
+abbrev pub job_of : List ℕ → JobData
+job_of bytes = job_with (image_of bytes)
+
+-- the status of a run whose process ended so
+abbrev pub status_of : ProcessEnd → Status
+status_of (process.Exit code) = status.Done
+status_of (process.Killed signal) = status.Killed signal
+status_of (process.Limit thread) = status.Limit thread
+
+-- the report of a run of the job by this schedule
+pub record Reports (job : JobData) (Schedule : Machine → List ℕ → Type 0) (style : Style) (s : Status) (output : List ℕ) : Type 0 where
+  pub outcome : Outcome
+  pub ran : Ran job Schedule outcome
+  pub ends : s ≡ status_of outcome.process
+  pub reports : output ≡ report_of outcome style
+
+-- a file that isn't accepted breaks the rule at the place
+pub record Refuses (bytes : List ℕ) (s : Status) (output : List ℕ) : Type 0 where
+  pub broken : ¬ Accepts bytes
+  pub refused : s ≡ status.Refused 0 0
+  pub nothing : output ≡ []
+
+-- a file that is accepted runs by Robin
+pub record Runs (bytes : List ℕ) (s : Status) (output : List ℕ) : Type 0 where
+  pub accepted : Accepts bytes
+  pub reported : Reports (job_of bytes) (ByRobin (job_of bytes)) style.Full s output
+
+abbrev pub Answers : Command → (bytes : List ℕ) → Status → (output : List ℕ) → Type 0
+Answers Run bytes s output = Refuses bytes s output ⊎ Runs bytes s output

@@ -1,0 +1,116 @@
+//! What the commands do, between a source and a sink.
+
+ghost use Rattle.std.specs.Prelude.{◌≡◌, ◌≤◌, Ok, IfOk};
+ghost use Rattle.cet_top.specs.Answer.{Answers, Reports, Runs, Refuses, job_of, job_with, status_of};
+ghost use Rattle.cet_top.specs.Accepts.{Accepts, image_of};
+ghost use Rattle.cet_top.specs.Schedule.{ByRobin};
+ghost use Rattle.cet_top.specs.Serves.{Serves, streamed};
+
+use crate::loads::{LoadFault, load_form};
+use crate::outcomes::{ProcessEnd, Style};
+use crate::reports::report;
+use crate::runs::run;
+use crate::status::Status;
+use crate::streams::{Sink, Source};
+use crate::transfers::{Unread, read_all, write_all};
+use crate::words::Command;
+use cet_words::{Bytes, Image, Job, NoMemory};
+use std::alloc::Global;
+
+/// The most records of a thread, where the words say nothing else.
+const DEFAULT_LIMIT: u32 = 100_000;
+
+/// The number of processors, where the words say nothing else.
+const DEFAULT_PROCS: u8 = 4;
+
+/// The status and the output of a command.
+#[derive(Debug, Drop)]
+pub(crate) struct Answer {
+    pub status: Status,
+    pub output: Bytes,
+}
+
+/// The status of a run whose process ended so.
+fn status_of(end: ProcessEnd) -> Status
+    ensures { result ≡ status_of end }
+{
+    match end {
+        ProcessEnd::Exit(_) => Status::Done,
+        ProcessEnd::Killed(signal) => Status::Killed(signal),
+        ProcessEnd::Limit(thread) => Status::Limit(thread),
+    }
+}
+
+/// Runs a job and reports.
+fn run_job(alloc: Global, job: &Job) -> Result<Answer, NoMemory>
+    ensures { IfOk result (λ answer. Reports job.now (ByRobin job.now) Style.Full answer.status answer.output) }
+{
+    let outcome = run(alloc, job)?;
+    let output = report(alloc, &outcome, Style::Full)?;
+    Ok(Answer {
+        status: status_of(outcome.process),
+        output,
+    })
+}
+
+/// Runs an image by the defaults.
+fn run_image(alloc: Global, image: &Image) -> Result<Answer, NoMemory>
+    ensures { IfOk result (λ answer. let job = job_with image.now in Reports job (ByRobin job) Style.Full answer.status answer.output) }
+{
+    let _entry = image.entry;
+    let job = Job {
+        image,
+        procs: DEFAULT_PROCS,
+        limit: DEFAULT_LIMIT,
+        signals: &[],
+    };
+    run_job(alloc, &job)
+}
+
+/// Runs the image that the bytes are.
+fn run_bytes(alloc: Global, bytes: &[u8]) -> Result<Answer, NoMemory>
+    ensures { IfOk result (λ answer. Answers Command.Run bytes.now answer.status answer.output) }
+{
+    match load_form(alloc, bytes) {
+        Ok(image) => run_image(alloc, &image),
+        Err(LoadFault::Refused { rule, offset }) => Ok(Answer {
+            status: Status::Refused { rule, offset },
+            output: Bytes::new(alloc),
+        }),
+        Err(LoadFault::NoMemory) => Err(NoMemory),
+    }
+}
+
+/// What a command answers to the bytes of the source.
+fn answer_to(alloc: Global, command: Command, bytes: &[u8]) -> Result<Answer, NoMemory>
+    ensures { IfOk result (λ answer. Answers command bytes.now answer.status answer.output) }
+{
+    match command {
+        Command::Run => run_bytes(alloc, bytes),
+    }
+}
+
+/// Serves a command: reads the source to its end, and writes the answer.
+pub(crate) fn serve<S: Source, K: Sink>(
+    alloc: Global,
+    command: Command,
+    src: &mut S,
+    sink: &mut K,
+) -> Status
+    ensures { Serves command (streamed (S.left src.old) (S.faults src.old)) (streamed (S.left src.new) (S.faults src.new))
+        (streamed (K.written sink.old) (K.faults sink.old)) (streamed (K.written sink.new) (K.faults sink.new)) result }
+{
+    let bytes = match read_all(alloc, src) {
+        Ok(bytes) => bytes,
+        Err(Unread::NoMemory) => return Status::NoMemory,
+        Err(Unread::Failed) => return Status::ReadFault,
+        Err(Unread::TooLong) => return Status::TooLong,
+    };
+    let Ok(answer) = answer_to(alloc, command, bytes.as_slice()) else {
+        return Status::NoMemory;
+    };
+    match write_all(sink, answer.output.as_slice()) {
+        Ok(()) => answer.status,
+        Err(_) => Status::WriteFault,
+    }
+}

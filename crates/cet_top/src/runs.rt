@@ -1,0 +1,69 @@
+//! A run of a job by Robin.
+
+ghost use Rattle.std.specs.Prelude.{◌≡◌, ◌≤◌, length, IfOk};
+ghost use Rattle.cet_top.specs.Answer.{Ran};
+ghost use Rattle.cet_top.specs.FirstStack.{KeepsFirsts, first_stacks, read_outcome};
+ghost use Rattle.cet_top.specs.Schedule.{ByRobin};
+
+use crate::ends::{process_end, thread_outs};
+use crate::guests::Guest;
+use crate::outcomes::{Outcome, StackReports};
+use crate::stacks::first_stack;
+use crate::turns::robin;
+use cet_cpu::first;
+use cet_isa::End;
+use cet_words::{Access, Job, NoMemory, Perform, Plain};
+use std::alloc::Global;
+
+/// The number of the word EXIT.
+const EXIT_WORD: u32 = 1_605_632;
+
+/// The shadow stacks after a run: that of thread 0.
+fn first_stacks<P: Perform>(
+    alloc: Global,
+    words: &mut P,
+    guests: &[Guest],
+) -> Result<StackReports, NoMemory>
+    requires { KeepsFirsts guests.now }
+    ensures same { P.words words.new ≡ P.words words.old }
+    ensures stacks { IfOk result (λ stacks. stacks ≡ first_stacks (P.words words.old) guests.now) }
+{
+    let mut stacks = StackReports::new(alloc);
+    if let [guest, ..] = guests {
+        let end = guest.end().unwrap_or(End::Group);
+        stacks.push(alloc, first_stack(alloc, words, end, guest.ssp())?)?;
+    }
+    Ok(stacks)
+}
+
+/// The outcome of a run that has left these words and threads.
+fn read_outcome<P: Perform>(
+    alloc: Global,
+    words: &mut P,
+    guests: Vec<Guest>,
+) -> Result<Outcome, NoMemory>
+    requires keeps { KeepsFirsts guests.items }
+    requires few { length guests.items ≤ 32 }
+    ensures { IfOk result (λ outcome. outcome ≡ read_outcome (P.words words.old) guests.items) }
+{
+    let exit = words.perform(Access::Load(EXIT_WORD));
+    let stacks = first_stacks(alloc, words, guests.as_slice())?;
+    let threads = thread_outs(alloc, guests)?;
+    let process = process_end(exit, threads.as_slice());
+    Ok(Outcome {
+        threads,
+        stacks,
+        process,
+    })
+}
+
+/// Runs a job by Robin from its start until every thread has ended.
+pub(crate) fn run(alloc: Global, job: &Job) -> Result<Outcome, NoMemory>
+    ensures { IfOk result (Ran job.now (ByRobin job.now)) }
+{
+    let mut words = Plain::new(alloc, job.image)?;
+    let mut guests = Vec::new(alloc);
+    guests.push(Guest::new(alloc, first(job)))?;
+    robin(alloc, job, &mut words, &mut guests)?;
+    read_outcome(alloc, &mut words, guests)
+}

@@ -1,0 +1,381 @@
+ghost use Rattle.std.specs.Prelude.{None};
+
+use crate::loads::{LoadFault, load_form};
+use crate::outcomes::{
+    Outcome, ProcessEnd, Records, Region, Shown, StackReport, StackReports, Style, ThreadOut,
+    ThreadOuts,
+};
+use crate::reports::report;
+use crate::transfers::{Unread, read_all, write_all};
+use crate::words::{Command, read_words};
+use crate::{Failed, MemSink, Sink, Source, Status, StdSink, StdSource, SureSink, SureSource};
+use cet_isa::{End, FaultName, Record, What};
+use cet_words::{NoMemory, Words};
+use std::alloc::{AllocError, Global};
+use std::io;
+use std::test::Fail;
+
+/// Two bytes, and then a fault at each read.
+#[derive(Drop)]
+struct Breaks {
+    faults: u64,
+    is_read: bool,
+}
+
+impl Source for Breaks {
+    ghost left = { λ _. None };
+
+    ghost faults = { λ s. s.faults };
+
+    fn read(&mut self, buf: &mut [u8]) -> Result<usize, Failed> {
+        if self.is_read {
+            self.faults = self.faults.saturating_add(1);
+            return Err(Failed);
+        }
+        self.is_read = true;
+        Ok(buf.len().min(2))
+    }
+}
+
+#[test]
+fn sources_are_read_to_their_end(rt: HostRuntime) -> Result<(), Fail> {
+    let alloc = rt.alloc();
+    let mut sure = SureSource::new(alloc, b"some bytes")?;
+    assert_eq!(rt;
+        read_all(alloc, &mut sure)?.as_slice(),
+        b"some bytes".as_slice()
+    );
+    assert!(rt; read_all(alloc, &mut sure)?.as_slice().is_empty());
+
+    let mut reader = StdSource::new(b"more".as_slice());
+    assert_eq!(rt;
+        read_all(alloc, &mut reader)?.as_slice(),
+        b"more".as_slice()
+    );
+
+    let mut breaks = Breaks {
+        faults: 0,
+        is_read: false,
+    };
+    assert_eq!(rt; read_all(alloc, &mut breaks).err(), Some(Unread::Failed));
+
+    let mut endless = StdSource::new(io::repeat(7));
+    assert_eq!(rt; read_all(alloc, &mut endless).err(), Some(Unread::TooLong));
+    Ok(())
+}
+
+#[test]
+fn sinks_fail_where_they_are_told_to(rt: HostRuntime) -> Result<(), Fail> {
+    let alloc = rt.alloc();
+    let mut sink = MemSink::new(alloc, 20, 10, &[2, 5])?;
+    assert_eq!(rt; write_all(&mut sink, b"0123456789abcdef"), Err(Failed));
+    assert_eq!(rt; sink.bytes(), b"0123456789".as_slice());
+    assert_eq!(rt; sink.faults(), 1);
+    assert_eq!(rt; write_all(&mut sink, b"abc"), Ok(()));
+    assert_eq!(rt; sink.bytes(), b"0123456789abc".as_slice());
+
+    // The room is full at the sixth call.
+    assert_eq!(rt; sink.write(b"defghijklm"), Ok(7));
+    assert_eq!(rt; sink.write(b"n"), Err(Failed));
+    assert_eq!(rt; sink.write(b"n"), Err(Failed));
+    assert_eq!(rt; sink.write(b""), Ok(0));
+    assert_eq!(rt; sink.bytes(), b"0123456789abcdefghij".as_slice());
+    assert_eq!(rt; sink.faults(), 3);
+
+    assert_eq!(rt; write_all(&mut SureSink::new(), b"abc"), Ok(()));
+    Ok(())
+}
+
+#[test]
+fn writers_of_std_are_sinks(rt: HostRuntime) -> Result<(), Fail> {
+    let alloc = rt.alloc();
+    let mut written = Vec::new(alloc);
+    assert_eq!(rt; write_all(&mut StdSink::new(&mut written), b"abc"), Ok(()));
+    assert_eq!(rt; written.as_slice(), b"abc".as_slice());
+
+    let mut room = [0; 4];
+    assert_eq!(rt;
+        write_all(&mut StdSink::new(&mut room[..]), b"abcdef"),
+        Err(Failed)
+    );
+    assert_eq!(rt; room.as_slice(), b"abcd".as_slice());
+    Ok(())
+}
+
+#[test]
+fn each_status_has_its_code_and_line(rt: HostRuntime) -> Result<(), Fail> {
+    let lines = [
+        (Status::Done, 0, ""),
+        (Status::Usage(3), 1, "cetvm: usage: word 3"),
+        (Status::ReadFault, 2, "cetvm: read fault"),
+        (Status::WriteFault, 3, "cetvm: write fault"),
+        (
+            Status::Refused {
+                rule: 6,
+                offset: 54,
+            },
+            4,
+            "cetvm: refused: rule 6 at 54",
+        ),
+        (
+            Status::AsmRefused { line: 2, rule: 5 },
+            5,
+            "cetvm: line 2: rule 5",
+        ),
+        (Status::TooLong, 6, "cetvm: input too long"),
+        (Status::Killed(11), 7, "cetvm: killed by 11"),
+        (Status::Limit(0), 8, "cetvm: limit in thread 0"),
+        (Status::NoMemory, 9, "cetvm: out of memory"),
+    ];
+    for (status, code, line) in lines {
+        assert_eq!(rt; status.code(), code);
+        assert_eq!(rt; status.to_string(rt.alloc())?.as_str(), line);
+    }
+    Ok(())
+}
+
+#[test]
+fn words_are_read(rt: HostRuntime) -> Result<(), Fail> {
+    let alloc = rt.alloc();
+    let lists = [
+        ("", Err(1)),
+        ("walk", Err(1)),
+        ("walk x", Err(1)),
+        ("run", Ok(Command::Run)),
+        ("run x", Err(2)),
+        ("run run run", Err(2)),
+        ("Run", Err(1)),
+    ];
+    for (text, answer) in lists {
+        let mut words = Vec::new(alloc);
+        for word in text.split_whitespace() {
+            words.push(String::from_str(alloc, word)?)?;
+        }
+        assert_eq!(rt; read_words(&words), answer, "{text}");
+    }
+    Ok(())
+}
+
+fn records(alloc: Global, list: &[(u64, What, u32, u64, u64)]) -> Result<Records, NoMemory> {
+    let mut records = Records::new(alloc);
+    for (rip, what, code, a, b) in list {
+        let noted = Record {
+            rip: *rip,
+            what: *what,
+            code: *code,
+            a: *a,
+            b: *b,
+        };
+        records.push(alloc, noted)?;
+    }
+    Ok(records)
+}
+
+fn exit_seven(alloc: Global) -> Result<Outcome, NoMemory> {
+    let list = [
+        (0x401000, What::Step, 0, 7, 2),
+        (0x401005, What::Step, 0, 0x3c, 2),
+        (0x40100a, What::Sys, 0, 0x3c, 7),
+    ];
+    let mut threads = ThreadOuts::new(alloc);
+    threads.push(
+        alloc,
+        ThreadOut {
+            records: records(alloc, &list)?,
+            end: End::Exit(7),
+        },
+    )?;
+    let mut stacks = StackReports::new(alloc);
+    stacks.push(
+        alloc,
+        StackReport {
+            region: Region {
+                start: 0x200001000,
+                end: 0x200009000,
+            },
+            shown: Shown::Lost,
+            words: Words::new(alloc),
+        },
+    )?;
+    Ok(Outcome {
+        threads,
+        stacks,
+        process: ProcessEnd::Exit(7),
+    })
+}
+
+const EXIT_SEVEN: &str = "cetvm report 1
+thread 0 records 3 exit 7
+0 step 0000000000401000 0 0000000000000007 0000000000000002
+0 step 0000000000401005 0 000000000000003c 0000000000000002
+0 sys 000000000040100a 0 000000000000003c 0000000000000007
+region 0000000200001000 0000000200009000 lost
+process exit 7
+";
+
+#[test]
+fn a_run_is_reported(rt: HostRuntime) -> Result<(), Fail> {
+    let alloc = rt.alloc();
+    let outcome = exit_seven(alloc)?;
+    let full = report(alloc, &outcome, Style::Full)?;
+    assert_eq!(rt; full.as_slice(), EXIT_SEVEN.as_bytes());
+    Ok(())
+}
+
+fn killed(alloc: Global) -> Result<Outcome, NoMemory> {
+    let list = [
+        (0x401000, What::Fault(FaultName::Pf), 68, 0x200009000, 0),
+        (0x401000, What::Kill, 0, 11, 0),
+    ];
+    let mut threads = ThreadOuts::new(alloc);
+    let records = [
+        (Records::new(alloc), End::Group),
+        (self::records(alloc, &list)?, End::Limit),
+    ];
+    for (records, end) in records {
+        threads.push(alloc, ThreadOut { records, end })?;
+    }
+    let mut words = Words::new(alloc);
+    words.extend(alloc, &[0x401012, 0x8000_0000_7fff_ff00, 0, 0x20000b003])?;
+    let shown = [
+        (0x200001000, Shown::Current(1), words),
+        (0x20000a000, Shown::Parked, Words::new(alloc)),
+        (0x200013000, Shown::Left, Words::new(alloc)),
+    ];
+    let mut stacks = StackReports::new(alloc);
+    for (start, shown, words) in shown {
+        let region = Region {
+            start,
+            end: start + 0x8000,
+        };
+        stacks.push(
+            alloc,
+            StackReport {
+                region,
+                shown,
+                words,
+            },
+        )?;
+    }
+    Ok(Outcome {
+        threads,
+        stacks,
+        process: ProcessEnd::Killed(11),
+    })
+}
+
+const KILLED: &str = "cetvm report 1
+thread 0 records 0 group
+thread 1 records 2 limit
+1 kill 0000000000401000 0 000000000000000b 0000000000000000
+region 0000000200001000 0000000200009000 current 1
+  ret 0000000000401012
+  frame 000000007fffff00
+  blank
+  prev 000000020000b000
+region 000000020000a000 0000000200012000 parked
+region 0000000200013000 000000020001b000 left
+process killed 11
+";
+
+#[test]
+fn a_kill_is_reported_in_short(rt: HostRuntime) -> Result<(), Fail> {
+    let alloc = rt.alloc();
+    let last = report(alloc, &killed(alloc)?, Style::Last)?;
+    assert_eq!(rt; last.as_slice(), KILLED.as_bytes());
+
+    let fault = "1 #PF 0000000000401000 68 0000000200009000 0000000000000000\n";
+    let full = report(alloc, &killed(alloc)?, Style::Full)?;
+    assert_eq!(rt; full.len(), last.len() + fault.len());
+    assert_eq!(rt;
+        full.as_slice()
+            .windows(fault.len())
+            .filter(|w| *w == fault.as_bytes())
+            .count(),
+        1
+    );
+    Ok(())
+}
+
+/// The bytes other than 0 in front of a text of 12 bytes, with their places.
+const FRONT: [(usize, &[u8]); 26] = [
+    (0x00, b"\x7fELF\x02\x01\x01"),
+    (0x10, &[2, 0, 62, 0, 1]),
+    (0x18, &[0x00, 0x10, 0x40]),
+    (0x20, &[64]),
+    (0x34, &[64]),
+    (0x36, &[56]),
+    (0x38, &[2]),
+    (0x40, &[1]),
+    (0x44, &[5]),
+    (0x48, &[0x00, 0x10]),
+    (0x50, &[0x00, 0x10, 0x40]),
+    (0x58, &[0x00, 0x10, 0x40]),
+    (0x60, &[12]),
+    (0x68, &[12]),
+    (0x70, &[0x00, 0x10]),
+    (0x78, &[0x53, 0xe5, 0x74, 0x64]),
+    (0x7c, &[4]),
+    (0x80, &[232]),
+    (0x98, &[32]),
+    (0xa0, &[32]),
+    (0xa8, &[8]),
+    (0xe8, &[4]),
+    (0xec, &[16]),
+    (0xf0, &[5]),
+    (0xf4, b"GNU\0\x02\0\0\xc0\x04"),
+    (0x100, &[2]),
+];
+
+/// `mov edi, 7`, `mov eax, 60` and `syscall`.
+const EXIT_SEVEN_TEXT: [u8; 12] = [0xbf, 7, 0, 0, 0, 0xb8, 60, 0, 0, 0, 0x0f, 0x05];
+
+fn file(alloc: Global, text: &[u8]) -> Result<Vec<u8>, AllocError> {
+    let mut file = Vec::new(alloc);
+    for (place, bytes) in FRONT {
+        file.resize(place, 0)?;
+        file.extend_from_slice(bytes)?;
+    }
+    file.resize(4096, 0)?;
+    file.extend_from_slice(text)?;
+    Ok(file)
+}
+
+#[test]
+fn files_are_loaded(rt: HostRuntime) -> Result<(), Fail> {
+    let alloc = rt.alloc();
+    let image = load_form(alloc, &file(alloc, &EXIT_SEVEN_TEXT)?)?;
+    assert_eq!(rt; image.entry, 0x401000);
+    assert!(rt; image.marked && !image.tracked);
+    let segment = image.segments.get(0).ok_or("no segment")?;
+    assert_eq!(rt; image.segments.len(), 1);
+    assert_eq!(rt; segment.start, 0x401000);
+    assert_eq!(rt; segment.size, 12);
+    assert_eq!(rt; segment.bytes.as_slice(), EXIT_SEVEN_TEXT.as_slice());
+    assert!(rt; segment.exec && !segment.write);
+    Ok(())
+}
+
+#[test]
+fn other_files_are_refused(rt: HostRuntime) -> Result<(), Fail> {
+    let alloc = rt.alloc();
+    let refused = Some(LoadFault::Refused { rule: 0, offset: 0 });
+    assert_eq!(rt; load_form(alloc, &[]).err(), refused);
+    assert_eq!(rt; load_form(alloc, &file(alloc, &[])?).err(), refused);
+    for text in [[0x90; 12], [0xbf; 12], [0xcc; 12]] {
+        assert_eq!(rt;
+            load_form(alloc, &file(alloc, &text)?).err(),
+            refused,
+            "{text:?}"
+        );
+    }
+
+    // An entry size, a right, a size, a mark and a gap that differ.
+    for place in [54, 0x44, 0x60, 0x100, 0x108, 4095] {
+        let mut bytes = file(alloc, &EXIT_SEVEN_TEXT)?;
+        assert!(rt; place < bytes.len());
+        bytes[place] = 7;
+        assert_eq!(rt; load_form(alloc, &bytes).err(), refused, "at {place}");
+    }
+    Ok(())
+}
