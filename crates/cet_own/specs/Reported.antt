@@ -95,10 +95,10 @@ last_book job start turns j s =
     let at : ThreadStands job 0 l.next (Some th.0) = subst (λ (q : List Thread). ThreadStands job 0 l.next (slice_get q 0)) th.1 (l.stands.threads 0) in
     let sh = l.stands.holds.sound.book.shape in
     let found : KeepsStack th.0.core.over → current_of 0 l.next.book ≡ 0 = λ k. (
-        let top = core_stacked job 0 l.next th.0.core th.0.core.over at.1 k in
-        let inside = top.top.has in
-        let one = l.one.regions in
-        omega arith) in
+    let top = core_stacked job 0 l.next th.0.core th.0.core.over at.1 k in
+    let inside = top.top.has in
+    let one = l.one.regions in
+    omega arith) in
     record {
       book = l.next.book;
       region = region l.next.book 0;
