@@ -58,6 +58,10 @@ own_kept t b now r l = ap (region now) (r.found l) ∙ r.kept (current_of t b) (
 -- ---- CALL
 
 module _ (job : JobData) (arch : Arch) where
+  -- the book after the return address was pushed
+  abbrev pub pushed : Book → (back : ℕ) → Book
+  pushed b back = relist (current_of arch.number b) (Call back ∷ (region b (current_of arch.number b)).entries) b
+
   -- the return address goes on the shadow stack
   push_claim : (before s : State) (target sp word back : ℕ) → AtRest arch.number s.book arch.ssp → word ≡ slot (arch.ssp - 8) → (region s.book (current_of arch.number s.book)).start + 8 ≤ top (region s.book (current_of arch.number s.book)) → IsReturn back → Claim job arch (EndsRow job arch) before s (store_as (Called back ∷ []) word back >>= (λ _. done (called arch target sp (below arch.ssp 8))))
   unfolding store_as
@@ -75,14 +79,14 @@ module _ (job : JobData) (arch : Arch) where
             let room' : (region now.book (current_of arch.number now.book)).start + 8 ≤ top (region now.book (current_of arch.number now.book)) = rw same room in
             let fits = (known.sound.book.shape.fits (current_of arch.number now.book)).room in
             let way = called_way o back (omega arith) in
-            let sh = (book_kept arch.number (Called back) now.book (relist (current_of arch.number now.book) (Call back ∷ (region now.book (current_of arch.number now.book)).entries) now.book) known.sound.book way).book.shape in
+            let sh = (book_kept arch.number (Called back) now.book (pushed now.book back) known.sound.book way).book.shape in
             let is : below arch.ssp 8 ≡ arch.ssp - 8 = below_is arch.ssp low high in
             let top' = relist_top o (Call back ∷ (region now.book (current_of arch.number now.book)).entries) sh (below arch.ssp 8) (omega arith) in (
               pushes (current_of arch.number now.book) back o.current (ap (λ n. access.Store n back) (w ∙ ap (λ n. slot (n - 8)) at)) room' is_return refl,
-              record now { book = relist (current_of arch.number now.book) (Call back ∷ (region now.book (current_of arch.number now.book)).entries) now.book },
-              one_after arch.number now (relist (current_of arch.number now.book) (Call back ∷ (region now.book (current_of arch.number now.book)).entries) now.book) (Called back) way,
+              record now { book = pushed now.book back },
+              one_after arch.number now (pushed now.book back) (Called back) way,
               (
-                record { stacked = stacked arch.number (relist (current_of arch.number now.book) (Call back ∷ (region now.book (current_of arch.number now.book)).entries) now.book) (below arch.ssp 8) sh top'; free = rest'.free },
+                record { stacked = stacked arch.number (pushed now.book back) (below arch.ssp 8) sh top'; free = rest'.free },
                 λ held later. tt,
               ),
             ),

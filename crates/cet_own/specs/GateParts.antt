@@ -54,49 +54,62 @@ ended_none t m b o = elim (cases_lt (current_of t (hand m (region b m).entries L
 ]
 
 module _ (job : JobData) (arch : Arch) (l : own_stack job arch.number < 8) where
+  -- the thread's supervisor stack
+  abbrev pub gate : ℕ
+  gate = own_stack job arch.number
+
+  -- the book after the thread took it, or gave it back
+  abbrev pub taken : Book → Book
+  taken b = put_stack b (own_stack job arch.number) (Some arch.number)
+
+  abbrev pub given : Book → Book
+  given b = put_stack b (own_stack job arch.number) None
+
+  -- the book after the thread's region ended
+  abbrev pub ended : Book → Book
+  ended b = hand (current_of arch.number b) (region b (current_of arch.number b)).entries Lost b
+
   -- the way in: the thread is inside, or it is at rest as before
-  pub gate_in_then : {A : Type 0} (Q : State → State → A → Type 0) (before s : State) (f : Option ℕ → Script A) → AtRest arch.number s.book arch.ssp → ((z n : State) → Inside arch.number (own_stack job arch.number) n.book arch.ssp → Claim job arch Q z n (f None)) → ((z n : State) (found : ℕ) → AtRest arch.number n.book arch.ssp → Claim job arch Q z n (f (Some found))) → Claim job arch Q before s (gate_in (own_stack job arch.number) >>= f)
+  pub gate_in_then : {A : Type 0} (Q : State → State → A → Type 0) (before s : State) (f : Option ℕ → Script A) → AtRest arch.number s.book arch.ssp → ((z n : State) → Inside arch.number gate n.book arch.ssp → Claim job arch Q z n (f None)) → ((z n : State) (found : ℕ) → AtRest arch.number n.book arch.ssp → Claim job arch Q z n (f (Some found))) → Claim job arch Q before s (gate_in gate >>= f)
   unfolding gate_in exchange_as
   gate_in_then Q before s f rest inside busied =
-      claim_bind job arch Q before s (gate_in (own_stack job arch.number)) f
-      (peek_then job arch (λ z n x. Claim job arch Q z n (f x)) before s (token_page (own_stack job arch.number)) _ rest.stacked (λ now r v.
+      claim_bind job arch Q before s (gate_in gate) f
+      (peek_then job arch (λ z n x. Claim job arch Q z n (f x)) before s (token_page gate) _ rest.stacked (λ now r v.
       let rest' = rest_kept r rest in
       claim_bind job arch (λ z n x. Claim job arch Q z n (f x)) now now _ _ (
         rest'.stacked,
         λ later r' found known.
-            let k : ℕ = own_stack job arch.number in
-            let rest'' = rest_kept r' rest' in
-            elim (eqb_tells found (token (own_stack job arch.number))) [
+                let rest'' = rest_kept r' rest' in
+            elim (eqb_tells found (token gate)) [
               | inl e ↦
-                  let none = free_by (stack_of later.book (own_stack job arch.number)) (token (own_stack job arch.number)) found
-                  (known.gate (own_stack job arch.number) (token (own_stack job arch.number)) (token (own_stack job arch.number) + 1) l refl) e.1 in
-                  let next : State = record later { book = put_stack later.book (own_stack job arch.number) (Some arch.number) } in
-                  let eight = known.sound.book.stacks.eight in
-                  let same : eqb (own_stack job arch.number) (own_stack job arch.number) ≡ true = grind (arith, nat_tests) in
-                  let within : own_stack job arch.number < length later.book.stacks = omega arith in
-                  let holds : stack_of (put_stack later.book (own_stack job arch.number) (Some arch.number)) (own_stack job arch.number) ≡ Some arch.number
-                  = stack_of-put_stack later.book (own_stack job arch.number) (own_stack job arch.number) (Some arch.number) within ∙ rw same refl in
-                  let in_kernel : Inside arch.number (own_stack job arch.number) (put_stack later.book (own_stack job arch.number) (Some arch.number)) arch.ssp
-                  = record { stacked = stacked_put arch.number (own_stack job arch.number) arch.ssp (Some arch.number) later.book rest''.stacked; holds = holds } in
+                  let none = free_by (stack_of later.book gate) (token gate) found
+                  (known.gate gate (token gate) (token gate + 1) l refl) e.1 in
+                      let eight = known.sound.book.stacks.eight in
+                  let same : eqb gate gate ≡ true = grind (arith, nat_tests) in
+                  let within : gate < length later.book.stacks = omega arith in
+                  let holds : stack_of (taken later.book) gate ≡ Some arch.number
+                  = stack_of-put_stack later.book gate gate (Some arch.number) within ∙ rw same refl in
+                  let in_kernel : Inside arch.number gate (taken later.book) arch.ssp
+                  = record { stacked = stacked_put arch.number gate arch.ssp (Some arch.number) later.book rest''.stacked; holds = holds } in
                   rw e.0 (
                     enters l refl e.1 rest''.free refl,
-                    record later { book = put_stack later.book (own_stack job arch.number) (Some arch.number) },
-                    one_after arch.number later (put_stack later.book (own_stack job arch.number) (Some arch.number)) (Busied (own_stack job arch.number))
-                        (busied_way arch.number (own_stack job arch.number) later.book l none rest''.free),
-                    store_then job arch (λ z n x. Claim job arch Q z n (f x)) later (record later { book = put_stack later.book (own_stack job arch.number) (Some arch.number) })
-                        (token_word (own_stack job arch.number) - 1) kernel_return _ (below_token (own_stack job arch.number) l) in_kernel.stacked
+                    record later { book = taken later.book },
+                    one_after arch.number later (taken later.book) (Busied gate)
+                        (busied_way arch.number gate later.book l none rest''.free),
+                    store_then job arch (λ z n x. Claim job arch Q z n (f x)) later (record later { book = taken later.book })
+                        (token_word gate - 1) kernel_return _ (below_token gate l) in_kernel.stacked
                         (λ last r''. inside last last (inside_kept r'' in_kernel)),
                   )
-              | inr e ↦ rw e.0 (refused (token (own_stack job arch.number) + 1) l refl e.1 refl, later, refl, busied later later found rest'')
+              | inr e ↦ rw e.0 (refused (token gate + 1) l refl e.1 refl, later, refl, busied later later found rest'')
             ],
       )))
 
   -- the way out
-  pub gate_out_then : {A : Type 0} (Q : State → State → A → Type 0) (before s : State) (f : Unit {0} → Script A) → Inside arch.number (own_stack job arch.number) s.book arch.ssp → ((z n : State) → AtRest arch.number n.book arch.ssp → Claim job arch Q z n (f tt)) → Claim job arch Q before s (gate_out [] (own_stack job arch.number) >>= f)
+  pub gate_out_then : {A : Type 0} (Q : State → State → A → Type 0) (before s : State) (f : Unit {0} → Script A) → Inside arch.number gate s.book arch.ssp → ((z n : State) → AtRest arch.number n.book arch.ssp → Claim job arch Q z n (f tt)) → Claim job arch Q before s (gate_out [] gate >>= f)
   unfolding gate_out exchange_as
   gate_out_then Q before s f inside h =
-      claim_bind job arch Q before s (gate_out [] (own_stack job arch.number)) f
-      (load_then job arch (λ z n x. Claim job arch Q z n (f x)) before s (token_word (own_stack job arch.number) - 1) _ inside.stacked (λ now r v.
+      claim_bind job arch Q before s (gate_out [] gate) f
+      (load_then job arch (λ z n x. Claim job arch Q z n (f x)) before s (token_word gate - 1) _ inside.stacked (λ now r v.
       let inside' = inside_kept r inside in
       claim_bind job arch (λ z n x. Claim job arch Q z n (f x)) now now _ _ (
         inside'.stacked,
@@ -104,22 +117,22 @@ module _ (job : JobData) (arch : Arch) (l : own_stack job arch.number < 8) where
             let inside'' = inside_kept r' inside' in
             let stacks = known.sound.book.stacks in (
               leaves l refl inside''.holds refl,
-              record later { book = put_stack later.book (own_stack job arch.number) None },
-              one_after arch.number later (put_stack later.book (own_stack job arch.number) None) (Freed (own_stack job arch.number))
-                  (freed_way arch.number (own_stack job arch.number) later.book inside''.holds),
-              h later (record later { book = put_stack later.book (own_stack job arch.number) None }) (record {
-                stacked = stacked_put arch.number (own_stack job arch.number) arch.ssp None later.book inside''.stacked;
-                free = free_given arch.number (own_stack job arch.number) later.book stacks.eight l stacks inside''.holds;
+              record later { book = given later.book },
+              one_after arch.number later (given later.book) (Freed gate)
+                  (freed_way arch.number gate later.book inside''.holds),
+              h later (record later { book = given later.book }) (record {
+                stacked = stacked_put arch.number gate arch.ssp None later.book inside''.stacked;
+                free = free_given arch.number gate later.book stacks.eight l stacks inside''.holds;
               }),
             ),
       )))
 
   -- the way out of a thread that ends
-  pub exit_out_then : {A : Type 0} (Q : State → State → A → Type 0) (before s : State) (f : Unit {0} → Script A) → Inside arch.number (own_stack job arch.number) s.book arch.ssp → ((z n : State) → HasNone arch.number n.book → Claim job arch Q z n (f tt)) → Claim job arch Q before s (gate_out (Ended ∷ []) (own_stack job arch.number) >>= f)
+  pub exit_out_then : {A : Type 0} (Q : State → State → A → Type 0) (before s : State) (f : Unit {0} → Script A) → Inside arch.number gate s.book arch.ssp → ((z n : State) → HasNone arch.number n.book → Claim job arch Q z n (f tt)) → Claim job arch Q before s (gate_out (Ended ∷ []) gate >>= f)
   unfolding gate_out exchange_as
   exit_out_then Q before s f inside h =
-      claim_bind job arch Q before s (gate_out (Ended ∷ []) (own_stack job arch.number)) f
-      (load_then job arch (λ z n x. Claim job arch Q z n (f x)) before s (token_word (own_stack job arch.number) - 1) _ inside.stacked (λ now r v.
+      claim_bind job arch Q before s (gate_out (Ended ∷ []) gate) f
+      (load_then job arch (λ z n x. Claim job arch Q z n (f x)) before s (token_word gate - 1) _ inside.stacked (λ now r v.
       let inside' = inside_kept r inside in
       claim_bind job arch (λ z n x. Claim job arch Q z n (f x)) now now _ _ (
         inside'.stacked,
@@ -127,20 +140,18 @@ module _ (job : JobData) (arch : Arch) (l : own_stack job arch.number < 8) where
             let inside'' = inside_kept r' inside' in
             let stacks = known.sound.book.stacks in
             let has = inside''.stacked.top.has in
-            let m = current_of arch.number later.book in
-            let o : Owned arch.number (current_of arch.number later.book) later.book = owned arch.number later.book known.sound.book.shape has in
-            let mid : Book = hand (current_of arch.number later.book) (region later.book (current_of arch.number later.book)).entries Lost later.book in
-            let holds : stack_of (hand (current_of arch.number later.book) (region later.book (current_of arch.number later.book)).entries Lost later.book) (own_stack job arch.number) ≡ Some arch.number = inside''.holds in
+                let o : Owned arch.number (current_of arch.number later.book) later.book = owned arch.number later.book known.sound.book.shape has in
+                let holds : stack_of (ended later.book) gate ≡ Some arch.number = inside''.holds in
             let gone = ended_none arch.number (current_of arch.number later.book) later.book o in
-            let same = current_of-put_stack arch.number (own_stack job arch.number) None (hand (current_of arch.number later.book) (region later.book (current_of arch.number later.book)).entries Lost later.book) in (
+            let same = current_of-put_stack arch.number gate None (ended later.book) in (
               exits (current_of arch.number later.book) l refl inside''.holds o.current refl,
-              record later { book = put_stack (hand (current_of arch.number later.book) (region later.book (current_of arch.number later.book)).entries Lost later.book) (own_stack job arch.number) None },
-              ap (λ (q : Option Book). option_map (λ b. record later { book = b }) (option_and_then (λ n. option_and_then (λ x. Some x) (book_after arch.number n (Freed (own_stack job arch.number)))) q)) (ended_way o)
+              record later { book = given (ended later.book) },
+              ap (λ (q : Option Book). option_map (λ b. record later { book = b }) (option_and_then (λ n. option_and_then (λ x. Some x) (book_after arch.number n (Freed gate))) q)) (ended_way o)
                   ∙ ap (λ (q : Option Book). option_map (λ b. record later { book = b }) (option_and_then (λ x. Some x) q))
-                  (freed_way arch.number (own_stack job arch.number) (hand (current_of arch.number later.book) (region later.book (current_of arch.number later.book)).entries Lost later.book) holds),
-              h later (record later { book = put_stack (hand (current_of arch.number later.book) (region later.book (current_of arch.number later.book)).entries Lost later.book) (own_stack job arch.number) None }) (record {
+                  (freed_way arch.number gate (ended later.book) holds),
+              h later (record later { book = given (ended later.book) }) (record {
                 regions = omega arith;
-                free = free_given arch.number (own_stack job arch.number) (hand (current_of arch.number later.book) (region later.book (current_of arch.number later.book)).entries Lost later.book) stacks.eight l stacks holds;
+                free = free_given arch.number gate (ended later.book) stacks.eight l stacks holds;
               }),
             ),
       )))

@@ -33,18 +33,21 @@ below_top {m = m} {b = b} o room =
     record { place = in_place b m (top (region b m) - 8) o.shape inside (omega arith); inside = inside }
 
 module _ (image : ImageData) (words : List ℕ) {t m : ℕ} {b : Book} (o : Owned t m b) (back : ℕ) where
+  abbrev pub pushed : Book
+  pushed = relist m (Call back ∷ (region b m).entries) b
+
+  abbrev pub stored : List ℕ
+  stored = slice_set words (slot (top (region b m) - 8)) back
+
   -- a return address is stored below the top, and is the newest entry
-  pub holds_push : (region b m).start + 8 ≤ top (region b m) → Sound (relist m (Call back ∷ (region b m).entries) b) → Holds image words b → Holds image (slice_set words (slot (top (region b m) - 8)) back) (relist m (Call back ∷ (region b m).entries) b)
+  pub holds_push : (region b m).start + 8 ≤ top (region b m) → Sound pushed → Holds image words b → Holds image stored pushed
   holds_push room sound h =
-      let es : List Entry = Call back ∷ (region b m).entries in
-      let next = relist m (Call back ∷ (region b m).entries) b in
-      let p = top (region b m) - 8 in
       let at = below_top o room in
       let low = at.place.low in
       let high = at.place.high in
-      let same : (s : ℕ) → s ≢ m → tops (relist m (Call back ∷ (region b m).entries) b) s ≡ tops b s = λ s n. ap (λ (r : Region). top r) (relist_other o (Call back ∷ (region b m).entries) s n) in
-      let old : (i : ℕ) → Stack (slice_set words (slot (top (region b m) - 8)) back) (tops (relist m (Call back ∷ (region b m).entries) b)) (top (region b i)) (region b i).entries = λ i.
-      list_kept words (slice_set words (slot (top (region b m) - 8)) back) b (relist m (Call back ∷ (region b m).entries) b) m i o.shape (none_leads o) same
+      let same : (s : ℕ) → s ≢ m → tops pushed s ≡ tops b s = λ s n. ap (λ (r : Region). top r) (relist_other o (Call back ∷ (region b m).entries) s n) in
+      let old : (i : ℕ) → Stack stored (tops pushed) (top (region b i)) (region b i).entries = λ i.
+      list_kept words stored b pushed m i o.shape (none_leads o) same
       (λ a lo hi even. list_free words b (top (region b m) - 8) back m i a o.shape at.place at.inside (omega arith) lo hi even) (h.stacks i) in
       let now : (region b m).end - 8 * length (Call back ∷ (region b m).entries) ≡ top (region b m) - 8 = omega arith in
       let up : top (region b m) ≡ top (region b m) - 8 + 8 = omega arith in
@@ -52,15 +55,15 @@ module _ (image : ImageData) (words : List ℕ) {t m : ℕ} {b : Book} (o : Owne
         size = size_kept words (slot (top (region b m) - 8)) back h.size;
         sound = sound;
         stacks = relist_all o (Call back ∷ (region b m).entries)
-            (λ i r. Stack (slice_set words (slot (top (region b m) - 8)) back) (tops (relist m (Call back ∷ (region b m).entries) b)) (top r) r.entries)
-            (subst (λ a. Stack (slice_set words (slot (top (region b m) - 8)) back) (tops (relist m (Call back ∷ (region b m).entries) b)) a (Call back ∷ (region b m).entries)) (sym now) (
+            (λ i r. Stack stored (tops pushed) (top r) r.entries)
+            (subst (λ a. Stack stored (tops pushed) a (Call back ∷ (region b m).entries)) (sym now) (
               slot_same words (top (region b m) - 8) back h.size at.place,
-              subst (λ a. Stack (slice_set words (slot (top (region b m) - 8)) back) (tops (relist m (Call back ∷ (region b m).entries) b)) a (region b m).entries) up (old m),
+              subst (λ a. Stack stored (tops pushed) a (region b m).entries) up (old m),
             ))
             (λ i n. old i);
-        pages = pages_same image (slice_set words (slot (top (region b m) - 8)) back) b (relist m (Call back ∷ (region b m).entries) b) (relist_same o (Call back ∷ (region b m).entries))
+        pages = pages_same image stored b pushed (relist_same o (Call back ∷ (region b m).entries))
             (pages_out image words b (slot (top (region b m) - 8)) back (omega arith) h.pages);
-        gates = gates_same (slice_set words (slot (top (region b m) - 8)) back) b (relist m (Call back ∷ (region b m).entries) b) refl
+        gates = gates_same stored b pushed refl
             (gates_out words b (slot (top (region b m) - 8)) back (λ k l. omega arith) h.gates);
       }
 
