@@ -79,12 +79,12 @@ module _ (job : JobData) (arch : Arch) (l : own_stack job arch.number < 8) where
       claim_bind job arch (λ z n x. Claim job arch Q z n (f x)) now now _ _ (
         rest'.stacked,
         λ later r' found known.
-                let rest'' = rest_kept r' rest' in
+            let rest'' = rest_kept r' rest' in
             elim (eqb_tells found (token gate)) [
               | inl e ↦
                   let none = free_by (stack_of later.book gate) (token gate) found
                   (known.gate gate (token gate) (token gate + 1) l refl) e.1 in
-                      let eight = known.sound.book.stacks.eight in
+                  let eight = known.sound.book.stacks.eight in
                   let same : eqb gate gate ≡ true = grind (arith, nat_tests) in
                   let within : gate < length later.book.stacks = omega arith in
                   let holds : stack_of (taken later.book) gate ≡ Some arch.number
@@ -140,8 +140,8 @@ module _ (job : JobData) (arch : Arch) (l : own_stack job arch.number < 8) where
             let inside'' = inside_kept r' inside' in
             let stacks = known.sound.book.stacks in
             let has = inside''.stacked.top.has in
-                let o : Owned arch.number (current_of arch.number later.book) later.book = owned arch.number later.book known.sound.book.shape has in
-                let holds : stack_of (ended later.book) gate ≡ Some arch.number = inside''.holds in
+            let o : Owned arch.number (current_of arch.number later.book) later.book = owned arch.number later.book known.sound.book.shape has in
+            let holds : stack_of (ended later.book) gate ≡ Some arch.number = inside''.holds in
             let gone = ended_none arch.number (current_of arch.number later.book) later.book o in
             let same = current_of-put_stack arch.number gate None (ended later.book) in (
               exits (current_of arch.number later.book) l refl inside''.holds o.current refl,

@@ -60,19 +60,26 @@ held_by job arch held seen (Over (Posted next) left values) = refl
 held_by job arch held seen (Over (Exited next r status) left values) = refl
 held_by job arch held seen (Over Stopped left values) = refl
 
+-- what a thread has seen after an access, what it holds, and what its row has come to
+abbrev pub seen_by : Core → List ℕ → Access → Seen
+seen_by core words a = seen_after core.seen a (answer words a)
+
+abbrev pub held_now : JobData → Core → List ℕ → Access → Option ℕ
+held_now job core words a = held_after (own_stack job core.arch.number) a (answer words a) core.arch.held
+
+abbrev pub come_to : JobData → Core → List ℕ → Access → Came Finish
+come_to job core words a = come job core.arch (seen_by core words a)
+
 led_wants : (job : JobData) (j : IsJob job) (words : List ℕ) (s : State) (core : Core) (a : Access) → Holds job.image words s.book → Held core.arch.number s.book core.arch.held → InRow job core.arch.number s core → come job core.arch core.seen ≡ Wants a → IsCore job (answered job core (answer words a) (Wants a)).core → LedBy job words s core a (answered job core (answer words a) (Wants a))
 led_wants job j words s core a h held r w is_core =
-    let arch = unheld core.arch in
-    let v = answer words a in
-    let seen = seen_after core.seen a (answer words a) in
     let g = goes (rules job core.arch.number) (During (unheld core.arch)) (calls.Ends job (unheld core.arch)) (Fails job (unheld core.arch)) (Results (Ends (unheld core.arch))) false 4096 31 words r.before s
     (row job (unheld core.arch)) core.seen.count core.seen.kept a (orderly_row job (unheld core.arch)) r.left w (known job.image core.arch.number words s.book a h) in
     let is = after_book core.arch.number s g.next (books_after core.arch.number s.book (changes_of job core (answer words a))) g.is in
-    let left : Left job (unheld core.arch) s g.next (seen_after core.seen a (answer words a)) = rw add-one g.left in
+    let left : Left job (unheld core.arch) s g.next (seen_by core words a) = rw add-one g.left in
     let came = on_came (rules job core.arch.number) (During (unheld core.arch)) (calls.Ends job (unheld core.arch)) (Fails job (unheld core.arch)) s g.next
-    (row job (unheld core.arch)) (core.seen.count + 1) (seen_after core.seen a (answer words a)).kept left in
-    let k = came_stands job core (held_after (own_stack job core.arch.number) a (answer words a) core.arch.held) (seen_after core.seen a (answer words a)) s g.next
-    (child_of core.arch (changes_of job core (answer words a))) (come job core.arch (seen_after core.seen a (answer words a))) j left came is_core in
+    (row job (unheld core.arch)) (core.seen.count + 1) (seen_by core words a).kept left in
+    let k = came_stands job core (held_now job core words a) (seen_by core words a) s g.next
+    (child_of core.arch (changes_of job core (answer words a))) (come_to job core words a) j left came is_core in
     record {
       next = g.next;
       owed = g.owed;
@@ -80,7 +87,7 @@ led_wants job j words s core a h held r w is_core =
       holds = keeps job.image core.arch.number (own_stack job core.arch.number) words s.book g.next.book a (changes_of job core (answer words a)) g.owed is h;
       others = λ y n. others core.arch.number (own_stack job core.arch.number) y s.book g.next.book a (answer words a) (changes_of job core (answer words a)) n h.sound g.owed is;
       held = subst (Held core.arch.number g.next.book)
-          (sym (held_by job core.arch (held_after (own_stack job core.arch.number) a (answer words a) core.arch.held) (seen_after core.seen a (answer words a)) (come job core.arch (seen_after core.seen a (answer words a)))))
+          (sym (held_by job core.arch (held_now job core words a) (seen_by core words a) (come_to job core words a)))
           (held_kept job.image core.arch.number (own_stack job core.arch.number) words s.book g.next.book a (changes_of job core (answer words a)) core.arch.held (stack_below job core.arch.number j) g.owed is h held);
       stands = k.0;
       returns = k.1;

@@ -128,6 +128,10 @@ get_same threads t x l =
     let l' : t < length (slice_set threads t x) = omega (arith, length-set threads t x) in
     slice_get-get_or (slice_set threads t x) t x l' ∙ ap Some (get_or-set_same threads t x x l)
 
+-- the thread after an access
+abbrev pub moved : JobData → Machine → Thread → Access → Thread
+moved job m thread a = thread_after thread (taken job thread.core (answer m.words a))
+
 -- no thread is born
 childless : (job : JobData) (thread : Thread) (v : ℕ) (threads : List Thread) → with_child threads (taken job thread.core v).child ≡ threads
 childless job thread v threads = ap (with_child threads) (no_child job thread.core v)
@@ -135,8 +139,7 @@ childless job thread v threads = ap (with_child threads) (no_child job thread.co
 pub acts : (job : JobData) (j : IsJob job) (m : Machine) (t : ℕ) (s : State) (thread : Thread) (a : Access) → Stands job m s → slice_get m.threads t ≡ Some thread → ThreadStands job t s (Some thread) → InRow job t s thread.core → come job thread.core.arch thread.core.seen ≡ Wants a → TurnedBy job m t s thread (Some a)
 acts job j m t s thread a st e at r w =
     let d = led job j m.words t s thread.core a st.holds at.0 r w in
-    let new : Thread = thread_after thread (taken job thread.core (answer m.words a)) in
-    let same = childless job thread (answer m.words a) (slice_set m.threads t (thread_after thread (taken job thread.core (answer m.words a)))) in
+    let same = childless job thread (answer m.words a) (slice_set m.threads t (moved job m thread a)) in
     record {
       next = d.next;
       is = d.is;
@@ -144,15 +147,15 @@ acts job j m t s thread a st e at r w =
         holds = d.holds;
         threads = λ y. subst (λ (l : List Thread). ThreadStands job y d.next (slice_get l y)) (sym same) (elim (eqb_tells y t) [
           | inl u ↦
-              subst (λ n. ThreadStands job n d.next (slice_get (slice_set m.threads t (thread_after thread (taken job thread.core (answer m.words a)))) n)) (sym u.1)
-              (subst (ThreadStands job t d.next) (sym (get_same m.threads t (thread_after thread (taken job thread.core (answer m.words a))) (slice_get_within m.threads t thread e)))
+              subst (λ n. ThreadStands job n d.next (slice_get (slice_set m.threads t (moved job m thread a)) n)) (sym u.1)
+              (subst (ThreadStands job t d.next) (sym (get_same m.threads t (moved job m thread a) (slice_get_within m.threads t thread e)))
               (d.held, d.stands))
           | inr u ↦
-              subst (ThreadStands job y d.next) (sym (get_other m.threads t y (thread_after thread (taken job thread.core (answer m.words a))) u.1))
+              subst (ThreadStands job y d.next) (sym (get_other m.threads t y (moved job m thread a) u.1))
               (thread_relies job y s d.next (slice_get m.threads y) (d.others y (λ z. u.1 (sym z))) (st.threads y))
         ]);
       };
       ages = ages t (own_stack job t) s.book d.next.book a (answer m.words a) (changes_of job thread.core (answer m.words a)) st.holds.sound.book.shape d.owed d.is;
-      count = ap (λ (l : List Thread). length l) same ∙ length-set m.threads t (thread_after thread (taken job thread.core (answer m.words a)));
+      count = ap (λ (l : List Thread). length l) same ∙ length-set m.threads t (moved job m thread a);
       returns = d.returns;
     }
