@@ -23,10 +23,19 @@ token_true : (p : ℕ) (r : Region) (c : Bool) → is_parked r.holder ≡ c → 
 token_true p r true h e = record { parked = parked_true r.holder h; top_is = let q : eqb (top r) (p + 8) ≡ true = rw h at e in grind (arith, nat_tests) }
 token_true p r false h e = absurd (false≢true (rw h at e))
 
+pub has_token_true : (p : ℕ) (r : Region) → has_token p r ≡ true → IsParkedAt p r
+has_token_true p r e = token_true p r _ refl e
+
+pub has_token-true : (p : ℕ) (r : Region) → IsParkedAt p r → has_token p r ≡ true
+has_token-true p r x =
+    let parked : is_parked r.holder ≡ true = ap is_parked x.parked in
+    let at = x.top_is in
+    rw parked (grind (arith, nat_tests))
+
 -- the region that was found is parked there
 pub parked_at_holds : (p : ℕ) (b : Book) → parked_at p b < length b.regions → IsParkedAt p (region b (parked_at p b))
 unfolding parked_at
-parked_at_holds p b inside = token_true p (region b (parked_at p b)) _ refl (passes_at_first (has_token p) b.regions nowhere inside)
+parked_at_holds p b inside = has_token_true p (region b (parked_at p b)) (passes_at_first (has_token p) b.regions nowhere inside)
 
 pub parked_fits : (r : Region) → Fits r → r.holder ≡ Parked → r.start + 8 ≤ top r
 parked_fits r f e = subst (HolderFits r) e f.held

@@ -9,10 +9,11 @@ use Rattle.cet_book.specs.Edits.{Owned, owned, owned_there}
 use Rattle.cet_book.specs.Relist.{relist_shape}
 use Rattle.cet_book.specs.Unlink.{Gone, parked, Linked, left_there, unlink_shape}
 use Rattle.cet_book.specs.Acquire.{parked_at_holds, Takes, acquire_shape}
-use Rattle.cet_book.specs.Hand.{Made, made_there, seed_shape, born_shape, end_shape}
+use Rattle.cet_book.specs.Hand.{Made, made_there, seeds, seed_shape, bears, born_shape, ends, end_shape}
 use Rattle.cet_book.specs.Append.{Appends, append_shape, end_le_last}
 use Rattle.cet_book.specs.Removes.{returned_is, shortened, raised_shortened}
 use Rattle.cet_book.specs.Relies.{Relies, relies_same, relies_then, relist_relies, unlink_relies, acquire_relies, seed_relies, born_relies, end_relies, append_relies, removal_relies, raised_relies, stack_relies}
+use Rattle.cet_book.specs.Addresses.{ChangeReturns, Returns, older_return, relist_returns, unlink_returns, acquire_returns, hand_returns, append_returns, blanks_return, removal_returns, raised_returns}
 use Rattle.cet_book.specs.Cases.{if_some, and_true, with_current_some, room_for, maker_true, CanClaim, can_claim_true}
 use Rattle.cet_book.specs.Supervisor.{holds_true, free_true, stack_there, none_held, busied_stacks, freed_stacks, put_stack_shape}
 
@@ -36,15 +37,18 @@ NotBorn (Freed k) y = Unit {0}
 pub record Kept (t : ℕ) (c : Change) (b next : Book) : Type 0 where
   pub book : IsBook next
   pub others : (y : ℕ) → t ≢ y → NotBorn c y → Relies y b next
+  pub returns : ChangeReturns c → Returns b → Returns next
 
 -- the same of a change of regions alone
 pub record Keeps (t : ℕ) (c : Change) (b next : Book) : Type 0 where
   pub shape : Shape next
   pub stacks : next.stacks ≡ b.stacks
   pub others : (y : ℕ) → t ≢ y → NotBorn c y → Relies y b next
+  pub returns : ChangeReturns c → Returns b → Returns next
 
-kept : {t : ℕ} {c : Change} {b x next : Book} → x ≡ next → Shape x → x.stacks ≡ b.stacks → ((y : ℕ) → t ≢ y → NotBorn c y → Relies y b x) → Keeps t c b next
-kept {t = t} {c = c} {b = b} is shape stacks others = subst (Keeps t c b) is (record { shape = shape; stacks = stacks; others = others })
+kept : {t : ℕ} {c : Change} {b x next : Book} → x ≡ next → Shape x → x.stacks ≡ b.stacks → ((y : ℕ) → t ≢ y → NotBorn c y → Relies y b x) → (ChangeReturns c → Returns b → Returns x) → Keeps t c b next
+kept {t = t} {c = c} {b = b} is shape stacks others returns =
+    subst (Keeps t c b) is (record { shape = shape; stacks = stacks; others = others; returns = returns })
 
 pub called_kept : (t m back : ℕ) (b next : Book) → Owned t m b → called back m (region b m) b ≡ Some next → Keeps t (Called back) b next
 called_kept t m back b next o e =
@@ -55,6 +59,7 @@ called_kept t m back b next o e =
     let is : relist m (Call back ∷ (region b m).entries) b ≡ next = cc in
     kept is (relist_shape o (Call back ∷ (region b m).entries) (omega arith) (λ s. omega arith)) refl
     (λ y n _. relist_relies o (Call back ∷ (region b m).entries) y n)
+    (λ new old. relist_returns o (Call back ∷ (region b m).entries) (new, old m) old)
 
 pub pushed_kept : (t m x : ℕ) (b next : Book) → Owned t m b → pushed x m (region b m) b ≡ Some next → Keeps t (Pushed x) b next
 pushed_kept t m x b next o e =
@@ -65,6 +70,7 @@ pushed_kept t m x b next o e =
     let is : relist m (Restorer x ∷ Frame ∷ (region b m).entries) b ≡ next = cc in
     kept is (relist_shape o (Restorer x ∷ Frame ∷ (region b m).entries) (omega arith) (λ s. omega arith)) refl
     (λ y n _. relist_relies o (Restorer x ∷ Frame ∷ (region b m).entries) y n)
+    (λ new old. relist_returns o (Restorer x ∷ Frame ∷ (region b m).entries) (new, (tt, old m)) old)
 
 pub popped_kept : (t m : ℕ) (b next : Book) (l : List Entry) → Owned t m b → (region b m).entries ≡ l → popped m l b ≡ Some next → Keeps t Popped b next
 popped_kept t m b next [] o list e = cc
@@ -75,6 +81,7 @@ popped_kept t m b next (Frame ∷ es) o list e =
     let longer : length (region b m).entries ≡ suc (length es) = ap (λ (l : List Entry). length l) list in
     let room = (o.shape.fits m).room in
     kept is (relist_shape o es (omega arith) (λ s. sym (ap (links s) list ∙ omega arith))) refl (λ y n _. relist_relies o es y n)
+    (λ _ old. relist_returns o es (older_return b m Frame es list old) old)
 popped_kept t m b next (Previous s ∷ es) o list e = cc
 popped_kept t m b next (Blank ∷ es) o list e = cc
 
@@ -91,7 +98,7 @@ released_kept t m b next (Previous s ∷ es) o list e =
     let room = room_for (region b s) (length (region b s).entries) (o.shape.bounds s (left_there l)) few in
     let is : unlink m s es Parked b ≡ next = cc in
     let gone : Gone Parked = parked refl in
-    kept is (unlink_shape l gone (omega arith)) refl (λ y n _. unlink_relies l gone y n)
+    kept is (unlink_shape l gone (omega arith)) refl (λ y n _. unlink_relies l gone y n) (λ _. unlink_returns l Parked)
 released_kept t m b next (Blank ∷ es) o list e = cc
 
 pub acquired_kept : (t m p : ℕ) (b next : Book) → Owned t m b → acquired t p m b ≡ Some next → Keeps t (Acquired p) b next
@@ -100,10 +107,10 @@ acquired_kept t m p b next o e =
     let passed : nat_lt (parked_at p b) (length b.regions) ≡ true = c.0 in
     let inside : parked_at p b < length b.regions = grind (arith, nat_tests) in
     let k : Takes t m (parked_at p b) b = record { owned = o; parked = (parked_at_holds p b inside).parked } in
-    kept (let s = c.1 in cc) (acquire_shape k) refl (λ y n _. acquire_relies k y n)
+    kept (let s = c.1 in cc) (acquire_shape k) refl (λ y n _. acquire_relies k y n) (λ _. acquire_returns k)
 
 pub ended_kept : (t m : ℕ) (b next : Book) → Owned t m b → ended m (region b m) b ≡ Some next → Keeps t Ended b next
-ended_kept t m b next o e = kept (cc) (end_shape o) refl (λ y n _. end_relies o y n)
+ended_kept t m b next o e = kept (cc) (end_shape o) refl (λ y n _. end_relies o y n) (λ _ old. hand_returns (ends o) (old m) old)
 
 pub seeded_kept : (t s n start : ℕ) (b next : Book) → Shape b → seeded t s n b ≡ Some next → Keeps t (Seeded start n) b next
 seeded_kept t s n start b next h e =
@@ -114,6 +121,7 @@ seeded_kept t s n start b next h e =
     let few : n < capacity (region b s) = grind (arith, nat_tests) in
     let room = room_for (region b s) n (h.bounds s (made_there m)) few in
     kept (let s = c.1 in cc) (seed_shape m n room) refl (λ y ne _. seed_relies m n y ne)
+    (λ _. hand_returns (seeds m n) (blanks_return n))
 
 pub born_kept : (t child s start : ℕ) (b next : Book) → Shape b → born t child s b ≡ Some next → Keeps t (Born child start) b next
 born_kept t child s start b next h e =
@@ -123,6 +131,7 @@ born_kept t child s start b next h e =
     let passed : nat_le (length b.regions) (current_of child b) ≡ true = d.1 in
     let none : length b.regions ≤ current_of child b = grind (arith, nat_tests) in
     kept (let s = c.1 in cc) (born_shape m child none) refl (λ y n other. born_relies m child y n other)
+    (λ _ old. hand_returns (bears m child) (old s) old)
 
 claim_holder : (t start pages : ℕ) (maker : Bool) → ((x : ℕ) × ((claim t start pages maker).holder ≡ Maker x)) ⊎ ((claim t start pages maker).holder ≡ Lost)
 claim_holder t start pages true = inl (t, refl)
@@ -144,18 +153,18 @@ claimed_kept t start pages maker b next h e =
     kept (let s = c.1 in cc)
     (append_shape (claims t start pages maker b h) (claim_bounds start pages b h can)
     (λ i. let l = end_le_last b h i in let a = can.above in omega arith)) refl
-    (λ y n _. append_relies (claims t start pages maker b h) y)
+    (λ y n _. append_relies (claims t start pages maker b h) y) (λ _. append_returns (claims t start pages maker b h))
 
 pub returned_kept : (t m : ℕ) (b next : Book) → Owned t m b → returned m (region b m).entries b ≡ Some next → Keeps t Returned b next
 returned_kept t m b next o e =
     let removal = returned_is next (region b m).entries o refl e in
     let s = shortened o removal in
-    record { shape = s.owned.shape; stacks = s.stacks; others = λ y ne _. removal_relies o removal y ne }
+    record { shape = s.owned.shape; stacks = s.stacks; others = λ y ne _. removal_relies o removal y ne; returns = λ _. removal_returns o removal }
 
 pub raised_kept : (t m n : ℕ) (b next : Book) → Owned t m b → raised m n b ≡ Some next → Keeps t (Raised n) b next
 raised_kept t m n b next o e =
     let s = raised_shortened t m n b next o e in
-    record { shape = s.owned.shape; stacks = s.stacks; others = λ y ne _. raised_relies t m n b next o e y ne }
+    record { shape = s.owned.shape; stacks = s.stacks; others = λ y ne _. raised_relies t m n b next o e y ne; returns = λ _. raised_returns t m n b next o e }
 
 -- the book with the region of a thread
 owned_by : (t : ℕ) (c : Change) (b next : Book) (f : ℕ → Region → Option Book) → Shape b → with_current t b f ≡ Some next → ((m : ℕ) → Owned t m b → f m (region b m) ≡ Some next → Keeps t c b next) → Keeps t c b next
@@ -167,6 +176,7 @@ by_regions : (t : ℕ) (c : Change) (b next : Book) → IsBook b → Keeps t c b
 by_regions t c b next h k = record {
   book = record { shape = k.shape; stacks = subst StackShape (sym k.stacks) h.stacks };
   others = k.others;
+  returns = k.returns;
 }
 
 busied_kept : (t k : ℕ) (b next : Book) → IsBook b → busied t k b ≡ Some next → Kept t (Busied k) b next
@@ -183,6 +193,7 @@ busied_kept t k b next h e =
     subst (Kept t (Busied k) b) (let s = c.1 in cc) (record {
       book = record { shape = put_stack_shape k (Some t) b h.shape; stacks = busied_stacks t k b h.stacks inside (none_held t b past) };
       others = λ y n _. stack_relies y k (Some t) b there (λ z. cc) (λ z. n (cc));
+      returns = λ _ old. old;
     })
 
 freed_kept : (t k : ℕ) (b next : Book) → IsBook b → freed t k b ≡ Some next → Kept t (Freed k) b next
@@ -192,6 +203,7 @@ freed_kept t k b next h e =
     subst (Kept t (Freed k) b) (let s = c.1 in cc) (record {
       book = record { shape = put_stack_shape k None b h.shape; stacks = freed_stacks t k b h.stacks held };
       others = λ y n _. stack_relies y k None b (stack_there t k b held) (λ z. n (cc)) (λ z. cc);
+      returns = λ _ old. old;
     })
 
 pub book_kept : (t : ℕ) (c : Change) (b next : Book) → IsBook b → book_after t b c ≡ Some next → Kept t c b next

@@ -8,8 +8,11 @@ pub mod Hand
 pub mod Append
 pub mod Removes
 pub mod Supervisor
+pub mod Stack
 pub mod First
 pub mod Relies
+pub mod Addresses
 pub mod Cases
 pub mod Kept
-pub mod Stack
+pub mod Ways
+pub mod Top

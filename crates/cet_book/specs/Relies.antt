@@ -46,7 +46,7 @@ relies_same t b = record {
   free = λ k e. e;
 }
 
-owns_current : (t : ℕ) (h : Holder) → h ≡ Current t → Owns t h
+pub owns_current : (t : ℕ) (h : Holder) → h ≡ Current t → Owns t h
 owns_current t h e = subst (Owns t) (sym e) refl
 
 pub relies_then : {t : ℕ} {a b c : Book} → Relies t a b → Relies t b c → Relies t a c
@@ -101,7 +101,7 @@ unlink_relies {t = t} {m = m} {s = s} {es = es} {b = b} l {g = g} d y n =
       kept = λ i x. unlink_other l g i (not_owned y i s (Left m) b below_m (λ z. z) x) (not_owned y i m (Current t) b l.owned.current n x);
       below = λ q z e f. unlink_other l g z
           (not_left q z s (Left m) b below_m
-            (λ u. let same_q : m ≡ q = cc in let c : (region b m).holder ≡ Current y = subst (λ j. (region b j).holder ≡ Current y) (sym same_q) e in let w = l.owned.current in n (cc)) f)
+          (λ u. let same_q : m ≡ q = cc in let c : (region b m).holder ≡ Current y = subst (λ j. (region b j).holder ≡ Current y) (sym same_q) e in let w = l.owned.current in n (cc)) f)
           (not_left q z m (Current t) b l.owned.current (λ u. cc) f);
       held = λ _ e. e;
       free = λ _ e. e;

@@ -3,7 +3,7 @@ use Rattle.std.proofs.Common.{◌≡◌, ◌≢◌, ℕ, ◌<◌, ◌≤◌, inl
 use Rattle.std.proofs.lemmas.Bool.{cases_lt, false≢true}
 use Rattle.std.proofs.lemmas.Bool.Decides.{eqb_tells, nat_tests}
 use Rattle.std.proofs.lemmas.List.{get_or_past}
-use Rattle.std.proofs.lemmas.List.Sums.{fails_before_first}
+use Rattle.std.proofs.lemmas.List.Sums.{fails_before_first, passes_at_first}
 use Rattle.cet_book.specs.Book.{Book, stack_of, put_stack, holds_stack, is_free, held_by, current_of}
 use Rattle.cet_book.specs.Shape.{Shape, StackShape}
 
@@ -38,6 +38,14 @@ none_held t b none k e =
     let inside = stack_there t k b e in
     let f : holds_stack t (stack_of b k) ≡ false = fails_before_first (holds_stack t) b.stacks k None (omega arith) in
     absurd (false≢true (sym f ∙ holds_stack-true t (stack_of b k) e))
+
+-- and the other way round
+pub held_none : (t : ℕ) (b : Book) → ((k : ℕ) → stack_of b k ≢ Some t) → length b.stacks ≤ held_by t b
+unfolding held_by
+held_none t b none = elim (cases_lt (held_by t b) (length b.stacks)) [
+  | inl l ↦ absurd (none (held_by t b) (holds_true t (stack_of b (held_by t b)) (passes_at_first (holds_stack t) b.stacks None l)))
+  | inr g ↦ g
+]
 
 pub busied_stacks : (t k : ℕ) (b : Book) → StackShape b.stacks → k < 8 → ((j : ℕ) → stack_of b j ≢ Some t) → StackShape (put_stack b k (Some t)).stacks
 busied_stacks t k b s inside none = record {

@@ -1,8 +1,8 @@
 -- What the last book of a run is, and how words and thread fit it. Source: own.
-use Rattle.std.specs.Prelude.{◌≡◌, ℕ, ◌+◌, ◌*◌, ◌≤◌, List, [], ◌∷◌, length, Option, Some}
+use Rattle.std.specs.Prelude.{◌≡◌, ℕ, ◌+◌, ◌*◌, ◌≤◌, List, [], ◌∷◌, length, Some}
 use Rattle.cet_words.specs.Job.{JobData}
 use Rattle.cet_isa.specs.declared.threads.End.TheVariants as ending
-use Rattle.cet_book.specs.Book.{Holder, Current, Lost, Book, Region, top}
+use Rattle.cet_book.specs.Book.{Current, Lost, Book, Region, top}
 use Rattle.cet_book.specs.Stack.{Stack, tops}
 use Rattle.cet_cpu.specs.Machine.{Machine, Thread, run}
 use Rattle.cet_own.specs.Event.{book_of}

@@ -1,5 +1,5 @@
 -- What every run promises of shadow stacks. Source: Intel SDM volume 1 (CET shadow stacks) for returns; own for the book.
-use Rattle.std.specs.Prelude.{◌≡◌, ◌≢◌, ℕ, ◌<◌, ◌⊎◌, ◌↔◌, List, [], ◌∷◌, length, Option, Some, None, slice_get}
+use Rattle.std.specs.Prelude.{◌≡◌, ℕ, ◌<◌, ◌↔◌, List, [], ◌∷◌, length, Option, Some, None, slice_get}
 use Rattle.std.specs.Prelude.{IsTrue}
 use Rattle.cet_words.specs.Access.{answer}
 use Rattle.cet_words.specs.Bytes.{code_byte}
@@ -7,7 +7,6 @@ use Rattle.cet_words.specs.Job.{JobData}
 use Rattle.cet_words.specs.declared.accesses.Access.{Access}
 use Rattle.cet_isa.specs.Address.{canonical}
 use Rattle.cet_isa.specs.Reading.{Decoding, Read, Short, Unknown, decoded}
-use Rattle.cet_isa.specs.declared.instructions.Instr.{Instr}
 use Rattle.cet_isa.specs.declared.instructions.Instr.TheVariants as instr
 use Rattle.cet_isa.specs.declared.threads.Arch.{Arch}
 use Rattle.cet_isa.specs.declared.threads.End.{End}
@@ -17,7 +16,7 @@ use Rattle.cet_isa.specs.declared.threads.FaultName.TheVariants.{Ud, Gp, Pf, Ac,
 use Rattle.cet_isa.specs.declared.threads.Record.{Record}
 use Rattle.cet_isa.specs.declared.threads.What.{What}
 use Rattle.cet_isa.specs.declared.threads.What.TheVariants as what
-use Rattle.cet_book.specs.Book.{Entry, Call, Restorer, Frame, Previous, Blank, Holder, Current, Book, Region, region, top, stack_of, books_after}
+use Rattle.cet_book.specs.Book.{Entry, Call, Restorer, Frame, Previous, Blank, Current, Book, region, top, stack_of, books_after}
 use Rattle.cet_cpu.specs.Core.{Core, After, next_access, taken}
 use Rattle.cet_cpu.specs.Machine.{Machine, Thread, step}
 use Rattle.cet_cpu.specs.Row.{instruction_bytes}
@@ -43,9 +42,9 @@ IsReturnFault Pf code = Unit {0}
 IsReturnFault Ac code = Unit {0}
 IsReturnFault Cp code = code ≡ 1
 
--- the bytes at RIP are a near return
+-- the bytes at RIP are a near return; one with an immediate isn't built, and is an invalid opcode
 abbrev pub is_return : Decoding → Type 0
-is_return (Read i len) = (i ≡ instr.Ret) ⊎ ((bytes : ℕ) × (i ≡ instr.RetImm bytes))
+is_return (Read i len) = i ≡ instr.Ret
 is_return Short = ⊥
 is_return Unknown = ⊥
 

@@ -1,0 +1,173 @@
+-- What a thread claims of each of its rows. Source: own.
+use Rattle.std.proofs.Common.{◌≡◌, ℕ, zero, suc, ◌+◌, ◌-◌, ◌<◌, ◌≤◌, inr, length, Option, Some, None, refl, subst, arith}
+use Rattle.std.specs.Prelude.{◌==◌, ℤ}
+use Rattle.std.specs.Int.{w64, cast_unsigned}
+use Rattle.std.proofs.Math.Nat.{mod-lt}
+use Rattle.cet_words.specs.Bytes.{code_byte, code_place}
+use Rattle.cet_words.specs.Job.{JobData, IsJob}
+use Rattle.cet_words.specs.Layout.{page_at}
+use Rattle.cet_isa.specs.Address.{canonical}
+use Rattle.cet_isa.specs.Reading.{Decoding, Read, Short, Unknown, decoded}
+use Rattle.cet_isa.specs.ReadingLaws.{decoded_within}
+use Rattle.cet_isa.specs.declared.instructions.Instr.{Instr}
+use Rattle.cet_isa.specs.declared.instructions.Instr.TheVariants as instr
+use Rattle.cet_isa.specs.declared.instructions.Operand.{Operand}
+use Rattle.cet_isa.specs.declared.instructions.Operand.TheVariants as operand
+use Rattle.cet_isa.specs.declared.instructions.Size.{Size}
+use Rattle.cet_isa.specs.declared.instructions.Size.TheVariants as size
+use Rattle.cet_isa.specs.declared.threads.Arch.{Arch}
+use Rattle.cet_isa.specs.declared.threads.Fault.{Fault}
+use Rattle.cet_book.specs.Addresses.{IsReturn}
+use Rattle.cet_cpu.specs.Script.{◌>>=◌}
+use Rattle.cet_cpu.specs.Fetch.{fetchable, joined, missing, missing_in}
+use Rattle.cet_cpu.specs.Finish.{Row, noted, above, rax, IsMade}
+use Rattle.cet_cpu.specs.Flow.{call_relative, relative}
+use Rattle.cet_cpu.specs.Gate.{exit_word, pend_word, handler_word, made_page, clears, exit, no_call, service, syscall, inside, signal_of, kill, deliver}
+use Rattle.cet_cpu.specs.Parts.{invalid_opcode}
+use Rattle.cet_cpu.specs.Row.{move, execute, fetched, instruction, instruction_bytes, boundary, row, row_from}
+use Rattle.cet_own.specs.Safe.{is_return}
+use Rattle.cet_own.specs.Holds.{IsOut}
+use Rattle.cet_own.specs.Standing.{AtRest, rest_kept, Inside, inside_kept}
+use Rattle.cet_own.specs.Classes.{State, looks, own_stack}
+use Rattle.cet_own.specs.Parts.{Fails, Claim, claim_bind, claim_cond, load_then, exchange_then, clears_claim}
+use Rattle.cet_own.specs.GateParts.{gate_in_then, gate_out_then, exit_out_then}
+use Rattle.cet_own.specs.Calls.{Ends, EndsRow, call_claim, call_next_claim}
+use Rattle.cet_own.specs.Returns.{ret_claim}
+
+-- ---- where instructions lie
+
+-- the bytes that can be fetched are code
+fetched_at : (job : JobData) (addr most n : ℕ) (o : Option ℕ) → IsJob job → code_byte job.image.segments addr ≡ o → n < length (joined o (fetchable job.image.segments (addr + 1) most)) → (n < length (fetchable job.image.segments (addr + 1) most) → (0x400000 ≤ addr + 1 + n) × (addr + 1 + n < 0x800000)) → ((m : ℕ) → n ≡ suc m → m < length (fetchable job.image.segments (addr + 1) most) → (0x400000 ≤ addr + 1 + m) × (addr + 1 + m < 0x800000)) → (0x400000 ≤ addr + n) × (addr + n < 0x800000)
+fetched_at job addr most n None j e l rest more = absurd (omega arith)
+fetched_at job addr most zero (Some b) j e l rest more = let p = code_place job.image.segments addr b j.image.each e in let lo = p.0 in let hi = p.1 in (omega arith, omega arith)
+fetched_at job addr most (suc m) (Some b) j e l rest more = let p = more m refl (omega arith) in let lo = p.0 in let hi = p.1 in (omega arith, omega arith)
+
+fetchable_place : (job : JobData) (addr most n : ℕ) → IsJob job → n < length (fetchable job.image.segments addr most) → (0x400000 ≤ addr + n) × (addr + n < 0x800000)
+unfolding fetchable
+fetchable_place job addr zero n j l = absurd (omega arith)
+fetchable_place job addr (suc most) n j l =
+    fetched_at job addr most n (code_byte job.image.segments addr) j refl l (fetchable_place job (addr + 1) most n j) (λ m e k. fetchable_place job (addr + 1) most m j k)
+
+-- the address after an instruction
+next_place : (job : JobData) (arch : Arch) (i : Instr) (len : ℕ) → IsJob job → decoded (instruction_bytes job arch) ≡ Read i len → IsReturn (above arch.rip len)
+next_place job arch i len j e =
+    let w = decoded_within (instruction_bytes job arch) i len e in
+    let least = w.0 in
+    let most = w.1 in
+    let p = fetchable_place job arch.rip 15 (len - 1) j (omega arith) in
+    let low = (fetchable_place job arch.rip 15 0 j (omega arith)).0 in
+    let high = p.1 in
+    (omega arith, omega arith)
+
+-- the number of a thread's supervisor stack
+pub stack_below : (job : JobData) (t : ℕ) → IsJob job → own_stack job t < 8
+stack_below job t j =
+    let low = j.procs_low in
+    let high = j.procs_high in
+    let l : own_stack job t < job.procs = mod-lt t (omega arith) in
+    omega arith
+
+exit_out : IsOut 1605632
+exit_out = record { shadow = inr (omega arith); entry = omega arith; token = λ k l. omega arith }
+
+module _ (job : JobData) (j : IsJob job) (arch : Arch) where
+  -- an invalid opcode is at no return
+  no_return : (s : State) (d : Decoding) → AtRest arch.number s.book arch.ssp → decoded (instruction_bytes job arch) ≡ d → (is_return d → ⊥) → Fails job arch s invalid_opcode
+  no_return s d rest e n = (rest, λ r. absurd (n (subst is_return e r.1)))
+
+  -- ---- kernel calls and the kill
+
+  exit_claim : (before s : State) → IsMade arch.made → Inside arch.number (own_stack job arch.number) s.book arch.ssp → Claim job arch (Ends job arch) before s (exit arch (own_stack job arch.number))
+  unfolding exit
+  exit_claim before s made inside =
+      let low = made.low in
+      let high = made.high in
+      claim_bind job arch (Ends job arch) before s (clears 8 (made_page arch)) _
+      (clears_claim job arch (own_stack job arch.number) _ before s 8 (made_page arch) (omega arith) (omega arith) inside (λ z n inside'.
+      exit_out_then job arch (stack_below job arch.number j) (Ends job arch) z n _ inside' (λ z' n' none. (none, λ held now. tt))))
+
+  no_call_claim : (before s : State) (next : ℕ) → Inside arch.number (own_stack job arch.number) s.book arch.ssp → Claim job arch (Ends job arch) before s (no_call arch next (own_stack job arch.number))
+  unfolding no_call
+  no_call_claim before s next inside =
+      gate_out_then job arch (stack_below job arch.number j) (Ends job arch) before s _ inside (λ z n rest. (rest, λ held now. tt))
+
+  syscall_claim : (before s : State) (next : ℕ) → IsMade arch.made → AtRest arch.number s.book arch.ssp → Claim job arch (Ends job arch) before s (syscall job arch next)
+  unfolding syscall
+  syscall_claim before s next made rest =
+      gate_in_then job arch (stack_below job arch.number j) (Ends job arch) before s (inside arch (own_stack job arch.number) (service arch next (own_stack job arch.number))) rest
+      (λ z n within. claim_cond job arch (Ends job arch) z n (rax arch == 60) _ _ (λ _. exit_claim z n made within) (λ _. no_call_claim z n next within))
+      (λ z n found rest'. (rest', λ held now. tt))
+
+  kill_claim : (before s : State) (signal : ℕ) → Inside arch.number (own_stack job arch.number) s.book arch.ssp → Claim job arch (Ends job arch) before s (kill arch signal (own_stack job arch.number))
+  unfolding kill
+  kill_claim before s signal within =
+      load_then job arch (Ends job arch) before s (handler_word signal) _ within.stacked (λ now r v.
+      let within1 = inside_kept r within in
+      exchange_then job arch (Ends job arch) now now exit_word 0 (0x200 + signal) _ exit_out within1.stacked (λ now2 r2 found.
+      gate_out_then job arch (stack_below job arch.number j) (Ends job arch) now2 now2 _ (inside_kept r2 within1) (λ z n rest. (rest, λ held later. tt))))
+
+  deliver_claim : (before s : State) (e : Fault) → AtRest arch.number s.book arch.ssp → Claim job arch (Ends job arch) before s (deliver job arch e)
+  unfolding deliver
+  deliver_claim before s e rest =
+      gate_in_then job arch (stack_below job arch.number j) (Ends job arch) before s (inside arch (own_stack job arch.number) (kill arch (signal_of e.name) (own_stack job arch.number))) rest
+      (λ z n within. kill_claim z n (signal_of e.name) within)
+      (λ z n found rest'. (rest', λ held now. tt))
+
+  -- ---- instructions
+
+  noted_claim : (before s : State) (m : Row) → Claim job arch (EndsRow job arch) before s m → Claim job arch (Ends job arch) before s (m >>= noted)
+  noted_claim before s m h = claim_bind job arch (Ends job arch) before s m noted h
+
+  move_claim : (before s : State) (sz : Size) (dst src : Operand) (next len : ℕ) → AtRest arch.number s.book arch.ssp → decoded (instruction_bytes job arch) ≡ Read (instr.Mov sz dst src) len → Claim job arch (Ends job arch) before s (move arch sz dst src next)
+  move_claim before s size.Dword (operand.Reg r) (operand.Imm z) next len rest e = (rest, λ held now. tt)
+  move_claim before s size.Dword (operand.Reg r) (operand.Reg q) next len rest e = no_return s _ rest e (λ x. cc)
+  move_claim before s size.Dword (operand.Reg r) (operand.Mem m) next len rest e = no_return s _ rest e (λ x. cc)
+  move_claim before s size.Dword (operand.Mem m) src next len rest e = no_return s _ rest e (λ x. cc)
+  move_claim before s size.Dword (operand.Imm z) src next len rest e = no_return s _ rest e (λ x. cc)
+  move_claim before s size.Qword dst src next len rest e = no_return s _ rest e (λ x. cc)
+
+  call_relative_claim : (before s : State) (disp : ℤ) (next : ℕ) → AtRest arch.number s.book arch.ssp → IsReturn next → Claim job arch (EndsRow job arch) before s (call_relative arch disp next)
+  call_relative_claim before s disp next rest is_return =
+      claim_cond job arch (EndsRow job arch) before s (cast_unsigned w64 disp == 0) _ _
+      (λ _. call_next_claim job arch before s next rest) (λ _. call_claim job arch before s next (relative next disp) rest is_return)
+
+  execute_claim : (before s : State) (i : Instr) (len : ℕ) → IsMade arch.made → AtRest arch.number s.book arch.ssp → decoded (instruction_bytes job arch) ≡ Read i len → Claim job arch (Ends job arch) before s (execute job arch i (above arch.rip len))
+  execute_claim before s (instr.Mov sz dst src) len made rest e = move_claim before s sz dst src (above arch.rip len) len rest e
+  execute_claim before s (instr.CallRel disp) len made rest e =
+      noted_claim before s _ (call_relative_claim before s disp (above arch.rip len) rest (next_place job arch (instr.CallRel disp) len j e))
+  execute_claim before s instr.Ret len made rest e = noted_claim before s _ (ret_claim job j arch before s rest)
+  execute_claim before s instr.Syscall len made rest e = syscall_claim before s (above arch.rip len) made rest
+  execute_claim before s i len made rest e = no_return s _ rest e (λ x. cc)
+
+  missing_claim : (before s : State) (at : Option ℕ) (addr : ℕ) → AtRest arch.number s.book arch.ssp → Claim job arch (Ends job arch) before s (missing_in at addr)
+  missing_claim before s None addr rest = (rest, λ r. tt)
+  missing_claim before s (Some page) addr rest = (rest.stacked, λ now r v known. (looks page refl refl, now, refl, (rest_kept r rest, λ q. tt)))
+
+  fetched_claim : (before s : State) (d : Decoding) → IsMade arch.made → AtRest arch.number s.book arch.ssp → decoded (instruction_bytes job arch) ≡ d → Claim job arch (Ends job arch) before s (fetched job arch (instruction_bytes job arch) d)
+  unfolding missing
+  fetched_claim before s (Read i len) made rest e = execute_claim before s i len made rest e
+  fetched_claim before s Short made rest e = missing_claim before s (page_at (arch.rip + length (instruction_bytes job arch))) (arch.rip + length (instruction_bytes job arch)) rest
+  fetched_claim before s Unknown made rest e = no_return s Unknown rest e (λ x. x)
+
+  instruction_claim : (before s : State) → IsMade arch.made → AtRest arch.number s.book arch.ssp → Claim job arch (Ends job arch) before s (instruction job arch)
+  unfolding instruction
+  instruction_claim before s made rest =
+      claim_cond job arch (Ends job arch) before s (canonical arch.rip) _ _
+      (λ _. fetched_claim before s (decoded (instruction_bytes job arch)) made rest refl) (λ _. (rest, λ r. tt))
+
+  boundary_claim : (before s : State) → IsMade arch.made → AtRest arch.number s.book arch.ssp → Claim job arch (Ends job arch) before s (boundary job arch)
+  unfolding boundary
+  boundary_claim before s made rest =
+      load_then job arch (Ends job arch) before s exit_word _ rest.stacked (λ now r ending.
+      let rest1 = rest_kept r rest in
+      claim_cond job arch (Ends job arch) now now (ending == 0) _ _
+      (λ _. load_then job arch (Ends job arch) now now (pend_word arch.number) _ rest1.stacked (λ now2 r2 v. instruction_claim now2 now2 made (rest_kept r2 rest1)))
+      (λ _. rest1))
+
+  from_claim : (before s : State) (due : Option Fault) → IsMade arch.made → AtRest arch.number s.book arch.ssp → Claim job arch (Ends job arch) before s (row_from job arch due)
+  from_claim before s (Some e) made rest = deliver_claim before s e rest
+  from_claim before s None made rest = boundary_claim before s made rest
+
+  -- a thread at rest claims its whole next row
+  pub row_claim : (before s : State) → IsMade arch.made → AtRest arch.number s.book arch.ssp → Claim job arch (Ends job arch) before s (row job arch)
+  row_claim before s made rest = from_claim before s arch.due made rest

@@ -1,0 +1,13 @@
+ghost use Rattle.std.specs.Prelude.{ℕ, List};
+ghost use Rattle.cet_words.specs.Job.{JobData, IsJob};
+ghost use Rattle.cet_book.specs.Book.{first_book};
+ghost use Rattle.cet_cpu.specs.Machine.{Machine, Starts};
+ghost use Rattle.cet_own.specs.Safe.{Safe};
+
+/// In every run of every job, whatever thread has which turn: no shadow stack is current on two
+/// threads and no supervisor stack is held by two, every change of a stack is one that the book of
+/// shadow stacks has, and every near return goes where the newest open call was to return, or faults,
+/// or goes to an address with no executable page.
+pub fn every_run_is_safe()
+    ensures { (job : JobData) (start : Machine) (turns : List ℕ) → IsJob job → Starts job start → Safe job start first_book turns }
+{}
