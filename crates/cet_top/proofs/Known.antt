@@ -1,6 +1,6 @@
 -- Known bytes over several calls.
 use Rattle.std.proofs.Common.{ℕ, zero, suc, ◌+◌, ◌-◌, ◌≤◌, ◌≡◌, List, [], ◌∷◌, ◌++◌, length, take, drop, Option, Some, None, sym, ◌∙◌, ap, arith}
-use Rattle.std.proofs.lemmas.List.{append_assoc, append-nil, length-append, length-drop, take_all}
+use Rattle.std.proofs.lemmas.List.{append_assoc, append-nil, length-append, length-drop, length-take-le, take_all}
 use Rattle.std.specs.Io.KnownBytes.{Consumes, Appends}
 use Rattle.cet_top.specs.Stream.{TakesAll, TakesUpTo, AppendsSome}
 
@@ -18,6 +18,12 @@ TakesUpTo-more a b c m n most xs few fits first more = (
   (let l = more.1 in let e = length-append xs more.0 in omega arith),
   Consumes-more a b c xs more.0 first more.2,
 )
+
+-- what two calls took
+pub TakesUpTo-taken : (a b c : Option (List ℕ)) (m n most k : ℕ) (xs buf : List ℕ) → length xs ≤ m → length buf ≤ n → k ≤ length buf → n + m ≤ most → Consumes a b xs → Consumes b c (take k buf) → TakesUpTo most a c
+TakesUpTo-taken a b c m n most k xs buf few size within fits first second =
+    let e = length-take-le k buf within in
+    TakesUpTo-more a b c m n most xs few fits first (take k buf, omega arith, second)
 
 -- all that there was is no more than that
 pub TakesUpTo-all : (a b : Option (List ℕ)) (n : ℕ) (xs : List ℕ) → length xs ≤ n → TakesAll a b xs → TakesUpTo n a b

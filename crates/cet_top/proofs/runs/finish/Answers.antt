@@ -1,19 +1,23 @@
-use Rattle.std.proofs.Common.{◌≡◌, ◌≤◌, length, IfOk, ℕ, List}
+use Rattle.std.proofs.Common.{subst, IfOk}
 use Rattle.std.proofs.lemmas.Result.{IfOk-weaker}
-use Rattle.cet_own.specs.Report.{LastBook}
-use Rattle.cet_own.specs.Safe.{Safe}
-use Rattle.cet_book.specs.Book.{first_book}
+use Rattle.cet_words.specs.Job.{IsJob}
+use Rattle.cet_own.specs.Reported.{last_book}
+use Rattle.cet_own.specs.Run.{safe_run}
 use Rattle.cet_top.proofs.Finished.{ended_keeps, ended_ran}
 use Rattle.cet_top.proofs.runs.finish.Goals as goal
 
-last : (turns : List ℕ) → LastBook _ _ turns
-last = ?
-
 pub read_outcome-requires-clause-keeps : goal.read_outcome-requires-clause-keeps
-read_outcome-requires-clause-keeps c = (ended_keeps _ _ _ _ ? c.in_ok-robin.ensures.ran).0
+read_outcome-requires-clause-keeps c =
+    let job = subst IsJob c.job.view_is c.job.invariant in
+    (ended_keeps _ _ _ _ (λ turns. last_book _ _ turns job c.requires.starts) c.in_ok-robin.ensures.ran).0
 
 pub read_outcome-requires-clause-few : goal.read_outcome-requires-clause-few
-read_outcome-requires-clause-few c = (ended_keeps _ _ _ _ ? c.in_ok-robin.ensures.ran).1
+read_outcome-requires-clause-few c =
+    let job = subst IsJob c.job.view_is c.job.invariant in
+    (ended_keeps _ _ _ _ (λ turns. last_book _ _ turns job c.requires.starts) c.in_ok-robin.ensures.ran).1
 
 pub returns : goal.returns
-returns c = IfOk-weaker c.read_outcome.result _ _ (λ outcome e. ended_ran _ _ _ _ outcome ? ? c.requires.starts c.in_ok-robin.ensures.ran e) c.read_outcome.ensures
+returns c =
+    let job = subst IsJob c.job.view_is c.job.invariant in
+    let ran = c.in_ok-robin.ensures.ran in
+    IfOk-weaker c.read_outcome.result _ _ (λ outcome e. ended_ran _ _ _ _ outcome (λ turns. last_book _ _ turns job c.requires.starts) (λ turns. safe_run _ _ turns job c.requires.starts) c.requires.starts ran e) c.read_outcome.ensures
