@@ -6,6 +6,7 @@ mod codes;
 mod decoder;
 mod fields;
 mod forms;
+mod index;
 mod kinds;
 mod meaning;
 mod reading;
