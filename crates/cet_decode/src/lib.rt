@@ -10,5 +10,7 @@ mod index;
 mod kinds;
 mod meaning;
 mod reading;
+#[cfg(test)]
+mod tests;
 
 pub use decoder::{Decoded, decode};

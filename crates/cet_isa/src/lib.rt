@@ -4,6 +4,8 @@
 mod addresses;
 mod instructions;
 mod spelled;
+#[cfg(test)]
+mod tests;
 mod threads;
 
 pub use addresses::is_canonical;

@@ -57,3 +57,21 @@ impl<const N: usize> Rows<N> {
         is_disjoint(&self.rows)
     }
 }
+
+#[cfg(test)]
+mod tests {
+    use super::*;
+
+    #[test]
+    fn first_row_with_the_key(rt: HostRuntime) {
+        let squares = Rows::of([
+            Row { key: 2, value: 4 },
+            Row { key: 3, value: 9 },
+            Row { key: 2, value: 5 },
+        ]);
+        assert_eq!(rt; squares.find(2), Some(4));
+        assert_eq!(rt; squares.find(3), Some(9));
+        assert_eq!(rt; squares.find(4), None);
+        assert!(rt; !squares.disjoint());
+    }
+}

@@ -1,0 +1,42 @@
+use super::{Base, Instr, Mem, Operand, Reg, Size, is_canonical, is_spelled};
+
+#[test]
+fn canonical_addresses(rt: HostRuntime) {
+    let rows = [
+        (0, true),
+        (0x7fff_ffff_ffff, true),
+        (0x8000_0000_0000, false),
+        (0xffff_7fff_ffff_ffff, false),
+        (0xffff_8000_0000_0000, true),
+    ];
+    for (addr, want) in rows {
+        assert_eq!(rt; is_canonical(addr), want, "at {addr}");
+    }
+}
+
+#[test]
+fn spelled_operands(rt: HostRuntime) {
+    let rows = [
+        (Base::Reg(Reg::Rsp), None, 1, true),
+        (Base::Reg(Reg::Rsp), None, 2, false),
+        (Base::Reg(Reg::Rax), Some(Reg::R12), 8, true),
+        (Base::Reg(Reg::Rax), Some(Reg::Rsp), 1, false),
+        (Base::Reg(Reg::Rax), Some(Reg::Rcx), 3, false),
+        (Base::Rip, Some(Reg::Rcx), 1, false),
+        (Base::None, Some(Reg::Rcx), 4, true),
+    ];
+    for (base, index, scale, want) in rows {
+        let mem = Mem {
+            base,
+            index,
+            scale,
+            disp: -8,
+        };
+        assert_eq!(rt; is_spelled(&Instr::Rstorssp { mem }), want, "at {mem:?}");
+        // A store of 32 bits is no form of the machine.
+        let (dst, src) = (Operand::Mem(mem), Operand::Reg(Reg::Rax));
+        let size = Size::Dword;
+        assert!(rt; !is_spelled(&Instr::Mov { size, dst, src }), "at {mem:?}");
+    }
+    assert_eq!(rt; Reg::R12.number(), 12);
+}
