@@ -1,4 +1,5 @@
-use super::{Base, Instr, Mem, Operand, Reg, Size, is_canonical, is_spelled};
+use super::{Base, Instr, Mem, Operand, PageEntry, Reg, Rflags, Size, is_canonical, is_spelled};
+use bitflags::Flags;
 
 #[test]
 fn canonical_addresses(rt: HostRuntime) {
@@ -39,4 +40,15 @@ fn spelled_operands(rt: HostRuntime) {
         assert!(rt; !is_spelled(&Instr::Mov { size, dst, src }), "at {mem:?}");
     }
     assert_eq!(rt; Reg::R12.number(), 12);
+}
+
+#[test]
+fn named_bits(rt: HostRuntime) {
+    // RFLAGS as a thread starts with them, and the bits 0, 2, 4, 6, 7, 9 and 11 beside bit 1.
+    let start = Rflags::from_bits_retain(0x202);
+    assert!(rt; start.contains(Rflags::IF) && !start.contains(Rflags::CF));
+    assert_eq!(rt; Rflags::all().bits(), 0xad7);
+    // A shadow-stack page for the user: dirty and not writable.
+    let shadow = PageEntry::P | PageEntry::US | PageEntry::A | PageEntry::D | PageEntry::XD;
+    assert_eq!(rt; shadow.bits(), 0x8000_0000_0000_0065);
 }
