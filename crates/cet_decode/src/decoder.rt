@@ -6,7 +6,8 @@ ghost use Rattle.cet_isa.specs.Spells.{Spells};
 ghost use Rattle.cet_isa.specs.Reading.{decoded, IsAnswer};
 ghost use Rattle.cet_decode.specs.Decoded.{decoding, LenAtMost};
 
-use crate::reading::{Miss, read_listed};
+use crate::index::read_indexed;
+use crate::reading::Miss;
 use cet_isa::Instr;
 
 /// What stands at the front of some bytes.
@@ -25,7 +26,7 @@ fn answer(bytes: &[u8]) -> Decoded
     ensures reads { decoding result ≡ decoded bytes.now }
     ensures len { LenAtMost 12 result }
 {
-    match read_listed(bytes) {
+    match read_indexed(bytes) {
         Ok((instr, rest)) => Decoded::Ok {
             instr,
             len: (bytes.len() - rest.len()) as u8,

@@ -6,8 +6,11 @@ mod codes;
 mod decoder;
 mod fields;
 mod forms;
+mod index;
 mod kinds;
 mod meaning;
 mod reading;
+#[cfg(test)]
+mod tests;
 
 pub use decoder::{Decoded, decode};

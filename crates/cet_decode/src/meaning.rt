@@ -10,60 +10,41 @@ use crate::fields::{
 };
 use crate::forms::Kind;
 use crate::kinds::{Arith, Flow, Move, Shadow, Unary};
-use cet_isa::{Instr, Operand, Reg, Size};
+use cet_isa::{AluOp, Instr, Operand, Reg, Size};
+
+fn alu(op: AluOp, size: Size, dst: Operand, src: Operand) -> Instr
+    ensures { result ≡ Instr.Alu op size dst src }
+{
+    Instr::Alu { op, size, dst, src }
+}
+
+fn test(size: Size, dst: Operand, src: Operand) -> Instr
+    ensures { result ≡ Instr.Test size dst src }
+{
+    Instr::Test { size, dst, src }
+}
+
+fn mov(size: Size, dst: Operand, src: Operand) -> Instr
+    ensures { result ≡ Instr.Mov size dst src }
+{
+    Instr::Mov { size, dst, src }
+}
 
 fn arith(kind: Arith, x: &Parts, imm: &[u8]) -> Instr
     ensures { result ≡ instr_of (arith_view kind) (fields_view x.now imm.now) }
 {
-    let size = size(x);
+    let (size, dst, src) = (size(x), reg_in_field(x), x.rm);
     let rax = Operand::Reg(Reg::Rax);
-    let reg = Operand::Reg(reg_in_field(x));
     let number = imm_operand(imm);
     match kind {
-        Arith::AluRmReg => Instr::Alu {
-            op: op_in_opcode(x),
-            size,
-            dst: x.rm,
-            src: reg,
-        },
-        Arith::AluRegRm => Instr::Alu {
-            op: op_in_opcode(x),
-            size,
-            dst: reg,
-            src: x.rm,
-        },
-        Arith::AluRmImm => Instr::Alu {
-            op: op_in_digit(x),
-            size,
-            dst: x.rm,
-            src: number,
-        },
-        Arith::AluRaxImm => Instr::Alu {
-            op: op_in_opcode(x),
-            size,
-            dst: rax,
-            src: number,
-        },
-        Arith::TestRmReg => Instr::Test {
-            size,
-            dst: x.rm,
-            src: reg,
-        },
-        Arith::TestRmImm => Instr::Test {
-            size,
-            dst: x.rm,
-            src: number,
-        },
-        Arith::TestRaxImm => Instr::Test {
-            size,
-            dst: rax,
-            src: number,
-        },
-        Arith::Imul => Instr::Imul {
-            size,
-            dst: reg_in_field(x),
-            src: x.rm,
-        },
+        Arith::AluRmReg => alu(op_in_opcode(x), size, x.rm, Operand::Reg(dst)),
+        Arith::AluRegRm => alu(op_in_opcode(x), size, Operand::Reg(dst), x.rm),
+        Arith::AluRmImm => alu(op_in_digit(x), size, x.rm, number),
+        Arith::AluRaxImm => alu(op_in_opcode(x), size, rax, number),
+        Arith::TestRmReg => test(size, x.rm, Operand::Reg(dst)),
+        Arith::TestRmImm => test(size, x.rm, number),
+        Arith::TestRaxImm => test(size, rax, number),
+        Arith::Imul => Instr::Imul { size, dst, src },
     }
 }
 
@@ -98,37 +79,18 @@ fn unary(kind: Unary, x: &Parts, imm: &[u8]) -> Instr
 fn moved(kind: Move, x: &Parts, imm: &[u8]) -> Instr
     ensures { result ≡ instr_of (move_view kind) (fields_view x.now imm.now) }
 {
-    let size = size(x);
-    let reg = reg_in_field(x);
+    let (size, reg, mem) = (size(x), reg_in_field(x), mem_operand(x.rm));
+    let number = imm_operand(imm);
     match kind {
-        Move::MovRmReg => Instr::Mov {
-            size,
-            dst: x.rm,
-            src: Operand::Reg(reg),
-        },
-        Move::MovRegRm => Instr::Mov {
-            size,
-            dst: Operand::Reg(reg),
-            src: x.rm,
-        },
-        Move::MovRegImm => Instr::Mov {
-            size: Size::Dword,
-            dst: Operand::Reg(reg_in_opcode(x)),
-            src: imm_operand(imm),
-        },
-        Move::MovRmImm => Instr::Mov {
-            size,
-            dst: x.rm,
-            src: imm_operand(imm),
-        },
+        Move::MovRmReg => mov(size, x.rm, Operand::Reg(reg)),
+        Move::MovRegRm => mov(size, Operand::Reg(reg), x.rm),
+        Move::MovRegImm => mov(Size::Dword, Operand::Reg(reg_in_opcode(x)), number),
+        Move::MovRmImm => mov(size, x.rm, number),
         Move::MovWide => Instr::MovWide {
             dst: reg_in_opcode(x),
             value: wide(imm),
         },
-        Move::MovZero8 => Instr::MovZero8 {
-            dst: reg,
-            src: mem_operand(x.rm),
-        },
+        Move::MovZero8 => Instr::MovZero8 { dst: reg, src: mem },
         Move::MovSign32 => Instr::MovSign32 {
             dst: reg,
             src: x.rm,
@@ -136,17 +98,11 @@ fn moved(kind: Move, x: &Parts, imm: &[u8]) -> Instr
         Move::Lea => Instr::Lea {
             size,
             dst: reg,
-            src: mem_operand(x.rm),
+            src: mem,
         },
         Move::Xchg => Instr::Xchg { dst: x.rm, reg },
-        Move::LockXadd => Instr::LockXadd {
-            mem: mem_operand(x.rm),
-            reg,
-        },
-        Move::LockCmpxchg => Instr::LockCmpxchg {
-            mem: mem_operand(x.rm),
-            reg,
-        },
+        Move::LockXadd => Instr::LockXadd { mem, reg },
+        Move::LockCmpxchg => Instr::LockCmpxchg { mem, reg },
         Move::Cmov => Instr::Cmov {
             cond: cond_in_opcode(x),
             size,

@@ -157,7 +157,7 @@ fn read_allowed<'a>(form: &Form, rex: Rex, bytes: &'a [u8]) -> Result<(Instr, &'
 }
 
 #[tactic(auto, unfolding(cet_isa::specs::Reading::row_at))]
-fn read_row<'a>(form: &Form, bytes: &'a [u8]) -> Result<(Instr, &'a [u8]), Miss>
+pub fn read_row<'a>(form: &Form, bytes: &'a [u8]) -> Result<(Instr, &'a [u8]), Miss>
     ensures { Gives (λ x. (x.0, x.1.now)) result (row_at (form_view form.now) bytes.now) }
 {
     let mut miss = Miss::Differs;

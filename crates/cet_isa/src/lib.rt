@@ -2,11 +2,15 @@
 #![tactic(auto)]
 
 mod addresses;
+mod bits;
 mod instructions;
 mod spelled;
+#[cfg(test)]
+mod tests;
 mod threads;
 
 pub use addresses::is_canonical;
+pub use bits::{PageEntry, Rflags};
 pub use instructions::{AluOp, Base, Cond, Count, Instr, Mem, Operand, Reg, Size};
 pub use spelled::is_spelled;
 pub use threads::{Arch, End, Fault, FaultName, Record, What};

@@ -1,0 +1,2 @@
+mod Narrowing
+mod IndexLaws
