@@ -1,0 +1,5 @@
+//! Instructions as bytes and as text.
+#![tactic(auto)]
+
+mod names;
+mod operands;
