@@ -97,6 +97,9 @@ one name size src = named name (operand size src)
 abbrev pub two : List ℕ → Size → Operand → Operand → List Piece
 two name size dst src = named name (size_word size dst src ++ pair (operand size dst) (operand size src))
 
+abbrev pub locked : List ℕ → Mem → Reg → List Piece
+locked name mem reg = named (codes "lock") (two name Qword (operands.Mem mem) (operands.Reg reg))
+
 abbrev pub amount : Count → Piece
 amount (counts.Number n) = number n
 amount counts.Cl = Word (codes "cl")
@@ -120,8 +123,8 @@ pieces (instrs.MovZero8 dst src) = named (codes "movzx") (pair (register Qword d
 pieces (instrs.MovSign32 dst src) = named (codes "movsxd") (pair (register Qword dst ∷ []) (operand Dword src))
 pieces (instrs.Lea size dst src) = two (codes "lea") size (operands.Reg dst) (operands.Mem src)
 pieces (instrs.Xchg dst reg) = two (codes "xchg") Qword dst (operands.Reg reg)
-pieces (instrs.LockXadd mem reg) = named (codes "lock") (two (codes "xadd") Qword (operands.Mem mem) (operands.Reg reg))
-pieces (instrs.LockCmpxchg mem reg) = named (codes "lock") (two (codes "cmpxchg") Qword (operands.Mem mem) (operands.Reg reg))
+pieces (instrs.LockXadd mem reg) = locked (codes "xadd") mem reg
+pieces (instrs.LockCmpxchg mem reg) = locked (codes "cmpxchg") mem reg
 pieces (instrs.Inc size reg) = one (codes "inc") size (operands.Reg reg)
 pieces (instrs.Dec size reg) = one (codes "dec") size (operands.Reg reg)
 pieces (instrs.Not size reg) = one (codes "not") size (operands.Reg reg)

@@ -3,3 +3,6 @@
 
 mod names;
 mod operands;
+mod syntax;
+
+pub use syntax::text;
