@@ -4,5 +4,7 @@
 mod names;
 mod operands;
 mod syntax;
+#[cfg(test)]
+mod tests;
 
 pub use syntax::text;
