@@ -1,0 +1,14 @@
+pub mod Address
+pub mod Code
+pub mod Form
+pub mod Forms
+pub mod Meaning
+pub mod Spells
+pub mod Reader
+pub mod ReaderLaws
+pub mod Exact
+pub mod Reading
+pub mod ReadingLaws
+pub mod ExactReading
+pub mod Apart
+pub mod DecodedLaws

@@ -1,5 +1,7 @@
 //! The instructions of the machine, as the Intel SDM names them (volume 2).
 
+ghost use Rattle.std.specs.Prelude.{◌≡◌, ◌<◌};
+
 /// A general register, in encoding order.
 #[derive(Clone, Copy, Debug, PartialEq, Eq)]
 pub enum Reg {
@@ -19,6 +21,35 @@ pub enum Reg {
     R13,
     R14,
     R15,
+}
+
+impl Reg {
+    ghost use Rattle.cet_isa.specs.Code.{reg_number};
+
+    /// The number by which an encoding names the register.
+    pub fn number(self) -> u8
+        ensures value { result ≡ reg_number self }
+        ensures small { result < 16 }
+    {
+        match self {
+            Reg::Rax => 0,
+            Reg::Rcx => 1,
+            Reg::Rdx => 2,
+            Reg::Rbx => 3,
+            Reg::Rsp => 4,
+            Reg::Rbp => 5,
+            Reg::Rsi => 6,
+            Reg::Rdi => 7,
+            Reg::R8 => 8,
+            Reg::R9 => 9,
+            Reg::R10 => 10,
+            Reg::R11 => 11,
+            Reg::R12 => 12,
+            Reg::R13 => 13,
+            Reg::R14 => 14,
+            Reg::R15 => 15,
+        }
+    }
 }
 
 /// A condition of a jump or a move, in encoding order.

@@ -1,8 +1,10 @@
 //! Instructions, faults, records and the state of a thread, as data.
 #![tactic(auto)]
 
+mod addresses;
 mod instructions;
 mod threads;
 
+pub use addresses::is_canonical;
 pub use instructions::{AluOp, Base, Cond, Count, Instr, Mem, Operand, Reg, Size};
 pub use threads::{Arch, End, Fault, FaultName, Record, What};

@@ -1,0 +1,202 @@
+//! Reading an instruction from the front of bytes, row by row of the table.
+
+ghost use Rattle.std.specs.Prelude.{◌≡◌, map};
+ghost use Rattle.cet_isa.specs.Forms.{forms};
+ghost use Rattle.cet_isa.specs.Spells.{has, allows, rex_pattern, places, imm_len};
+ghost use Rattle.cet_isa.specs.Reading.{byte_at, cells_at, bytes_at, operand_at, read_at, form_at, row_at, any_at};
+ghost use Rattle.cet_decode.specs.Views.{pattern_view, place_view, wide_view, rex_view, imm_view, form_view, Gives};
+
+use crate::addressing::{disp_count, operand, sib_count};
+use crate::fields::{Parts, byte, signed};
+use crate::forms::{FORMS, Form, Imm, Pattern, Rex, Wide};
+use crate::meaning::instr;
+use cet_isa::{Instr, Operand};
+
+/// Why nothing was read: the bytes end too early, or they differ from what was to be read.
+#[derive(Clone, Copy, Drop)]
+pub enum Miss {
+    Ends,
+    Differs,
+}
+
+fn is_in(pattern: &Pattern, byte: u8) -> bool
+    ensures { result ≡ has (pattern_view pattern.now) byte }
+{
+    byte & pattern.mask == pattern.value && u16::from(byte) < pattern.below
+}
+
+#[tactic(auto, unfolding(cet_isa::specs::Reading::byte_at))]
+fn byte_of(place: Option<Pattern>, bytes: &[u8]) -> Result<(u8, &[u8]), Miss>
+    ensures { Gives (λ x. (x.0, x.1.now)) result (byte_at (place_view place) bytes.now) }
+{
+    let Some(pattern) = place else {
+        return Ok((0, bytes));
+    };
+    match bytes {
+        [] => Err(Miss::Ends),
+        [byte, rest @ ..] => {
+            if is_in(&pattern, *byte) {
+                Ok((*byte, rest))
+            } else {
+                Err(Miss::Differs)
+            }
+        }
+    }
+}
+
+fn pattern_of(rex: Rex) -> Option<Pattern>
+    ensures { place_view result ≡ rex_pattern (rex_view rex) }
+{
+    match rex {
+        Rex::Absent => None,
+        Rex::Clear => Some(Pattern {
+            mask: 0xf8,
+            value: 0x40,
+            below: 256,
+        }),
+        Rex::Set => Some(Pattern {
+            mask: 0xf8,
+            value: 0x48,
+            below: 256,
+        }),
+    }
+}
+
+#[tactic(auto, unfolding(cet_isa::specs::Reading::cells_at))]
+fn cells<'a>(form: &Form, rex: Rex, bytes: &'a [u8]) -> Result<([u8; 8], &'a [u8]), Miss>
+    ensures { Gives (λ x. (x.0, x.1.now)) result (cells_at (places (form_view form.now) (rex_view rex)) bytes.now) }
+{
+    let (first, rest) = byte_of(form.first, bytes)?;
+    let (second, rest) = byte_of(form.second, rest)?;
+    let (third, rest) = byte_of(form.third, rest)?;
+    let (prefix, rest) = byte_of(pattern_of(rex), rest)?;
+    let (escape, rest) = byte_of(form.escape, rest)?;
+    let (escape2, rest) = byte_of(form.escape2, rest)?;
+    let (opcode, rest) = byte_of(Some(form.opcode), rest)?;
+    let (modrm, rest) = byte_of(form.modrm, rest)?;
+    Ok((
+        [first, second, third, prefix, escape, escape2, opcode, modrm],
+        rest,
+    ))
+}
+
+#[tactic(auto, unfolding(cet_isa::specs::Reading::bytes_at))]
+fn bytes_of(count: usize, bytes: &[u8]) -> Result<(&[u8], &[u8]), Miss>
+    ensures { Gives (λ x. (x.0.now, x.1.now)) result (bytes_at count bytes.now) }
+{
+    if bytes.len() < count {
+        return Err(Miss::Ends);
+    }
+    Ok(bytes.split_at(count))
+}
+
+#[tactic(auto, unfolding(cet_isa::specs::Reading::operand_at))]
+fn operand_of_cells(cells: [u8; 8], bytes: &[u8]) -> Result<(Operand, &[u8]), Miss>
+    ensures { Gives (λ x. (x.0, x.1.now)) result (operand_at cells bytes.now) }
+{
+    let (rex, modrm) = (cells[3], cells[7]);
+    let (sib, rest) = bytes_of(sib_count(modrm), bytes)?;
+    let sib = byte(sib, 0);
+    let (disp, rest) = bytes_of(disp_count(modrm, sib), rest)?;
+    let rm = operand(rex, modrm, sib, signed(disp));
+    Ok((rm, rest))
+}
+
+fn imm_count(imm: Imm) -> usize
+    ensures { result ≡ imm_len (imm_view imm) }
+{
+    match imm {
+        Imm::Absent => 0,
+        Imm::Byte => 1,
+        Imm::Word => 2,
+        Imm::Dword => 4,
+        Imm::Qword => 8,
+    }
+}
+
+#[tactic(auto, unfolding(cet_isa::specs::Reading::read_at))]
+fn read<'a>(form: &Form, rex: Rex, bytes: &'a [u8]) -> Result<(Instr, &'a [u8]), Miss>
+    ensures { Gives (λ x. (x.0, x.1.now)) result (read_at (form_view form.now) (rex_view rex) bytes.now) }
+{
+    let (cells, rest) = cells(form, rex, bytes)?;
+    let (rm, rest) = operand_of_cells(cells, rest)?;
+    let (imm, rest) = bytes_of(imm_count(form.imm), rest)?;
+    let parts = Parts {
+        rex: cells[3],
+        opcode: cells[6],
+        modrm: cells[7],
+        rm,
+    };
+    Ok((instr(form.kind, &parts, imm), rest))
+}
+
+fn is_allowed(wide: Wide, rex: Rex) -> bool
+    ensures { result ≡ allows (wide_view wide) (rex_view rex) }
+{
+    match (wide, rex) {
+        (Wide::Sized, _) => true,
+        (Wide::Ignored, _) => true,
+        (Wide::Set, Rex::Set) => true,
+        (Wide::Set, _) => false,
+        (Wide::Clear, Rex::Set) => false,
+        (Wide::Clear, _) => true,
+        (Wide::Never, Rex::Absent) => true,
+        (Wide::Never, _) => false,
+    }
+}
+
+#[tactic(auto, unfolding(cet_isa::specs::Reading::form_at))]
+fn read_allowed<'a>(form: &Form, rex: Rex, bytes: &'a [u8]) -> Result<(Instr, &'a [u8]), Miss>
+    ensures { Gives (λ x. (x.0, x.1.now)) result (form_at (form_view form.now) (rex_view rex) bytes.now) }
+{
+    if is_allowed(form.wide, rex) {
+        read(form, rex, bytes)
+    } else {
+        Err(Miss::Differs)
+    }
+}
+
+#[tactic(auto, unfolding(cet_isa::specs::Reading::row_at))]
+fn read_row<'a>(form: &Form, bytes: &'a [u8]) -> Result<(Instr, &'a [u8]), Miss>
+    ensures { Gives (λ x. (x.0, x.1.now)) result (row_at (form_view form.now) bytes.now) }
+{
+    let mut miss = Miss::Differs;
+    match read_allowed(form, Rex::Absent, bytes) {
+        Ok(x) => return Ok(x),
+        Err(Miss::Ends) => miss = Miss::Ends,
+        Err(Miss::Differs) => {}
+    }
+    match read_allowed(form, Rex::Clear, bytes) {
+        Ok(x) => return Ok(x),
+        Err(Miss::Ends) => miss = Miss::Ends,
+        Err(Miss::Differs) => {}
+    }
+    match read_allowed(form, Rex::Set, bytes) {
+        Ok(x) => return Ok(x),
+        Err(Miss::Ends) => miss = Miss::Ends,
+        Err(Miss::Differs) => {}
+    }
+    Err(miss)
+}
+
+#[tactic(auto, unfolding(cet_isa::specs::Reading::any_at))]
+fn read_any<'a>(rows: &[Form], bytes: &'a [u8]) -> Result<(Instr, &'a [u8]), Miss>
+    ensures { Gives (λ x. (x.0, x.1.now)) result (any_at (map form_view rows.now) bytes.now) }
+{
+    let mut miss = Miss::Differs;
+    for form in rows {
+        match read_row(form, bytes) {
+            Ok(x) => return Ok(x),
+            Err(Miss::Ends) => miss = Miss::Ends,
+            Err(Miss::Differs) => {}
+        }
+    }
+    Err(miss)
+}
+
+/// An instruction by the table.
+pub fn read_listed(bytes: &[u8]) -> Result<(Instr, &[u8]), Miss>
+    ensures { Gives (λ x. (x.0, x.1.now)) result (any_at forms bytes.now) }
+{
+    read_any(&FORMS, bytes)
+}
