@@ -1,8 +1,11 @@
 //! Instructions as bytes and as text.
 #![tactic(auto)]
 
+mod bytes;
+mod coding;
 mod names;
 mod operands;
+mod spelling;
 mod syntax;
 #[cfg(test)]
 mod tests;
