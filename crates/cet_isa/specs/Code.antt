@@ -38,8 +38,36 @@ operations = ops.Add ∷ ops.Or ∷ ops.Adc ∷ ops.Sbb ∷ ops.And ∷ ops.Sub 
 abbrev pub alu_at : ℕ → AluOp
 alu_at n = slice_index_or operations n ops.Cmp
 
+abbrev pub op_number : AluOp → ℕ
+op_number ops.Add = 0
+op_number ops.Or = 1
+op_number ops.Adc = 2
+op_number ops.Sbb = 3
+op_number ops.And = 4
+op_number ops.Sub = 5
+op_number ops.Xor = 6
+op_number ops.Cmp = 7
+
 abbrev pub conditions : List Cond
 conditions = conds.O ∷ conds.No ∷ conds.B ∷ conds.Ae ∷ conds.E ∷ conds.Ne ∷ conds.Be ∷ conds.A ∷ conds.S ∷ conds.Ns ∷ conds.P ∷ conds.Np ∷ conds.L ∷ conds.Ge ∷ conds.Le ∷ conds.G ∷ []
 
 abbrev pub cond_at : ℕ → Cond
 cond_at n = slice_index_or conditions n conds.G
+
+abbrev pub cond_number : Cond → ℕ
+cond_number conds.O = 0
+cond_number conds.No = 1
+cond_number conds.B = 2
+cond_number conds.Ae = 3
+cond_number conds.E = 4
+cond_number conds.Ne = 5
+cond_number conds.Be = 6
+cond_number conds.A = 7
+cond_number conds.S = 8
+cond_number conds.Ns = 9
+cond_number conds.P = 10
+cond_number conds.Np = 11
+cond_number conds.L = 12
+cond_number conds.Ge = 13
+cond_number conds.Le = 14
+cond_number conds.G = 15

@@ -12,3 +12,9 @@ pub mod ReadingLaws
 pub mod ExactReading
 pub mod Apart
 pub mod DecodedLaws
+pub mod Canonical
+pub mod Spelled
+pub mod OperandLaws
+pub mod CanonicalLaws
+pub mod CanonicalSpells
+pub mod SpelledLaws

@@ -3,8 +3,10 @@
 
 mod addresses;
 mod instructions;
+mod spelled;
 mod threads;
 
 pub use addresses::is_canonical;
 pub use instructions::{AluOp, Base, Cond, Count, Instr, Mem, Operand, Reg, Size};
+pub use spelled::is_spelled;
 pub use threads::{Arch, End, Fault, FaultName, Record, What};
