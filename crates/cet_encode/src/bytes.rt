@@ -16,6 +16,14 @@ pub(crate) struct Opcode {
     pub byte: u8,
 }
 
+macro_rules! opcode {
+    ([$($prefix:literal)*] [$($escape:literal)*] $byte:expr) => {
+        Opcode { prefixes: &[$($prefix),*], escapes: &[$($escape),*], byte: $byte }
+    };
+}
+
+pub(crate) use opcode;
+
 /// REX.W for a size.
 fn w_bit(size: Size) -> u8
     ensures value { result ≡ w_bit size }

@@ -3,6 +3,7 @@
 
 mod bytes;
 mod coding;
+mod encoder;
 mod names;
 mod operands;
 mod spelling;
@@ -10,4 +11,5 @@ mod syntax;
 #[cfg(test)]
 mod tests;
 
+pub use encoder::encode;
 pub use syntax::text;

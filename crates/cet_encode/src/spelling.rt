@@ -3,20 +3,14 @@ ghost use Rattle.cet_isa.specs.Canonical.{four_bytes, alu_spelling, test_spellin
 ghost use Rattle.cet_encode.specs.Bytes.{rm_bytes, alu_number_bytes, shift_bytes};
 ghost use Rattle.cet_isa.specs.Code.{reg_number, op_number, cond_number};
 
-use crate::bytes::{Opcode, put_reg, put_rm};
+use crate::bytes::{Opcode, opcode, put_reg, put_rm};
 use crate::coding::put_four;
 use cet_base::put_bytes;
 use cet_isa::{AluOp, Cond, Count, Instr, Mem, Operand, Reg, Size};
 use cet_words::{Bytes, NoMemory};
 use std::alloc::Global;
 
-macro_rules! opcode {
-    ([$($prefix:literal)*] [$($escape:literal)*] $byte:expr) => {
-        Opcode { prefixes: &[$($prefix),*], escapes: &[$($escape),*], byte: $byte }
-    };
-}
-
-fn reg_number(reg: Reg) -> u8
+pub(crate) fn reg_number(reg: Reg) -> u8
     ensures value { result ≡ reg_number reg }
     ensures small { result < 16 }
 {
@@ -30,7 +24,7 @@ fn op_number(op: AluOp) -> u8
     op as u8
 }
 
-fn cond_number(cond: Cond) -> u8
+pub(crate) fn cond_number(cond: Cond) -> u8
     ensures value { result ≡ cond_number cond }
     ensures small { result < 16 }
 {
@@ -76,7 +70,7 @@ fn put_cmp_number(
     put_alu_number(alloc, out, 7, size, Operand::Mem(mem), value)
 }
 
-fn put_alu(
+pub(crate) fn put_alu(
     alloc: Global,
     out: &mut Bytes,
     op: AluOp,
@@ -121,7 +115,7 @@ fn put_alu(
     }
 }
 
-fn put_test(
+pub(crate) fn put_test(
     alloc: Global,
     out: &mut Bytes,
     size: Size,
@@ -188,7 +182,7 @@ fn put_mov_number(
     }
 }
 
-fn put_mov(
+pub(crate) fn put_mov(
     alloc: Global,
     out: &mut Bytes,
     size: Size,
@@ -219,7 +213,7 @@ fn put_mov(
     }
 }
 
-fn put_shift(
+pub(crate) fn put_shift(
     alloc: Global,
     out: &mut Bytes,
     digit: u8,
@@ -253,7 +247,7 @@ fn put_shift(
     }
 }
 
-fn put_push(alloc: Global, out: &mut Bytes, src: Operand) -> Result<(), NoMemory>
+pub(crate) fn put_push(alloc: Global, out: &mut Bytes, src: Operand) -> Result<(), NoMemory>
     ensures { OnOk result (out.new ≡ out.old ++ push_spelling src) }
 {
     match src {
@@ -279,14 +273,19 @@ fn put_push_number(alloc: Global, out: &mut Bytes, value: i32) -> Result<(), NoM
 }
 
 /// Appends an opcode and a displacement of four bytes.
-fn put_relative(alloc: Global, out: &mut Bytes, opcode: &[u8], disp: i32) -> Result<(), NoMemory>
+pub(crate) fn put_relative(
+    alloc: Global,
+    out: &mut Bytes,
+    opcode: &[u8],
+    disp: i32,
+) -> Result<(), NoMemory>
     ensures { OnOk result (out.new ≡ out.old ++ (opcode.now ++ four_bytes disp)) }
 {
     put_bytes(alloc, out, opcode)?;
     put_four(alloc, out, disp)
 }
 
-fn put_indirect(
+pub(crate) fn put_indirect(
     alloc: Global,
     out: &mut Bytes,
     digit: u8,
@@ -308,4 +307,23 @@ fn put_indirect(
     } else {
         put_rm(alloc, out, opcode!([] [] 0xff), Size::Dword, digit, target)
     }
+}
+
+pub(crate) fn put_wide_move(
+    alloc: Global,
+    out: &mut Bytes,
+    dst: Reg,
+    value: u64,
+) -> Result<(), NoMemory>
+    ensures { OnOk result (out.new ≡ out.old ++ canonical_spelling (Instr.MovWide dst value)) }
+{
+    put_reg(alloc, out, 0xb8, Size::Qword, dst)?;
+    put_bytes(alloc, out, &value.to_le_bytes())
+}
+
+pub(crate) fn put_return(alloc: Global, out: &mut Bytes, bytes: u16) -> Result<(), NoMemory>
+    ensures { OnOk result (out.new ≡ out.old ++ canonical_spelling (Instr.RetImm bytes)) }
+{
+    put_bytes(alloc, out, &[0xc2])?;
+    put_bytes(alloc, out, &bytes.to_le_bytes())
 }
