@@ -1,12 +1,12 @@
 -- Rows of the table that have neither prefixes nor escape bytes.
-use Rattle.std.proofs.Common.{◌≡◌, ℕ, ◌+◌, ◌*◌, ◌/◌, ◌%◌, ℤ, Bool, true, false, cond, eqb, nat_lt, List, [], ◌∷◌, ◌++◌, Option, Some, None, refl, ap, sym, ◌∙◌, append_assoc}
+use Rattle.std.proofs.Common.{◌≡◌, ℕ, ◌+◌, ◌*◌, ◌/◌, ◌%◌, ℤ, Bool, true, false, cond, eqb, nat_lt, List, [], ◌∷◌, ◌++◌, Some, refl, ap, sym, ◌∙◌, append_assoc}
 use Rattle.cet_isa.specs.declared.instructions.AluOp.{AluOp}
 use Rattle.cet_isa.specs.declared.instructions.Mem.{Mem}
 use Rattle.cet_isa.specs.declared.instructions.Operand.{Operand}
 use Rattle.cet_isa.specs.declared.instructions.Operand.TheVariants as operands
 use Rattle.cet_isa.specs.declared.instructions.Size.{Size}
 use Rattle.cet_isa.specs.declared.instructions.Size.TheVariants as sizes
-use Rattle.cet_isa.specs.Canonical.{alu_spelling, cells_of, coded, fits_byte, four_bytes, mov_spelling, one_byte, present, rex_byte, rex_with, w_bit, with_rm}
+use Rattle.cet_isa.specs.Canonical.{alu_spelling, coded, fits_byte, four_bytes, mov_spelling, one_byte, present, w_bit, with_rm}
 use Rattle.cet_isa.specs.Form.{Form, Imm, Kind, NoRex, ClearRex, SetRex, Pattern, Rex, Wide, byte, either/, memory/, row}
 use Rattle.cet_isa.specs.Form as forms
 use Rattle.cet_isa.specs.Spells.{places}
