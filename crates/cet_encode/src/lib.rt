@@ -1,0 +1,15 @@
+//! Instructions as bytes and as text.
+#![tactic(auto)]
+
+mod bytes;
+mod coding;
+mod encoder;
+mod names;
+mod operands;
+mod spelling;
+mod syntax;
+#[cfg(test)]
+mod tests;
+
+pub use encoder::encode;
+pub use syntax::text;
