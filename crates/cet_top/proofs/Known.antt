@@ -15,7 +15,7 @@ Consumes-more (Some p) (Some q) (Some r) xs ys first second =
 pub TakesSome-more : (a b c : Option (List ℕ)) (n : ℕ) (xs : List ℕ) → Consumes a b xs → TakesUpTo n b c → TakesSome a c
 TakesSome-more a b c n xs first more = (xs ++ more.0, Consumes-more a b c xs more.0 first more.2)
 
-take_parts : (m n : ℕ) (xs : List ℕ) → take m xs ++ take n (drop m xs) ≡ take (m + n) xs
+pub take_parts : (m n : ℕ) (xs : List ℕ) → take m xs ++ take n (drop m xs) ≡ take (m + n) xs
 take_parts zero n xs = grind arith
 take_parts (suc m) zero [] = sym (take_all (suc m + 0) [] (omega arith))
 take_parts (suc m) (suc n) [] = sym (take_all (suc m + suc n) [] (omega arith))

@@ -2,4 +2,5 @@ mod Appended
 mod FirstWord
 mod Front
 mod Known
+mod Marks
 mod Sequence
