@@ -31,7 +31,7 @@ TakesUpTo-all None b n xs few all = (xs, few, tt)
 TakesUpTo-all (Some p) None n xs few all = absurd all
 TakesUpTo-all (Some p) (Some q) n xs few all = (xs, few, sym all.0 ∙ sym (append-nil xs) ∙ ap (λ (l : List ℕ). xs ++ l) (sym all.1))
 
-take_parts : (m n : ℕ) (xs : List ℕ) → take m xs ++ take n (drop m xs) ≡ take (m + n) xs
+pub take_parts : (m n : ℕ) (xs : List ℕ) → take m xs ++ take n (drop m xs) ≡ take (m + n) xs
 take_parts zero n xs = grind arith
 take_parts (suc m) zero [] = sym (take_all (suc m + 0) [] (omega arith))
 take_parts (suc m) (suc n) [] = sym (take_all (suc m + suc n) [] (omega arith))

@@ -4,6 +4,7 @@ mod Front
 mod Known
 mod Steps
 mod WordsFrom
+mod Marks
 mod Sequence
 mod QuietTraces
 mod Finished

@@ -32,7 +32,7 @@ fn is_accepted(alloc: Global, bytes: &[u8]) -> Result<bool, NoMemory>
         return Ok(false);
     }
     let (_headers, text) = bytes.split_at(TEXT_OFFSET);
-    if !is_text(text) {
+    if !is_text(alloc, text)? {
         return Ok(false);
     }
     is_written(alloc, bytes)

@@ -297,8 +297,8 @@ fn a_kill_is_reported_in_short(rt: HostRuntime) -> Result<(), Fail> {
     Ok(())
 }
 
-/// The bytes other than 0 in front of a text of 12 bytes, with their places.
-const FRONT: [(usize, &[u8]); 26] = [
+/// The bytes other than 0 in front of a text, with their places, up to the text's size.
+const BEFORE_SIZE: [(usize, &[u8]); 12] = [
     (0x00, b"\x7fELF\x02\x01\x01"),
     (0x10, &[2, 0, 62, 0, 1]),
     (0x18, &[0x00, 0x10, 0x40]),
@@ -311,8 +311,10 @@ const FRONT: [(usize, &[u8]); 26] = [
     (0x48, &[0x00, 0x10]),
     (0x50, &[0x00, 0x10, 0x40]),
     (0x58, &[0x00, 0x10, 0x40]),
-    (0x60, &[12]),
-    (0x68, &[12]),
+];
+
+/// Those behind the text's size, which stands at 0x60 and 0x68.
+const BEHIND_SIZE: [(usize, &[u8]); 12] = [
     (0x70, &[0x00, 0x10]),
     (0x78, &[0x53, 0xe5, 0x74, 0x64]),
     (0x7c, &[4]),
@@ -330,11 +332,20 @@ const FRONT: [(usize, &[u8]); 26] = [
 /// `mov edi, 7`, `mov eax, 60` and `syscall`.
 const EXIT_SEVEN_TEXT: [u8; 12] = [0xbf, 7, 0, 0, 0, 0xb8, 60, 0, 0, 0, 0x0f, 0x05];
 
+/// The file of a text of fewer than 256 bytes.
 fn file(alloc: Global, text: &[u8]) -> Result<Vec<u8>, AllocError> {
+    let size = [text.len().min(255) as u8];
+    let sizes = [(0x60, size.as_slice()), (0x68, size.as_slice())];
     let mut file = Vec::new(alloc);
-    for (place, bytes) in FRONT {
-        file.resize(place, 0)?;
-        file.extend_from_slice(bytes)?;
+    for parts in [
+        BEFORE_SIZE.as_slice(),
+        sizes.as_slice(),
+        BEHIND_SIZE.as_slice(),
+    ] {
+        for (place, bytes) in parts {
+            file.resize(*place, 0)?;
+            file.extend_from_slice(bytes)?;
+        }
     }
     file.resize(4096, 0)?;
     file.extend_from_slice(text)?;
@@ -353,6 +364,18 @@ fn files_are_loaded(rt: HostRuntime) -> Result<(), Fail> {
     assert_eq!(rt; segment.size, 12);
     assert_eq!(rt; segment.bytes.as_slice(), EXIT_SEVEN_TEXT.as_slice());
     assert!(rt; segment.exec && !segment.write);
+
+    let texts: [&[u8]; 4] = [
+        &[
+            0xe8, 12, 0, 0, 0, 0xbf, 3, 0, 0, 0, 0xb8, 60, 0, 0, 0, 0x0f, 0x05, 0xc3,
+        ],
+        &[0xc3],
+        &[0xbf, 7, 0, 0, 0],
+        &[0xe8, 0xfb, 0xff, 0xff, 0xff],
+    ];
+    for text in texts {
+        assert!(rt; load_form(alloc, &file(alloc, text)?).is_ok(), "{text:?}");
+    }
     Ok(())
 }
 
