@@ -1,0 +1,41 @@
+//! Runs x86-64 images whose returns are guarded by shadow stacks, and reports what they did.
+#![tactic(auto)]
+
+use cet_top::{Status, StdSink, StdSource, plain};
+use std::alloc::Global;
+use std::env;
+use std::env::Env;
+use std::io::ErrorKind;
+use std::process::ExitCode;
+
+/// The words behind the program's name. A word that isn't UTF-8 makes the first one faulty.
+fn command_words<R: Env + AllocGlobal>(rt: &R) -> Result<Vec<String>, Status> {
+    let words = env::args(rt).map_err(|error| match error.kind() {
+        ErrorKind::OutOfMemory => Status::NoMemory,
+        _ => Status::Usage(1),
+    })?;
+    words
+        .skip(1)
+        .collect(rt.alloc())
+        .map_err(|_error| Status::NoMemory)
+}
+
+/// Runs the command on standard input and output.
+fn run(rt: &HostRuntime) -> Status {
+    let words = match command_words(rt) {
+        Ok(words) => words,
+        Err(status) => return status,
+    };
+    let mut source = StdSource::new(rt.stdin());
+    let mut sink = StdSink::new(rt.stdout());
+    plain(rt.alloc(), &words, &mut source, &mut sink)
+}
+
+fn main(rt: HostRuntime) -> ExitCode {
+    let status = run(&rt);
+    if status != Status::Done {
+        // Nothing is left to do where standard error fails.
+        let _ = eprintln!(rt; "{status}");
+    }
+    ExitCode::from(status.code())
+}
