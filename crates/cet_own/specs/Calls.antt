@@ -22,7 +22,7 @@ use Rattle.cet_cpu.specs.Parts.{store_as}
 use Rattle.cet_cpu.specs.declared.checks.Kind.TheVariants as kind
 use Rattle.cet_cpu.specs.declared.rows.Finish.{Finish}
 use Rattle.cet_cpu.specs.declared.rows.Finish.TheVariants.{Noted, Posted, Exited, Stopped}
-use Rattle.cet_own.specs.Safe.{ReturnsBy}
+use Rattle.cet_own.specs.Safe.{IsElsewhere, ReturnsBy}
 use Rattle.cet_own.specs.Holds.{In, IsOut}
 use Rattle.cet_own.specs.Standing.{stacked, AtRest, rest_kept, HasNone}
 use Rattle.cet_own.specs.Classes.{State, pushes}
@@ -63,9 +63,9 @@ module _ (job : JobData) (arch : Arch) where
   pushed b back = relist (current_of arch.number b) (Call back ∷ (region b (current_of arch.number b)).entries) b
 
   -- the return address goes on the shadow stack
-  push_claim : (before s : State) (target sp word back : ℕ) → AtRest arch.number s.book arch.ssp → word ≡ slot (arch.ssp - 8) → (region s.book (current_of arch.number s.book)).start + 8 ≤ top (region s.book (current_of arch.number s.book)) → IsReturn back → Claim job arch (EndsRow job arch) before s (store_as (Called back ∷ []) word back >>= (λ _. done (called arch target sp (below arch.ssp 8))))
+  push_claim : (before s : State) (target sp word back : ℕ) → AtRest arch.number s.book arch.ssp → word ≡ slot (arch.ssp - 8) → (region s.book (current_of arch.number s.book)).start + 8 ≤ top (region s.book (current_of arch.number s.book)) → IsReturn back → IsElsewhere job arch → Claim job arch (EndsRow job arch) before s (store_as (Called back ∷ []) word back >>= (λ _. done (called arch target sp (below arch.ssp 8))))
   unfolding store_as
-  push_claim before s target sp word back rest w room is_return =
+  push_claim before s target sp word back rest w room is_return free =
       claim_bind job arch (EndsRow job arch) before s (store_as (Called back ∷ []) word back) _ (
         rest.stacked,
         λ now r known.
@@ -87,14 +87,14 @@ module _ (job : JobData) (arch : Arch) where
               one_after arch.number now (pushed now.book back) (Called back) way,
               (
                 record { stacked = stacked arch.number (pushed now.book back) (below arch.ssp 8) sh top'; free = rest'.free },
-                λ held later. tt,
+                λ held later. free,
               ),
             ),
       )
 
-  pub call_claim : (before s : State) (back target : ℕ) → AtRest arch.number s.book arch.ssp → IsReturn back → Claim job arch (EndsRow job arch) before s (call arch back target)
+  pub call_claim : (before s : State) (back target : ℕ) → AtRest arch.number s.book arch.ssp → IsReturn back → IsElsewhere job arch → Claim job arch (EndsRow job arch) before s (call arch back target)
   unfolding call
-  call_claim before s back target rest is_return =
+  call_claim before s back target rest is_return free =
       let low = rest.stacked.low in
       let high = rest.stacked.high in
       let even = rest.stacked.top.aligned in
@@ -111,13 +111,13 @@ module _ (job : JobData) (arch : Arch) where
       let rest3 = rest_kept r3 rest2 in
       let same = own_kept arch.number now2.book now3.book r3 rest2.stacked.top.has in
       push_claim now3 now3 target (below (rsp arch) 8) (word_in (2112 + (below arch.ssp 8 - 0x200000000) / 4096) (below arch.ssp 8)) back rest3
-      (shadow_slot (below arch.ssp 8) (omega arith) (omega arith) ∙ ap slot is) (rw same room) is_return))))
+      (shadow_slot (below arch.ssp 8) (omega arith) (omega arith) ∙ ap slot is) (rw same room) is_return free))))
 
-  pub call_next_claim : (before s : State) (back : ℕ) → AtRest arch.number s.book arch.ssp → Claim job arch (EndsRow job arch) before s (call_next arch back)
+  pub call_next_claim : (before s : State) (back : ℕ) → AtRest arch.number s.book arch.ssp → IsElsewhere job arch → Claim job arch (EndsRow job arch) before s (call_next arch back)
   unfolding call_next
-  call_next_claim before s back rest =
+  call_next_claim before s back rest free =
       tested_then job arch (EndsRow job arch) before s (below (rsp arch) 8) 8 _ rest (λ c e.
       store_look_then job arch (EndsRow job arch) before s (below (rsp arch) 8) _ rest (λ now r page p.
       let rest1 = rest_kept r rest in
       store_then job arch (EndsRow job arch) now now (word_in page (below (rsp arch) 8)) back _ (page_word page (below (rsp arch) 8) p) rest1.stacked (λ now2 r2.
-      (rest_kept r2 rest1, λ held later. tt))))
+      (rest_kept r2 rest1, λ held later. free))))

@@ -25,7 +25,7 @@ use Rattle.cet_cpu.specs.Flow.{call_relative, relative}
 use Rattle.cet_cpu.specs.Gate.{exit_word, pend_word, handler_word, made_page, clears, exit, no_call, service, syscall, inside, signal_of, kill, deliver}
 use Rattle.cet_cpu.specs.Parts.{invalid_opcode}
 use Rattle.cet_cpu.specs.Row.{move, execute, fetched, instruction, instruction_bytes, boundary, row, row_from}
-use Rattle.cet_own.specs.Safe.{is_return}
+use Rattle.cet_own.specs.Safe.{IsElsewhere, IsNearReturn}
 use Rattle.cet_own.specs.Holds.{IsOut}
 use Rattle.cet_own.specs.Standing.{AtRest, rest_kept, Inside, inside_kept}
 use Rattle.cet_own.specs.Classes.{State, looks, own_stack}
@@ -72,30 +72,33 @@ exit_out = record { shadow = inr (omega arith); entry = omega arith; token = λ 
 
 module _ (job : JobData) (j : IsJob job) (arch : Arch) where
   -- an invalid opcode is at no return
-  no_return : (s : State) (d : Decoding) → AtRest arch.number s.book arch.ssp → decoded (instruction_bytes job arch) ≡ d → (is_return d → ⊥) → Fails job arch s invalid_opcode
-  no_return s d rest e n = (rest, λ r. absurd (n (subst is_return e r.1)))
+  elsewhere : (d : Decoding) → decoded (instruction_bytes job arch) ≡ d → (IsNearReturn d → ⊥) → IsElsewhere job arch
+  elsewhere d e n r = n (subst IsNearReturn e r.1)
+
+  no_return : (s : State) (d : Decoding) → AtRest arch.number s.book arch.ssp → decoded (instruction_bytes job arch) ≡ d → (IsNearReturn d → ⊥) → Fails job arch s invalid_opcode
+  no_return s d rest e n = (rest, λ r. absurd (elsewhere d e n r))
 
   -- ---- kernel calls and the kill
 
-  exit_claim : (before s : State) → IsMade arch.made → Inside arch.number (own_stack job arch.number) s.book arch.ssp → Claim job arch (Ends job arch) before s (exit arch (own_stack job arch.number))
+  exit_claim : (before s : State) → IsElsewhere job arch → IsMade arch.made → Inside arch.number (own_stack job arch.number) s.book arch.ssp → Claim job arch (Ends job arch) before s (exit arch (own_stack job arch.number))
   unfolding exit
-  exit_claim before s made inside =
+  exit_claim before s free made inside =
       let low = made.low in
       let high = made.high in
       claim_bind job arch (Ends job arch) before s (clears 8 (made_page arch)) _
       (clears_claim job arch (own_stack job arch.number) _ before s 8 (made_page arch) (omega arith) (omega arith) inside (λ z n inside'.
-      exit_out_then job arch (stack_below job arch.number j) (Ends job arch) z n _ inside' (λ z' n' none. (none, λ held now. tt))))
+      exit_out_then job arch (stack_below job arch.number j) (Ends job arch) z n _ inside' (λ z' n' none. (none, λ held now. free))))
 
-  no_call_claim : (before s : State) (next : ℕ) → Inside arch.number (own_stack job arch.number) s.book arch.ssp → Claim job arch (Ends job arch) before s (no_call arch next (own_stack job arch.number))
+  no_call_claim : (before s : State) (next : ℕ) → IsElsewhere job arch → Inside arch.number (own_stack job arch.number) s.book arch.ssp → Claim job arch (Ends job arch) before s (no_call arch next (own_stack job arch.number))
   unfolding no_call
-  no_call_claim before s next inside =
-      gate_out_then job arch (stack_below job arch.number j) (Ends job arch) before s _ inside (λ z n rest. (rest, λ held now. tt))
+  no_call_claim before s next free inside =
+      gate_out_then job arch (stack_below job arch.number j) (Ends job arch) before s _ inside (λ z n rest. (rest, λ held now. free))
 
-  syscall_claim : (before s : State) (next : ℕ) → IsMade arch.made → AtRest arch.number s.book arch.ssp → Claim job arch (Ends job arch) before s (syscall job arch next)
+  syscall_claim : (before s : State) (next : ℕ) → IsElsewhere job arch → IsMade arch.made → AtRest arch.number s.book arch.ssp → Claim job arch (Ends job arch) before s (syscall job arch next)
   unfolding syscall
-  syscall_claim before s next made rest =
+  syscall_claim before s next free made rest =
       gate_in_then job arch (stack_below job arch.number j) (Ends job arch) before s (inside arch (own_stack job arch.number) (service arch next (own_stack job arch.number))) rest
-      (λ z n within. claim_cond job arch (Ends job arch) z n (rax arch == 60) _ _ (λ _. exit_claim z n made within) (λ _. no_call_claim z n next within))
+      (λ z n within. claim_cond job arch (Ends job arch) z n (rax arch == 60) _ _ (λ _. exit_claim z n free made within) (λ _. no_call_claim z n next free within))
       (λ z n found rest'. (rest', λ held now. tt))
 
   kill_claim : (before s : State) (signal : ℕ) → Inside arch.number (own_stack job arch.number) s.book arch.ssp → Claim job arch (Ends job arch) before s (kill arch signal (own_stack job arch.number))
@@ -119,24 +122,24 @@ module _ (job : JobData) (j : IsJob job) (arch : Arch) where
   noted_claim before s m h = claim_bind job arch (Ends job arch) before s m noted h
 
   move_claim : (before s : State) (sz : Size) (dst src : Operand) (next len : ℕ) → AtRest arch.number s.book arch.ssp → decoded (instruction_bytes job arch) ≡ Read (instr.Mov sz dst src) len → Claim job arch (Ends job arch) before s (move arch sz dst src next)
-  move_claim before s size.Dword (operand.Reg r) (operand.Imm z) next len rest e = (rest, λ held now. tt)
+  move_claim before s size.Dword (operand.Reg r) (operand.Imm z) next len rest e = (rest, λ held now. elsewhere _ e (λ x. cc))
   move_claim before s size.Dword (operand.Reg r) (operand.Reg q) next len rest e = no_return s _ rest e (λ x. cc)
   move_claim before s size.Dword (operand.Reg r) (operand.Mem m) next len rest e = no_return s _ rest e (λ x. cc)
   move_claim before s size.Dword (operand.Mem m) src next len rest e = no_return s _ rest e (λ x. cc)
   move_claim before s size.Dword (operand.Imm z) src next len rest e = no_return s _ rest e (λ x. cc)
   move_claim before s size.Qword dst src next len rest e = no_return s _ rest e (λ x. cc)
 
-  call_relative_claim : (before s : State) (disp : ℤ) (next : ℕ) → AtRest arch.number s.book arch.ssp → IsReturn next → Claim job arch (EndsRow job arch) before s (call_relative arch disp next)
-  call_relative_claim before s disp next rest is_return =
+  call_relative_claim : (before s : State) (disp : ℤ) (next : ℕ) → AtRest arch.number s.book arch.ssp → IsReturn next → IsElsewhere job arch → Claim job arch (EndsRow job arch) before s (call_relative arch disp next)
+  call_relative_claim before s disp next rest is_return free =
       claim_cond job arch (EndsRow job arch) before s (cast_unsigned w64 disp == 0) _ _
-      (λ _. call_next_claim job arch before s next rest) (λ _. call_claim job arch before s next (relative next disp) rest is_return)
+      (λ _. call_next_claim job arch before s next rest free) (λ _. call_claim job arch before s next (relative next disp) rest is_return free)
 
   execute_claim : (before s : State) (i : Instr) (len : ℕ) → IsMade arch.made → AtRest arch.number s.book arch.ssp → decoded (instruction_bytes job arch) ≡ Read i len → Claim job arch (Ends job arch) before s (execute job arch i (above arch.rip len))
   execute_claim before s (instr.Mov sz dst src) len made rest e = move_claim before s sz dst src (above arch.rip len) len rest e
   execute_claim before s (instr.CallRel disp) len made rest e =
-      noted_claim before s _ (call_relative_claim before s disp (above arch.rip len) rest (next_place job arch (instr.CallRel disp) len j e))
+      noted_claim before s _ (call_relative_claim before s disp (above arch.rip len) rest (next_place job arch (instr.CallRel disp) len j e) (elsewhere _ e (λ x. cc)))
   execute_claim before s instr.Ret len made rest e = noted_claim before s _ (ret_claim job j arch before s rest)
-  execute_claim before s instr.Syscall len made rest e = syscall_claim before s (above arch.rip len) made rest
+  execute_claim before s instr.Syscall len made rest e = syscall_claim before s (above arch.rip len) (elsewhere _ e (λ x. cc)) made rest
   execute_claim before s i len made rest e = no_return s _ rest e (λ x. cc)
 
   missing_claim : (before s : State) (at : Option ℕ) (addr : ℕ) → AtRest arch.number s.book arch.ssp → Claim job arch (Ends job arch) before s (missing_in at addr)

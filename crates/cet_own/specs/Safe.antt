@@ -43,31 +43,36 @@ IsReturnFault Ac code = Unit {0}
 IsReturnFault Cp code = code ≡ 1
 
 -- the bytes at RIP are a near return; one with an immediate isn't built, and is an invalid opcode
-abbrev pub is_return : Decoding → Type 0
-is_return (Read i len) = i ≡ instr.Ret
-is_return Short = ⊥
-is_return Unknown = ⊥
+abbrev pub IsNearReturn : Decoding → Type 0
+IsNearReturn (Read i len) = i ≡ instr.Ret
+IsNearReturn Short = ⊥
+IsNearReturn Unknown = ⊥
 
 abbrev pub AtReturn : JobData → Arch → Type 0
-AtReturn job arch = (arch.due ≡ None) × is_return (decoded (instruction_bytes job arch))
+AtReturn job arch = (arch.due ≡ None) × IsNearReturn (decoded (instruction_bytes job arch))
 
--- A record of a return. Where it completes it goes right; where it faults, the fault is named and RIP stays.
+-- no near return stands at RIP
+abbrev pub IsElsewhere : JobData → Arch → Type 0
+IsElsewhere job arch = AtReturn job arch → ⊥
+
+-- A record of a return. Where it completes it goes right; where it faults, the fault is named, it stands at the return and
+-- RIP stays. A return has no record but these, and that of a signal or of a supervisor stack that is busy.
 abbrev pub ReturnsBy : JobData → List Entry → (before after : Arch) → Record → What → Type 0
 ReturnsBy job entries before after r what.Ret = GoesRight job entries after.rip
-ReturnsBy job entries before after r (what.Fault name) = AtReturn job before → IsReturnFault name r.code × (after.rip ≡ before.rip)
-ReturnsBy job entries before after r what.Step = Unit {0}
-ReturnsBy job entries before after r what.Call = Unit {0}
-ReturnsBy job entries before after r what.Raise = Unit {0}
-ReturnsBy job entries before after r what.Take = Unit {0}
-ReturnsBy job entries before after r what.Save = Unit {0}
+ReturnsBy job entries before after r (what.Fault name) = AtReturn job before → IsReturnFault name r.code × (r.rip ≡ before.rip) × (after.rip ≡ before.rip)
+ReturnsBy job entries before after r what.Step = IsElsewhere job before
+ReturnsBy job entries before after r what.Call = IsElsewhere job before
+ReturnsBy job entries before after r what.Raise = IsElsewhere job before
+ReturnsBy job entries before after r what.Take = IsElsewhere job before
+ReturnsBy job entries before after r what.Save = IsElsewhere job before
 ReturnsBy job entries before after r what.Busy = Unit {0}
-ReturnsBy job entries before after r what.Sys = Unit {0}
-ReturnsBy job entries before after r what.Claim = Unit {0}
-ReturnsBy job entries before after r what.Born = Unit {0}
-ReturnsBy job entries before after r what.Wrote = Unit {0}
+ReturnsBy job entries before after r what.Sys = IsElsewhere job before
+ReturnsBy job entries before after r what.Claim = IsElsewhere job before
+ReturnsBy job entries before after r what.Born = IsElsewhere job before
+ReturnsBy job entries before after r what.Wrote = IsElsewhere job before
 ReturnsBy job entries before after r what.Signal = Unit {0}
 ReturnsBy job entries before after r what.Ignore = Unit {0}
-ReturnsBy job entries before after r what.SigReturn = Unit {0}
+ReturnsBy job entries before after r what.SigReturn = IsElsewhere job before
 ReturnsBy job entries before after r what.Kill = Unit {0}
 
 abbrev pub NotedReturns : JobData → List Entry → Core → After → Option Record → Type 0
