@@ -11,6 +11,7 @@ pub mod Core
 pub mod Plays
 pub mod Orderly
 pub mod OrderlyRows
+pub mod Faults
 pub mod Within
 pub mod Machine
 pub mod Left

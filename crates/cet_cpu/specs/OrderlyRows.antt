@@ -49,17 +49,42 @@ names_no_stack what.SigReturn = true
 names_no_stack (what.Fault name) = true
 names_no_stack what.Kill = true
 
+-- the record tells of what was done, and of no new shadow stack
+abbrev pub tells : What → Bool
+tells (what.Fault name) = false
+tells what.Claim = false
+tells what.Born = false
+tells what.Step = true
+tells what.Call = true
+tells what.Ret = true
+tells what.Raise = true
+tells what.Take = true
+tells what.Save = true
+tells what.Busy = true
+tells what.Sys = true
+tells what.Wrote = true
+tells what.Signal = true
+tells what.Ignore = true
+tells what.SigReturn = true
+tells what.Kill = true
+
+pub tells_no_stack : (w : What) → tells w ≡ true → names_no_stack w ≡ true
+tells_no_stack (what.Fault name) e = refl
+tells_no_stack what.Claim e = cc
+tells_no_stack what.Born e = cc
+tells_no_stack w e = refl
+
 -- A record raises the count by one, and nothing changes where the kernel-made shadow stack is. No signal is posted yet, and
 -- no shadow stack is made.
 abbrev pub Ends : Arch → Finish → Type 0
-Ends arch (Noted next noted) = (next.count ≡ arch.count + 1) × (next.made ≡ arch.made) × (names_no_stack noted.what ≡ true)
+Ends arch (Noted next noted) = (next.count ≡ arch.count + 1) × (next.made ≡ arch.made) × (tells noted.what ≡ true)
 Ends arch (Posted next) = ⊥
-Ends arch (Exited next noted status) = (next.count ≡ arch.count + 1) × (next.made ≡ arch.made) × (names_no_stack noted.what ≡ true)
+Ends arch (Exited next noted status) = (next.count ≡ arch.count + 1) × (next.made ≡ arch.made) × (tells noted.what ≡ true)
 Ends arch Stopped = Unit {0}
 
 -- the same of the part of an instruction
 abbrev pub EndsRow : Arch → Arch × Record → Type 0
-EndsRow arch x = (x.0.count ≡ arch.count + 1) × (x.0.made ≡ arch.made) × (names_no_stack x.1.what ≡ true)
+EndsRow arch x = (x.0.count ≡ arch.count + 1) × (x.0.made ≡ arch.made) × (tells x.1.what ≡ true)
 
 no_birth_returned : (word shadow_word : ℕ) (b : Bool) → birth (cond b (Returned ∷ []) []) ≡ None
 no_birth_returned word shadow_word true = refl

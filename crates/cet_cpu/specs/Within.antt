@@ -16,7 +16,7 @@ use Rattle.cet_cpu.specs.Gate.{stack_of}
 use Rattle.cet_cpu.specs.Row.{row}
 use Rattle.cet_cpu.specs.Core.{Core, After, first_core, unheld, come, wanted, access_of, next_access, held_after, kept_by, recorded, faulted, core_by, noted_by, answered, taken, child_of, born}
 use Rattle.cet_cpu.specs.Orderly.{Spent, Results, OnOver, spent_more, spent_fits, over_play, unborn}
-use Rattle.cet_cpu.specs.OrderlyRows.{Ends, names_no_stack, orderly_row, row_begins}
+use Rattle.cet_cpu.specs.OrderlyRows.{Ends, names_no_stack, tells_no_stack, orderly_row, row_begins}
 use Rattle.cet_cpu.specs.declared.rows.Finish.{Finish}
 use Rattle.cet_cpu.specs.declared.rows.Finish.TheVariants.{Noted, Posted, Exited, Stopped}
 
@@ -128,9 +128,9 @@ NamesNoStack (Some r) = names_no_stack r.what ≡ true
 noted_plain : (arch : Arch) (r : Came Finish) → OnOver (Ends (unheld arch)) r → NamesNoStack (noted_by arch r)
 noted_plain arch (Wants a) k = tt
 noted_plain arch (Faulted e) k = refl
-noted_plain arch (Over (Noted next noted) left values) k = k.2
+noted_plain arch (Over (Noted next noted) left values) k = tells_no_stack noted.what k.2
 noted_plain arch (Over (Posted next) left values) k = tt
-noted_plain arch (Over (Exited next noted status) left values) k = k.2
+noted_plain arch (Over (Exited next noted status) left values) k = tells_no_stack noted.what k.2
 noted_plain arch (Over Stopped left values) k = tt
 
 answered_plain : (job : JobData) (core : Core) (answer : ℕ) (r : Came Finish) → NamesNoStack (answered job core answer r).noted

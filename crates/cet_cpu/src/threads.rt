@@ -2,6 +2,8 @@
 
 ghost use Rattle.std.specs.Prelude.{◌≡◌, ◌+◌, ◌-◌, ◌^◌, ◌<◌, ◌≤◌, length, Some, None, IfSome};
 ghost use Rattle.cet_words.specs.Access.{InRange};
+ghost use Rattle.cet_isa.specs.declared.threads.FaultName.{FaultName};
+ghost use Rattle.cet_cpu.specs.Faults.{Faults};
 ghost use Rattle.cet_cpu.specs.Within.{IsCore};
 ghost use Rattle.cet_cpu.specs.Core.{core_at, first_core, next_access, taken, held_after, unheld, kept_by, recorded, fault_record, faulted};
 
@@ -160,7 +162,7 @@ impl Cpu {
     }
 
     /// Takes the answer to the thread's next access.
-    #[tactic(auto, using(crate::specs::Within::room, crate::specs::Within::taken_at, crate::specs::Within::no_child))]
+    #[tactic(auto, using(crate::specs::Within::room, crate::specs::Within::taken_at, crate::specs::Within::no_child, crate::specs::Faults::faults_of))]
     pub fn take(&mut self, job: &Job, answer: u64) -> Taken
         requires state { IsCore job.now self.old }
         requires going { self.old.over ≡ None }
@@ -169,6 +171,9 @@ impl Cpu {
         ensures child { result.child ≡ (taken job.now self.old answer).child }
         ensures end { result.end ≡ self.new.over }
         ensures state { IsCore job.now self.new }
+
+        // A faulting instruction changes no register, flag, SSP or word, and its fault is due.
+        ensures fault { (r : Record) (name : FaultName) → result.noted ≡ Some r → r.what ≡ What.Fault name → Faults job.now self.old self.new answer r }
     {
         let noted = self.answered(job, answer);
         Taken {
