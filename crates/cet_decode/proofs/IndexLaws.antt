@@ -1,5 +1,5 @@
 -- The index names for each key the rows that may begin so.
-use Rattle.std.proofs.Common.{◌≡◌, ℕ, ◌+◌, ◌*◌, ◌/◌, ◌<◌, ◌≤◌, Bool, true, false, not, ◌||◌, cond, eqb, List, [], ◌∷◌, length, map, get_or, Option, Some, None, Result, Ok, Err, refl, sym, ap, ◌∙◌, arith}
+use Rattle.std.proofs.Common.{◌≡◌, ℕ, ◌+◌, ◌*◌, ◌/◌, ◌<◌, Bool, true, false, ◌||◌, cond, eqb, List, [], ◌∷◌, Option, Some, None, Ok, Err, refl, sym, ap, ◌∙◌, arith}
 use Rattle.std.proofs.lemmas.Bool.{agree_below, agree_below_at, eq-eqb, eqb-true}
 use Rattle.cet_isa.specs.Form.{Pattern}
 use Rattle.cet_isa.specs.Forms.{forms}
@@ -9,7 +9,6 @@ use Rattle.cet_isa.specs.Reading.{any_at}
 use Rattle.cet_isa.specs.Apart.{run}
 use Rattle.cet_decode.specs.declared.forms.TheConstants.{FORMS}
 use Rattle.cet_decode.specs.declared.index.TheConstants.{INDEX, PICKS}
-use Rattle.cet_decode.specs.Views.{form_view}
 use Rattle.cet_decode.specs.Index.{picks_at, some_at, key_at}
 use Rattle.cet_decode.proofs.Narrowing.{names_all, by_numbers}
 

@@ -1,5 +1,5 @@
 -- The rows that an index names, one after another. Source: own.
-use Rattle.std.specs.Prelude.{ℕ, ◌+◌, ◌/◌, ◌==◌, if◌then◌else◌, List, [], ◌∷◌, Option, Some, None, Result, Ok, Err, slice_get}
+use Rattle.std.specs.Prelude.{ℕ, ◌+◌, ◌/◌, ◌==◌, if◌then◌else◌, List, [], ◌∷◌, Option, Some, None, Result, Err, slice_get}
 use Rattle.cet_isa.specs.declared.instructions.Instr.{Instr}
 use Rattle.cet_isa.specs.Reader.{Miss, Differs, or_else}
 use Rattle.cet_isa.specs.Reading.{row_at}

@@ -9,7 +9,8 @@ pub record Pattern : Type 0 where
   pub value : ℕ
   pub below : ℕ
 
--- what a row asks of a REX prefix and its bit W
+-- What a row asks of a REX prefix and its bit W. Sized: W set means 64 bits; W clear or no REX means 32. Set: a REX with
+-- W set. Clear: none, or one with W clear. Ignored: any or none. Never: none.
 pub data Wide : Type 0 where
   Sized : Wide
   Set : Wide

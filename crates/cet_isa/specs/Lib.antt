@@ -18,3 +18,4 @@ pub mod OperandLaws
 pub mod CanonicalLaws
 pub mod CanonicalSpells
 pub mod SpelledLaws
+pub mod RoundTrip
