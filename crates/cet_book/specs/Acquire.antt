@@ -1,4 +1,4 @@
--- A parked region becomes current on a thread, and the one that was current is left for it.
+-- A parked region becomes current on a thread, and the one that was current is left for it. Source: own.
 use Rattle.std.proofs.Common.{◌≡◌, ◌≢◌, ℕ, ◌+◌, ◌<◌, ◌≤◌, inl, inr, Bool, true, false, ◌∷◌, length, refl, sym, ◌∙◌, ap, subst, eqb, arith}
 use Rattle.std.proofs.lemmas.Bool.{false≢true}
 use Rattle.std.proofs.lemmas.Bool.Decides.{eqb_tells, nat_tests}

@@ -122,7 +122,7 @@ with_entry e r = record r { entries = e ∷ r.entries }
 abbrev pub relist : ℕ → List Entry → Book → Book
 relist m es b = put b m (record (region b m) { entries = es })
 
--- the newest entry Previous(s) of region m goes, and region s has another holder
+-- the newest entry Previous(s) of region m goes, and region s, which is another one, has another holder
 abbrev pub unlink : ℕ → ℕ → List Entry → Holder → Book → Book
 unlink m s es h b = put (relist m es b) s (record (region b s) { holder = h })
 

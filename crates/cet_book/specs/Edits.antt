@@ -1,4 +1,4 @@
--- One or two regions of a book are replaced.
+-- One or two regions of a book are replaced. Source: own.
 use Rattle.std.proofs.Common.{◌≡◌, ◌≢◌, ℕ, ◌<◌, inl, inr, Bool, true, false, length, get_or, set, refl, sym, ◌∙◌, ap, subst, eqb, cond, arith, length-set, get_or-set_same, get_or-set_other}
 use Rattle.std.proofs.lemmas.List.{get_or_past}
 use Rattle.std.proofs.lemmas.List.Folds.{position_or_len-set}

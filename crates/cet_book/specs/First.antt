@@ -1,4 +1,4 @@
--- The book at the start is one that changes lead from.
+-- The book at the start is one that changes lead from. Source: own.
 use Rattle.std.proofs.Common.{◌≡◌, ℕ, zero, suc, ◌<◌, [], None, refl, sym, ◌∙◌, ap, subst, arith}
 use Rattle.cet_book.specs.Book.{Current, Region, nowhere, region, current_of, stack_of, first_book}
 use Rattle.cet_book.specs.Shape.{Bounds, Fits, is_left, one, links, Shape, IsBook}

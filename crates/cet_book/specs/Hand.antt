@@ -1,4 +1,4 @@
--- A region that was left for no other gets another holder: it is seeded, a thread is born onto it, or its thread ends.
+-- A region that was left for no other gets another holder: it is seeded, a thread is born onto it, or its thread ends. Source: own.
 use Rattle.std.proofs.Common.{◌≡◌, ◌≢◌, ℕ, zero, suc, ◌+◌, ◌*◌, ◌<◌, ◌≤◌, inl, inr, false, List, [], length, replicate, refl, sym, ◌∙◌, ap, subst, arith}
 use Rattle.std.proofs.lemmas.List.{length-replicate}
 use Rattle.std.proofs.lemmas.Bool.Decides.{eqb_tells, nat_tests}

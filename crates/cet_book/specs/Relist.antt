@@ -1,4 +1,4 @@
--- The list of the region that is current on a thread changes, but for its Previous entries.
+-- The list of the region that is current on a thread changes, but for its Previous entries. Source: own.
 use Rattle.std.proofs.Common.{◌≡◌, ◌≢◌, ℕ, ◌+◌, ◌*◌, ◌≤◌, List, length, refl, sym, ◌∙◌, subst}
 use Rattle.cet_book.specs.Book.{Entry, Region, Book, region, current_of, relist}
 use Rattle.cet_book.specs.Shape.{HolderFits, Fits, is_left, one, links, Shape}

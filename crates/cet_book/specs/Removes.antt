@@ -1,4 +1,4 @@
--- The newest entries of the region that is current on a thread go, one after another.
+-- The newest entries of the region that is current on a thread go, one after another. Source: own.
 use Rattle.std.proofs.Common.{◌≡◌, ℕ, zero, suc, ◌+◌, ◌<◌, ◌≤◌, false, List, [], ◌∷◌, length, Option, Some, None, refl, sym, ◌∙◌, ap, subst, arith}
 use Rattle.std.specs.Prelude.{option_and_then}
 use Rattle.cet_book.specs.Book.{Entry, Call, Restorer, Frame, Previous, Blank, Lost, Region, Book, region, current_of, relist, unlink, returned, remove_entry, raised}

@@ -1,4 +1,4 @@
--- A supervisor stack becomes busy or free.
+-- A supervisor stack becomes busy or free. Source: own.
 use Rattle.std.proofs.Common.{◌≡◌, ◌≢◌, ℕ, ◌<◌, ◌≤◌, inl, inr, true, false, length, get_or, set, Option, Some, None, refl, sym, ◌∙◌, ap, subst, eqb, cond, arith, length-set, get_or-set_same, get_or-set_other}
 use Rattle.std.proofs.lemmas.Bool.{cases_lt, false≢true}
 use Rattle.std.proofs.lemmas.Bool.Decides.{eqb_tells, nat_tests}

@@ -1,4 +1,4 @@
--- The newest entry Previous(s) of the region that is current on a thread goes, and region s is parked or lost.
+-- The newest entry Previous(s) of the region that is current on a thread goes, and region s is parked or lost. Source: own.
 use Rattle.std.proofs.Common.{◌≡◌, ◌≢◌, ℕ, ◌+◌, ◌*◌, ◌<◌, ◌≤◌, inl, inr, Bool, true, false, List, ◌∷◌, length, refl, sym, ◌∙◌, ap, subst, eqb, arith}
 use Rattle.std.proofs.lemmas.Bool.{false≢true}
 use Rattle.std.proofs.lemmas.Bool.Decides.{eqb_tells, nat_tests}

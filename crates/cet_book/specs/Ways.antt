@@ -1,4 +1,4 @@
--- Where a change has a book after it, and which.
+-- Where a change has a book after it, and which. Source: own.
 use Rattle.std.proofs.Common.{◌≡◌, ◌≢◌, ℕ, ◌+◌, ◌*◌, ◌<◌, ◌≤◌, Bool, true, false, List, ◌∷◌, length, replicate, Option, Some, None, refl, sym, ◌∙◌, ap, cond, eqb, arith}
 use Rattle.std.specs.Prelude.{nat_lt, nat_le}
 use Rattle.std.proofs.lemmas.Bool.{false≢true}

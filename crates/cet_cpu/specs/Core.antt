@@ -75,7 +75,7 @@ abbrev pub access_of : JobData → Core → Option End → Option Access
 access_of job core (Some e) = None
 access_of job core None = wanted (come job core.arch core.seen)
 
--- the next access; none exactly where the thread has ended
+-- the next access; none where the thread has ended, and some where it waits in a row
 unfoldable pub next_access : JobData → Core → Option Access
 next_access job core = access_of job core core.over
 

@@ -6,7 +6,7 @@ use Rattle.cet_cpu.specs.declared.rows.Finish.{Finish}
 use Rattle.cet_cpu.specs.declared.rows.Finish.TheVariants as finish
 use Rattle.cet_cpu.specs.Script.{Script, done}
 
--- the part of an instruction or a kernel call: the state after it, and its record
+-- an instruction that ends in a record: the state after it, and the record
 abbrev pub Row : Type 0
 Row = Script (Arch × Record)
 

@@ -16,7 +16,7 @@ use Rattle.cet_cpu.specs.Finish.{Row, above, below, rsp}
 use Rattle.cet_cpu.specs.declared.checks.Kind.TheVariants as kind
 use Rattle.cet_cpu.specs.declared.checks.Who.TheVariants.{User}
 
--- MOV of a 32-bit immediate to a register; the upper half is cleared
+-- MOV of an immediate to a 32-bit register; the upper half of the whole register is cleared
 abbrev pub moved : Arch → (reg value next : ℕ) → Arch × Record
 moved arch reg value next =
     ( record arch { regs = slice_set arch.regs reg value; rip = next; count = arch.count + 1 }

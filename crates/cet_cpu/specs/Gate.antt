@@ -143,7 +143,8 @@ abbrev pub killed : Arch → (signal before : ℕ) → Finish
 killed arch signal before =
     finish.Noted (record arch { due = None; count = arch.count + 1 }) (record { rip = arch.rip; what = what.Kill; code = 0; a = signal; b = before })
 
--- the handler is loaded, and the process is killed by the signal whatever it is, while handlers aren't built
+-- The handler is loaded, and the process is killed by the signal whatever the handler is, and also where the signal is
+-- masked, while handlers aren't built.
 unfoldable pub kill : Arch → (signal k : ℕ) → Script Finish
 kill arch signal k = do
   _ ← load (handler_word signal)

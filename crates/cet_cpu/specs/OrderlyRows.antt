@@ -1,4 +1,4 @@
--- Every row is orderly: at most 4,096 accesses and 31 kept answers, and it begins with an access.
+-- Every row is orderly: at most 4,096 accesses and 31 kept answers, and it begins with an access. Source: own.
 use Rattle.std.proofs.Common.{zero, suc, true, false, cond, refl}
 use Rattle.std.specs.Prelude.{◌≡◌, ℕ, ◌+◌, ◌-◌, Bool, ◌||◌, ◌&&◌, ◌==◌, nat_le, List, [], ◌∷◌, ◌++◌, length, Option, Some, None, ℤ}
 use Rattle.std.specs.Int.{w32, w64, cast_unsigned}

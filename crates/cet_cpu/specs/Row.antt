@@ -1,5 +1,5 @@
 -- The row of a thread: what it does from a boundary, or from a due fault, to its next record. Source: Intel SDM volume 2
--- for the instructions, own for the order.
+-- for the instructions, own for the order. That `decoded` is exactly the table of spellings is what the contract of `decode` says.
 use Rattle.std.specs.Prelude.{◌≡◌, ℕ, ◌+◌, List, length, Bool, Option, Some, None, ◌==◌, if◌then◌else◌, ℤ}
 use Rattle.std.specs.Int.{w32, cast_unsigned}
 use Rattle.cet_words.specs.Job.{JobData}
@@ -23,7 +23,7 @@ use Rattle.cet_cpu.specs.Fetch.{fetchable, missing}
 use Rattle.cet_cpu.specs.declared.rows.Finish.{Finish}
 use Rattle.cet_cpu.specs.declared.rows.Finish.TheVariants as finish
 
--- MOV; its forms but that of a 32-bit immediate to a register aren't built
+-- MOV; its forms but that of an immediate to a 32-bit register aren't built
 abbrev pub move : Arch → Size → Operand → Operand → (next : ℕ) → Script Finish
 move arch size.Dword (operand.Reg r) (operand.Imm z) next = noted (moved arch (reg_number r) (cast_unsigned w32 z) next)
 move arch s dst src next = fault invalid_opcode
@@ -52,7 +52,8 @@ instruction job arch =
     then fetched job arch (instruction_bytes job arch) (decoded (instruction_bytes job arch))
     else fault general_protection
 
--- Between instructions: EXIT, then PEND, then the instruction. Pending signals aren't delivered while handlers aren't built.
+-- Between instructions: EXIT, then PEND, then the instruction. Listed signals aren't posted, and
+-- pending ones aren't delivered, while handlers aren't built.
 unfoldable pub boundary : JobData → Arch → Script Finish
 boundary job arch = do
   ending ← load exit_word

@@ -119,6 +119,15 @@ wants job core h e =
     let w = waiting job core h e in
     (w.waits.0, ap (access_of job core) e ∙ ap wanted w.waits.1)
 
+-- the same of an access by another name
+pub goes : (job : JobData) (core : Core) (next : Option Access) → IsCore job core → next ≡ next_access job core → core.over ≡ None → (a : Access) × (next ≡ Some a)
+goes job core next h n e = let w = wants job core h e in (w.0, n ∙ w.1)
+
+-- a thread that has ended has none
+pub stops : (job : JobData) (core : Core) (next : Option Access) (end : End) → next ≡ next_access job core → core.over ≡ Some end → next ≡ None
+unfolding next_access
+stops job core next end n e = n ∙ ap (access_of job core) e
+
 -- ---- no record tells of a new shadow stack
 
 abbrev pub NamesNoStack : Option Record → Type 0

@@ -12,7 +12,6 @@ use cet_words::{Access, Image, code_byte, page_of};
 
 /// Puts the bytes that can be fetched at an address into the buffer, as many as it has room for; the
 /// answer is their number.
-
 pub fn fetch(image: &Image, addr: u64, buffer: &mut [u8]) -> usize
     requires { length buffer.old ≤ 15 }
     ensures bytes { take result buffer.new ≡ fetchable image.now.segments addr (length buffer.old) }

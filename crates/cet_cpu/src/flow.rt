@@ -13,7 +13,7 @@ use cet_isa::{Arch, Fault, FaultName, Record, Reg, What, is_canonical};
 /// RSP's place among the registers.
 const RSP: usize = 4;
 
-/// MOV of a 32-bit value to a register.
+/// MOV of an immediate to a 32-bit register.
 pub fn moved(arch: &Arch, reg: Reg, value: u32, next: u64) -> (Arch, Record)
     requires { arch.now.count < 2 ^ 32 - 1 }
     ensures { result ≡ moved arch.now (reg_number reg) value next }

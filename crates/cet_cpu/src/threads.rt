@@ -2,6 +2,8 @@
 
 ghost use Rattle.std.specs.Prelude.{◌≡◌, ◌+◌, ◌-◌, ◌^◌, ◌<◌, ◌≤◌, length, Some, None, IfSome};
 ghost use Rattle.cet_words.specs.Access.{InRange};
+ghost use Rattle.cet_words.specs.declared.accesses.Access.{Access};
+ghost use Rattle.cet_isa.specs.declared.threads.End.{End};
 ghost use Rattle.cet_isa.specs.declared.threads.FaultName.{FaultName};
 ghost use Rattle.cet_cpu.specs.Faults.{Faults};
 ghost use Rattle.cet_cpu.specs.Within.{IsCore};
@@ -146,10 +148,12 @@ impl Cpu {
     }
 
     /// The thread's next access, or none where it has ended.
-    #[tactic(auto, unfolding(crate::specs::Core::next_access))]
+    #[tactic(auto, using(crate::specs::Within::goes, crate::specs::Within::stops), unfolding(crate::specs::Core::next_access))]
     pub fn next(&self, job: &Job) -> Option<Access>
         requires state { IsCore job.now self.now }
         ensures access { result ≡ next_access job.now self.now }
+        ensures goes { self.now.over ≡ None → (access : Access) × (result ≡ Some access) }
+        ensures ended { (end : End) → self.now.over ≡ Some end → result ≡ None }
         ensures range { IfSome result InRange }
     {
         if self.over.is_some() {

@@ -7,7 +7,7 @@ use crate::cursors::Cursor;
 use cet_words::Access;
 use std::marker::Model;
 
-/// How many values a row keeps, and how many accesses it makes, at most.
+/// How many values a row keeps at most.
 const MOST_KEPT: usize = 32;
 
 /// The values kept in a row, at most 32, and the number of its accesses so far, at most 4,096. All

@@ -1,4 +1,4 @@
--- One row after another: at most one row reads the bytes, since any two rows differ at some byte.
+-- One row after another: at most one row reads the bytes, since any two rows differ at some byte. Source: own.
 use Rattle.std.proofs.Common.{◌≡◌, ◌≢◌, ℕ, ◌<◌, ◌≤◌, Bool, true, false, not, ◌&&◌, ◌||◌, cond, eqb, ltb, List, [], ◌∷◌, Option, Some, None, Result, Ok, Err, refl, sym, ap, subst, ◌∙◌, ◌⊎◌, inl, inr, arith}
 use Rattle.std.specs.Prelude.{bit_and, nat_le}
 use Rattle.std.proofs.lemmas.Bool.{or_cases, and_parts, leb-true, eqb-true, ltb-true, not-true, false≢true, eq-eqb}

@@ -1,4 +1,4 @@
--- Readers that read exactly what a relation says, and how one follows another.
+-- Readers that read exactly what a relation says, and how one follows another. Source: own.
 use Rattle.std.proofs.Common.{◌≡◌, ◌≢◌, ℕ, List, [], ◌∷◌, ◌++◌, Result, Ok, Err, refl, sym, ap, subst, ◌∙◌, append_assoc}
 use Rattle.cet_isa.specs.Reader.{Miss, Ends, Differs, ◌>>=◌, IsBytes}
 use Rattle.cet_isa.specs.ReaderLaws.{bind_ok, pair, pair_same, IsBytes-right}

@@ -1,4 +1,4 @@
--- Laws of steps that may miss, and of lists of bytes.
+-- Laws of steps that may miss, and of lists of bytes. Source: own.
 use Rattle.std.proofs.Common.{◌≡◌, ℕ, List, [], ◌∷◌, ◌++◌, Result, Ok, Err, refl, ap}
 use Rattle.cet_isa.specs.Reader.{Miss, ◌>>=◌, IsBytes}
 

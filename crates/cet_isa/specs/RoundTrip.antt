@@ -1,4 +1,4 @@
--- The canonical spelling of an instruction is decoded as that instruction, whatever follows.
+-- The canonical spelling of an instruction is decoded as that instruction, whatever follows. Source: own.
 use Rattle.std.proofs.Common.{◌≡◌, List, ℕ, ◌++◌, length, true}
 use Rattle.cet_isa.specs.declared.instructions.Instr.{Instr}
 use Rattle.cet_isa.specs.Canonical.{canonical_spelling}

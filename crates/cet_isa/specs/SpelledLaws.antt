@@ -1,4 +1,4 @@
--- An instruction that has a spelling passes the test of its operands.
+-- An instruction that has a spelling passes the test of its operands. Source: own.
 use Rattle.std.proofs.Common.{◌≡◌, ℕ, zero, suc, ◌+◌, ◌*◌, ◌/◌, ◌%◌, ◌^◌, ◌<◌, ◌≤◌, Bool, true, false, not, ◌&&◌, ◌||◌, cond, List, [], ◌∷◌, ◌++◌, length, Option, Some, None, refl, ap, subst, ◌∙◌, inl, inr, arith, ℤ}
 use Rattle.std.specs.Prelude.{bit_and, slice_index, slice_index_or, nat_lt, nat_le, ◌==◌, Contains}
 use Rattle.std.proofs.lemmas.Bool.{and_parts, and_from, or_cases, eqb-true, ltb-true, leb-true, agree_below, agree_below_at}

@@ -43,7 +43,7 @@ pub enum What {
     Save,
     /// A busy supervisor stack: `a` is the token's address, `b` the word found.
     Busy,
-    /// A kernel call: `a` is its number, `b` its result.
+    /// A kernel call: `a` is its number, `b` its result; of an exit, the status modulo 256.
     Sys,
     /// map_shadow_stack: `a` is the start, `b` the size asked.
     Claim,

@@ -1,4 +1,4 @@
--- Which files are accepted, and the image that such a file is. Source: own.
+-- Which files are accepted, and the image that such a file is. Source: System V ABI (ELF64) for the file; own for its limits.
 use Rattle.std.specs.Prelude.{ℕ, ◌≡◌, true, false, List, [], ◌∷◌, length, drop, Result, Ok, Err}
 use Rattle.cet_words.specs.Job.{ImageData}
 use Rattle.cet_words.specs.declared.images.Segment.{Segment}

@@ -60,7 +60,7 @@ pub record Reports (job : JobData) (Schedule : Machine → List ℕ → Type 0) 
   pub ends : s ≡ status_of outcome.process
   pub reports : output ≡ report_of outcome style
 
--- a file that isn't accepted breaks the rule at the place
+-- a file that isn't accepted is refused by rule 0, at its start
 pub record Refuses (bytes : List ℕ) (s : Status) (output : List ℕ) : Type 0 where
   pub broken : ¬ Accepts bytes
   pub refused : s ≡ status.Refused 0 0

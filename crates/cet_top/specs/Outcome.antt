@@ -7,7 +7,7 @@ use Rattle.cet_top.specs.declared.outcomes.ProcessEnd.{ProcessEnd}
 use Rattle.cet_top.specs.declared.outcomes.ProcessEnd.TheVariants as process
 use Rattle.cet_top.specs.declared.outcomes.ThreadOut.{ThreadOut}
 
--- a thread that has ended, with its trace
+-- A thread with its trace and its end. One that has not ended counts as one whose group ended.
 abbrev pub thread_out : Thread → ThreadOut
 thread_out thread = record { records = thread.trace; end = unwrap_or thread.core.over ending.Group }
 

@@ -12,7 +12,7 @@ use Rattle.cet_top.specs.declared.outcomes.Shown.{Shown}
 use Rattle.cet_top.specs.declared.outcomes.Shown.TheVariants as shown
 use Rattle.cet_top.specs.declared.outcomes.StackReport.{StackReport}
 
--- The stack is current or parked, or was left for one that is in view, over at most so many stacks that were left.
+-- The stack is current or parked, or was left for one that is in view, over fewer than so many stacks that were left.
 abbrev pub in_view : Book → (most : ℕ) → Holder → Bool
 in_view b zero h = false
 in_view b (suc most) (Current t) = true

@@ -91,7 +91,7 @@ pub enum Shown {
     Parked,
     /// It was left for a stack that is shown with its entries.
     Left,
-    /// No stack leads to it. It is shown without entries.
+    /// No stack in view leads to it, or nothing has it. It is shown without entries.
     Lost,
 }
 

@@ -37,7 +37,7 @@ entry_with page bits = 4096 * (page + 256) + bits
 abbrev pub no_execute : ℕ
 no_execute = 2 ^ 63
 
--- of an image page in this segment, by the segment's rights
+-- of an image page in this segment, by the segment's rights; 0 of a page in no segment
 abbrev pub segment_entry : ℕ → Option Segment → ℕ
 segment_entry page None = 0
 segment_entry page (Some s) =
