@@ -18,15 +18,17 @@ use Rattle.cet_cpu.specs.declared.checks.Who.TheVariants.{User}
 
 -- MOV of an immediate to a 32-bit register; the upper half of the whole register is cleared
 abbrev pub moved : Arch → (reg value next : ℕ) → Arch × Record
-moved arch reg value next =
-    ( record arch { regs = slice_set arch.regs reg value; rip = next; count = arch.count + 1 }
-    , record { rip = arch.rip; what = what.Step; code = 0; a = value; b = arch.flags } )
+moved arch reg value next = (
+  record arch { regs = slice_set arch.regs reg value; rip = next; count = arch.count + 1 },
+  record { rip = arch.rip; what = what.Step; code = 0; a = value; b = arch.flags },
+)
 
 -- after a call: the return address lies at sp, and the shadow stack's top is ssp
 abbrev pub called : Arch → (target sp ssp : ℕ) → Arch × Record
-called arch target sp ssp =
-    ( record arch { regs = slice_set arch.regs 4 sp; rip = target; ssp = ssp; count = arch.count + 1 }
-    , record { rip = arch.rip; what = what.Call; code = 0; a = target; b = ssp } )
+called arch target sp ssp = (
+  record arch { regs = slice_set arch.regs 4 sp; rip = target; ssp = ssp; count = arch.count + 1 },
+  record { rip = arch.rip; what = what.Call; code = 0; a = target; b = ssp },
+)
 
 -- a call that pushes the return address on both stacks
 unfoldable pub call : Arch → (back target : ℕ) → Row
@@ -58,9 +60,10 @@ call_relative arch disp next =
     if cast_unsigned w64 disp == 0 then call_next arch next else call arch next (relative next disp)
 
 abbrev pub returned : Arch → (target : ℕ) → Arch × Record
-returned arch target =
-    ( record arch { regs = slice_set arch.regs 4 (above (rsp arch) 8); rip = target; ssp = above arch.ssp 8; count = arch.count + 1 }
-    , record { rip = arch.rip; what = what.Ret; code = 0; a = target; b = above arch.ssp 8 } )
+returned arch target = (
+  record arch { regs = slice_set arch.regs 4 (above (rsp arch) 8); rip = target; ssp = above arch.ssp 8; count = arch.count + 1 },
+  record { rip = arch.rip; what = what.Ret; code = 0; a = target; b = above arch.ssp 8 },
+)
 
 -- the data word and the shadow word of a return differ (NEAR-RET)
 abbrev pub return_differs : (word shadow_word : ℕ) → Fault

@@ -55,8 +55,8 @@ pub tested_then : {A : Type 0} (n k : ℕ) (Q : ℕ → ℕ → Bool → A → T
 unfolding tested
 tested_then {A} n k Q addr size f h =
     orderly_bind n k false Q (tested addr size) f (orderly_cond n k false (λ n' k' w x. Orderly n' k' w Q (f x)) (canonical addr) _ _
-      (λ _. orderly_cond n k false (λ n' k' w x. Orderly n' k' w Q (f x)) (addr % size == 0) (done tt) (fault (misaligned addr)) (λ _. h) (λ _. refl))
-      (λ _. refl))
+    (λ _. orderly_cond n k false (λ n' k' w x. Orderly n' k' w Q (f x)) (addr % size == 0) (done tt) (fault (misaligned addr)) (λ _. h) (λ _. refl))
+    (λ _. refl))
 
 look_in_orderly : (n k : ℕ) (Q : ℕ → ℕ → Bool → ℕ → Type 0) (at : Option ℕ) (kd : Kind) (w : Who) (addr : ℕ) → nat_le 1 n ≡ true → nat_le 1 k ≡ true → ((page : ℕ) → Q (n - 1) (k - 1) false page) → Orderly n k false Q (look_in at kd w addr)
 unfolding look_in

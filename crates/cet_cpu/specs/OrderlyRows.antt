@@ -123,11 +123,15 @@ orderly_ret arch =
     tested_then 4094 29 _ _ 8 _
     (look_then 4094 29 _ _ _ _ _ refl refl (λ page.
     look_then 4093 28 _ _ _ _ _ refl refl (λ shadow.
-    load_then 4092 27 false _ _ _ _ refl refl (λ word. (refl,
-    load_then 4091 26 false _ _ _ _ refl refl (λ shadow_word. (no_birth_returned word shadow_word ((word == shadow_word) && canonical word),
-    orderly_cond 4090 25 false _ (word == shadow_word) _ _
-        (λ _. orderly_cond 4090 25 false _ (canonical word) _ _ (λ _. (refl, refl, refl)) (λ _. refl))
-        (λ _. refl))))))))
+    load_then 4092 27 false _ _ _ _ refl refl (λ word. (
+      refl,
+      load_then 4091 26 false _ _ _ _ refl refl (λ shadow_word. (
+        no_birth_returned word shadow_word ((word == shadow_word) && canonical word),
+        orderly_cond 4090 25 false _ (word == shadow_word) _ _
+            (λ _. orderly_cond 4090 25 false _ (canonical word) _ _ (λ _. (refl, refl, refl)) (λ _. refl))
+            (λ _. refl),
+      )),
+    )))))
 
 -- ---- within the gate nothing faults, so whether something was written doesn't matter
 
@@ -144,17 +148,21 @@ unfolding gate_in
 orderly_gate_in n k Q s f room free busy =
     orderly_bind n k false Q (gate_in s) f
     (peek_then n k false _ _ _ room.first room.one (λ v.
-    exchange_then (n - 1) (k - 1) false _ _ _ _ _ _ room.second room.two (λ found. (no_birth_busied s (found == token s),
-    orderly_cond (n - 1 - 1) (k - 1 - 1) (false || (found == token s)) _ (found == token s) _ _
-        (λ _. store_then (n - 1 - 1) (k - 1 - 1) (false || (found == token s)) _ _ _ _ _ room.third refl (free true))
-        (λ _. busy (false || (found == token s)) found)))))
+    exchange_then (n - 1) (k - 1) false _ _ _ _ _ _ room.second room.two (λ found. (
+      no_birth_busied s (found == token s),
+      orderly_cond (n - 1 - 1) (k - 1 - 1) (false || (found == token s)) _ (found == token s) _ _
+          (λ _. store_then (n - 1 - 1) (k - 1 - 1) (false || (found == token s)) _ _ _ _ _ room.third refl (free true))
+          (λ _. busy (false || (found == token s)) found),
+    ))))
 
 orderly_gate_out : {A : Type 0} (n k : ℕ) (wrote : Bool) (Q : ℕ → ℕ → Bool → A → Type 0) (ends : List Change) (s : ℕ) (f : Unit {0} → Script A) → birth (ends ++ Freed s ∷ []) ≡ None → nat_le 1 n ≡ true → nat_le 1 (n - 1) ≡ true → nat_le 1 k ≡ true → nat_le 1 (k - 1) ≡ true → ((w : Bool) → Orderly (n - 1 - 1) (k - 1 - 1) w Q (f tt)) → Orderly n k wrote Q (gate_out ends s >>= f)
 unfolding gate_out
 orderly_gate_out n k wrote Q ends s f b p q r t h =
     orderly_bind n k wrote Q (gate_out ends s) f
-    (load_then n k wrote _ _ _ _ p r (λ v. (refl,
-    exchange_then (n - 1) (k - 1) (wrote || false) _ _ _ _ _ _ q t (λ found. (b, h ((wrote || false) || (found == token s + 1)))))))
+    (load_then n k wrote _ _ _ _ p r (λ v. (
+      refl,
+      exchange_then (n - 1) (k - 1) (wrote || false) _ _ _ _ _ _ q t (λ found. (b, h ((wrote || false) || (found == token s + 1)))),
+    )))
 
 orderly_clears : (wrote : Bool) (Q : ℕ → ℕ → Bool → Unit {0} → Type 0) (page : ℕ) → Q 4083 27 true tt → Orderly 4091 27 wrote Q (clears 8 page)
 unfolding clears
@@ -183,9 +191,13 @@ orderly_syscall job arch next =
 orderly_kill : (arch : Arch) (signal k : ℕ) (w : Bool) → Orderly 4093 29 w (Results (Ends arch)) (kill arch signal k)
 unfolding kill
 orderly_kill arch signal k w =
-    load_then 4093 29 w _ _ _ _ refl refl (λ handler. (refl,
-    exchange_then 4092 28 (w || false) _ _ _ _ _ _ refl refl (λ before. (refl,
-    orderly_gate_out 4091 27 ((w || false) || (before == 0)) _ _ _ _ refl refl refl refl refl (λ w'. (refl, refl, refl))))))
+    load_then 4093 29 w _ _ _ _ refl refl (λ handler. (
+      refl,
+      exchange_then 4092 28 (w || false) _ _ _ _ _ _ refl refl (λ before. (
+        refl,
+        orderly_gate_out 4091 27 ((w || false) || (before == 0)) _ _ _ _ refl refl refl refl refl (λ w'. (refl, refl, refl)),
+      )),
+    ))
 
 orderly_deliver : (job : JobData) (arch : Arch) (e : Fault) → Orderly 4096 31 false (Results (Ends arch)) (deliver job arch e)
 unfolding deliver
@@ -230,10 +242,12 @@ orderly_instruction job arch =
 orderly_boundary : (job : JobData) (arch : Arch) → Orderly 4096 31 false (Results (Ends arch)) (boundary job arch)
 unfolding boundary
 orderly_boundary job arch =
-    load_then 4096 31 false _ _ _ _ refl refl (λ ending. (refl,
-    orderly_cond 4095 30 false _ (ending == 0) _ _
-        (λ _. load_then 4095 30 false _ _ _ _ refl refl (λ pending. (refl, orderly_instruction job arch)))
-        (λ _. tt)))
+    load_then 4096 31 false _ _ _ _ refl refl (λ ending. (
+      refl,
+      orderly_cond 4095 30 false _ (ending == 0) _ _
+          (λ _. load_then 4095 30 false _ _ _ _ refl refl (λ pending. (refl, orderly_instruction job arch)))
+          (λ _. tt),
+    ))
 
 orderly_from : (job : JobData) (arch : Arch) (due : Option Fault) → Orderly 4096 31 false (Results (Ends arch)) (row_from job arch due)
 orderly_from job arch (Some e) = orderly_deliver job arch e

@@ -21,9 +21,13 @@ pub enum Who {
 }
 
 const PRESENT: u64 = 1;
+
 const WRITABLE: u64 = 1 << 1;
+
 const USER: u64 = 1 << 2;
+
 const DIRTY: u64 = 1 << 6;
+
 const NO_EXECUTE: u64 = 1 << 63;
 
 fn is_shadow_page(entry: u64) -> bool

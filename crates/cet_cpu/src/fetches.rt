@@ -36,10 +36,5 @@ pub fn missing(addr: u64, at: &mut Cursor) -> Result<Finish, Stop>
         return Err(Stop::Fault(page_fault(0, Kind::Fetch, Who::User, addr)));
     };
     let entry = at.ask(Access::Look(page))?;
-    Err(Stop::Fault(page_fault(
-        entry,
-        Kind::Fetch,
-        Who::User,
-        addr,
-    )))
+    Err(Stop::Fault(page_fault(entry, Kind::Fetch, Who::User, addr)))
 }

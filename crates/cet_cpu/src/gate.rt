@@ -13,8 +13,11 @@ use cet_isa::{Arch, Fault, FaultName, Record, What};
 use cet_words::Job;
 
 const RAX: usize = 0;
+
 const RCX: usize = 1;
+
 const RDI: usize = 7;
+
 const R11: usize = 11;
 
 /// The word that tells whether the process has ended.
@@ -164,11 +167,7 @@ fn exit(arch: &Arch, k: u8, at: &mut Cursor) -> Result<Finish, Stop>
     clears(8, 2112 + ((arch.made - 0x2_0000_0000) / 4096) as u32, at)?;
     gate_out(k, at)?;
     let status = arch.regs[RDI] % 256;
-    Ok(Finish::Exited(
-        counted(arch),
-        sys_record(arch, status),
-        status as u8,
-    ))
+    Ok(Finish::Exited(counted(arch), sys_record(arch, status), status as u8))
 }
 
 /// A kernel call that isn't there.
@@ -179,10 +178,7 @@ fn no_call(arch: &Arch, next: u64, k: u8, at: &mut Cursor) -> Result<Finish, Sto
     ensures { Comes (play (no_call arch.now next k) at.old.left at.old.rest.now) result at.new.left at.new.rest.now }
 {
     gate_out(k, at)?;
-    Ok(Finish::Noted(
-        served(arch, next, ENOSYS),
-        sys_record(arch, ENOSYS),
-    ))
+    Ok(Finish::Noted(served(arch, next, ENOSYS), sys_record(arch, ENOSYS)))
 }
 
 fn service(arch: &Arch, next: u64, k: u8, at: &mut Cursor) -> Result<Finish, Stop>

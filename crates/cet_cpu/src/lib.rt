@@ -16,3 +16,6 @@ mod vals;
 
 pub use cet_isa::End;
 pub use threads::{Cpu, Taken, first};
+
+#[cfg(test)]
+mod tests;

@@ -1,4 +1,7 @@
-use super::{Base, Instr, Mem, Operand, PageEntry, Reg, Rflags, Size, is_canonical, is_spelled};
+use super::{
+    Arch, Base, End, Fault, FaultName, Instr, Mem, Operand, PageEntry, Record, Reg, Rflags, Size,
+    What, is_canonical, is_spelled,
+};
 use bitflags::Flags;
 
 #[test]
@@ -51,4 +54,16 @@ fn named_bits(rt: HostRuntime) {
     // A shadow-stack page for the user: dirty and not writable.
     let shadow = PageEntry::P | PageEntry::US | PageEntry::A | PageEntry::D | PageEntry::XD;
     assert_eq!(rt; shadow.bits(), 0x8000_0000_0000_0065);
+}
+
+fn is_sent<T: Send>() {}
+
+#[test]
+fn goes_to_other_threads() {
+    is_sent::<Arch>();
+    is_sent::<Record>();
+    is_sent::<What>();
+    is_sent::<Fault>();
+    is_sent::<FaultName>();
+    is_sent::<End>();
 }

@@ -1,0 +1,190 @@
+ghost use Rattle.std.specs.Prelude.{◌≤◌, length};
+ghost use Rattle.cet_cpu.specs.Within.{IsCore};
+
+use super::*;
+use cet_isa::{Record, What};
+use cet_words::{Access, Bytes, Image, Job, NoMemory, Perform, Plain, Segment, Segments};
+use std::alloc::Global;
+use std::process::Abort;
+use std::test::Fail;
+
+/// `mov edi, 7`, `mov eax, 60`, `syscall`, as GNU as assembles them.
+const EXIT_SEVEN: [u8; 12] = [
+    0xbf, 0x07, 0x00, 0x00, 0x00, 0xb8, 0x3c, 0x00, 0x00, 0x00, 0x0f, 0x05,
+];
+
+/// `call` over a `nop` to a `ret`.
+const CALL_AND_RETURN: [u8; 7] = [0xe8, 0x01, 0x00, 0x00, 0x00, 0x90, 0xc3];
+
+/// The image of a text of at most 16 bytes at 0x401000.
+fn image_of(alloc: Global, text: &[u8]) -> Result<Image, NoMemory>
+    requires { length text.now ≤ 16 }
+{
+    let mut bytes = Bytes::new(alloc);
+    bytes.extend(alloc, text)?;
+    let segment = Segment {
+        start: 0x401000,
+        bytes,
+        size: 16,
+        write: false,
+        exec: true,
+    };
+    let mut segments = Segments::new(alloc);
+    segments.push(alloc, segment)?;
+    Ok(Image {
+        entry: 0x401000,
+        marked: true,
+        tracked: false,
+        segments,
+    })
+}
+
+/// A record with no error code.
+fn noted(rip: u64, what: What, a: u64, b: u64) -> Option<Record> {
+    Some(Record {
+        rip,
+        what,
+        code: 0,
+        a,
+        b,
+    })
+}
+
+/// The thread makes this access, which completes this record or none.
+fn expect_access(
+    rt: &impl Abort,
+    job: &Job,
+    words: &mut Plain,
+    cpu: &mut Cpu,
+    want: Access,
+    record: Option<Record>,
+)
+    requires { IsCore job.now cpu.old }
+    ensures { IsCore job.now cpu.new }
+{
+    assert!(rt; cpu.end().is_none(), "{want:?}");
+    let access = cpu.next(job).expect(rt, "no access");
+    assert_eq!(rt; access, want);
+    let answer = words.perform(access);
+    let taken = cpu.take(job, answer);
+    assert_eq!(rt; taken.noted, record, "{want:?}");
+    assert!(rt; taken.child.is_none(), "{want:?}");
+    assert_eq!(rt; taken.end, cpu.end(), "{want:?}");
+}
+
+fn expect_accesses(
+    rt: &impl Abort,
+    job: &Job,
+    words: &mut Plain,
+    cpu: &mut Cpu,
+    rows: &[(Access, Option<Record>)],
+)
+    requires { IsCore job.now cpu.old }
+    ensures { IsCore job.now cpu.new }
+{
+    for (want, record) in rows {
+        expect_access(rt, job, words, cpu, *want, *record);
+    }
+}
+
+#[test]
+fn moves_and_exits(rt: HostRuntime) -> Result<(), Fail> {
+    let image = image_of(rt.alloc(), &EXIT_SEVEN)?;
+    let words = &mut Plain::new(rt.alloc(), &image)?;
+    let job = Job {
+        image: &image,
+        procs: 1,
+        limit: 100,
+        signals: &[],
+    };
+    let cpu = &mut first(&job);
+    assert_eq!(rt; cpu.arch().rip, 0x401000);
+    assert_eq!(rt; cpu.arch().regs[4], 0x7fff_ffc0);
+    assert_eq!(rt; cpu.arch().ssp, 0x2_0000_9000);
+    // Each boundary loads the word EXIT and the pending signals of thread 0.
+    let moves = [
+        (Access::Load(1_605_632), None),
+        (Access::Load(1_605_664), noted(0x401000, What::Step, 7, 2)),
+        (Access::Load(1_605_632), None),
+        (Access::Load(1_605_664), noted(0x401005, What::Step, 60, 2)),
+    ];
+    expect_accesses(&rt, &job, words, cpu, &moves);
+    assert_eq!(rt; cpu.arch().regs[7], 7);
+    // The token of supervisor stack 0 at 0xffff800000002ff8, and the entries of the pages 2113 to 2120.
+    let exit = [
+        (Access::Load(1_605_632), None),
+        (Access::Load(1_605_664), None),
+        (Access::Look(3138), None),
+        (
+            Access::CompareExchange(1_607_167, 0xffff_8000_0000_2ff8, 0xffff_8000_0000_2ff9),
+            None,
+        ),
+        (Access::Store(1_607_166, 0xffff_8000_0010_0000), None),
+        (Access::Store(1_616_961, 0), None),
+        (Access::Store(1_616_962, 0), None),
+        (Access::Store(1_616_963, 0), None),
+        (Access::Store(1_616_964, 0), None),
+        (Access::Store(1_616_965, 0), None),
+        (Access::Store(1_616_966, 0), None),
+        (Access::Store(1_616_967, 0), None),
+        (Access::Store(1_616_968, 0), None),
+        (Access::Load(1_607_166), None),
+        (
+            Access::CompareExchange(1_607_167, 0xffff_8000_0000_2ff9, 0xffff_8000_0000_2ff8),
+            noted(0x40100a, What::Sys, 60, 7),
+        ),
+    ];
+    expect_accesses(&rt, &job, words, cpu, &exit);
+    assert_eq!(rt; cpu.end(), Some(End::Exit(7)));
+    assert_eq!(rt; cpu.next(&job), None);
+    assert_eq!(rt; cpu.arch().count, 3);
+    Ok(())
+}
+
+#[test]
+fn calls_and_returns(rt: HostRuntime) -> Result<(), Fail> {
+    let image = image_of(rt.alloc(), &CALL_AND_RETURN)?;
+    let words = &mut Plain::new(rt.alloc(), &image)?;
+    let job = Job {
+        image: &image,
+        procs: 1,
+        limit: 2,
+        signals: &[],
+    };
+    let cpu = &mut first(&job);
+    // The program stack's word at 0x7fffffb8 and the shadow stack's at 0x200008ff8.
+    let rows = [
+        (Access::Load(1_605_632), None),
+        (Access::Load(1_605_664), None),
+        (Access::Look(1087), None),
+        (Access::Look(2120), None),
+        (Access::Store(557_047, 0x401005), None),
+        (
+            Access::Store(1_085_951, 0x401005),
+            noted(0x401000, What::Call, 0x401006, 0x2_0000_8ff8),
+        ),
+        (Access::Load(1_605_632), None),
+        (Access::Load(1_605_664), None),
+        (Access::Look(1087), None),
+        (Access::Look(2120), None),
+        (Access::Load(557_047), None),
+        (
+            Access::Load(1_085_951),
+            noted(0x401006, What::Ret, 0x401005, 0x2_0000_9000),
+        ),
+    ];
+    expect_accesses(&rt, &job, words, cpu, &rows);
+    assert_eq!(rt; cpu.end(), Some(End::Limit));
+    assert_eq!(rt; cpu.next(&job), None);
+    assert_eq!(rt; cpu.arch().rip, 0x401005);
+    assert_eq!(rt; cpu.arch().regs[4], 0x7fff_ffc0);
+    Ok(())
+}
+
+fn is_sent<T: Send>() {}
+
+#[test]
+fn goes_to_other_threads() {
+    is_sent::<Cpu>();
+    is_sent::<Taken>();
+}
