@@ -48,7 +48,7 @@ kept_is : (words : List ℕ) (b : Book) (r : Region) (ssp : ℕ) → b.regions �
 kept_is words b r ssp one low high room stack held at =
     let fits = in_first r low high room in
     let read : words_from words ssp ((0x200009000 - ssp) / 8) ≡ words_of (tops b) (top r) r.entries =
-      ap (λ a. words_from words a ((0x200009000 - a) / 8)) at ∙ ap (words_from words (top r)) fits.2 ∙ words_read words (tops b) (top r) r.entries stack in
+    ap (λ a. words_from words a ((0x200009000 - a) / 8)) at ∙ ap (words_from words (top r)) fits.2 ∙ words_read words (tops b) (top r) r.entries stack in
     let seen : in_view b (length b.regions) r.holder ≡ true = ap (λ (rs : List Region). in_view b (length rs) r.holder) one ∙ ap (in_view b 1) held in
     ap (shown_with 0x200001000 0x200009000 (Current 0)) read
     ∙ ap (λ h. shown_with 0x200001000 0x200009000 h (words_of (tops b) (top r) r.entries)) (sym held)
@@ -113,7 +113,7 @@ pub read_is : (job : JobData) (start : Machine) (turns : List ℕ) (words : List
 read_is job start turns words threads l s e =
     let m : Machine = run job start turns in
     let stacks : first_stacks m.words m.threads ≡ shown_stacks l.book m.threads =
-      subst (λ ts. first_stacks m.words ts ≡ shown_stacks l.book ts) (sym l.alone) (stacks_shown job start turns l s) in
+    subst (λ ts. first_stacks m.words ts ≡ shown_stacks l.book ts) (sym l.alone) (stacks_shown job start turns l s) in
     ap (λ (x : Machine). read_outcome x.words x.threads) (sym e)
     ∙ ap (λ (x : List StackReport). let o : Outcome = record { threads = map thread_out m.threads; stacks = x; process = process_end (slice_index m.words exit_word) (map thread_out m.threads) } in o) stacks
 

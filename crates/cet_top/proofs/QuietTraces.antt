@@ -63,7 +63,7 @@ act_quiet job m t thread None q e = q
 act_quiet job m t thread (Some a) q e =
     subst (λ (o : Option Core). AllQuiet (with_child (slice_set m.threads t (thread_after thread (taken job thread.core (answer m.words a)))) o)) (sym (no_child job thread.core (answer m.words a)))
     (quiet_set m.threads t (thread_after thread (taken job thread.core (answer m.words a))) q
-      (traced_quiet thread.trace (taken job thread.core (answer m.words a)).noted (quiet_get m.threads t thread q e) (taken_plain job thread.core (answer m.words a))))
+    (traced_quiet thread.trace (taken job thread.core (answer m.words a)).noted (quiet_get m.threads t thread q e) (taken_plain job thread.core (answer m.words a))))
 
 step_by_quiet : (job : JobData) (m : Machine) (t : ℕ) (o : Option Thread) → slice_get m.threads t ≡ o → AllQuiet m.threads → AllQuiet (step_by job m t o).threads
 step_by_quiet job m t None e q = q

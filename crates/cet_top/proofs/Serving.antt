@@ -115,6 +115,10 @@ served_completes c src src' sink sink' s h = record { long = completes_long c sr
 pub means_same : (words : List (List ℕ)) (c d : Command) → Means words c → Means words d → c ≡ d
 means_same words command.Run command.Run m n = refl
 
+-- what was served is the one command that the words mean
+pub means_serves : (words : List (List ℕ)) (c d : Command) (src src' sink sink' : Streamed) (s : Status) → Means words c → Means words d → Serves c src src' sink sink' s → Serves d src src' sink sink' s
+means_serves words c d src src' sink sink' s m n h = subst (λ x. Serves x src src' sink sink' s) (means_same words c d m n) h
+
 -- what was served completes the one command that the words mean
 pub means_completes : (words : List (List ℕ)) (c d : Command) (src src' sink sink' : Streamed) (s : Status) → Means words c → Means words d → Serves c src src' sink sink' s → Completes d src src' sink sink' s
 means_completes words c d src src' sink sink' s m n h = subst (λ x. Completes x src src' sink sink' s) (means_same words c d m n) (served_completes c src src' sink sink' s h)

@@ -17,7 +17,7 @@ pub turn_step : (job : JobData) (words words' : List ℕ) (threads : List Thread
 unfolding step
 turn_step job words words' threads t thread thread' a i n w e =
     let made : machine words' (slice_set threads t thread') ≡ made_by job (machine words threads) t thread a =
-      rw (w, e) (ap (λ (o : Option Core). machine (after words a) (with_child (slice_set threads t (thread_after thread (taken job thread.core (answer words a)))) o)) (sym (no_child job thread.core (answer words a)))) in
+    rw (w, e) (ap (λ (o : Option Core). machine (after words a) (with_child (slice_set threads t (thread_after thread (taken job thread.core (answer words a)))) o)) (sym (no_child job thread.core (answer words a)))) in
     made ∙ sym (ap (step_by job (machine words threads) t) i ∙ ap (act job (machine words threads) t thread) n)
 
 pub turn_falls : (job : JobData) (threads : List Thread) (t value : ℕ) (thread thread' : Thread) → t < length threads → slice_get threads t ≡ Some thread → Waits job thread.core → thread.core.over ≡ None → thread' ≡ thread_after thread (taken job thread.core value) → total_left job (slice_set threads t thread') < total_left job threads

@@ -57,10 +57,7 @@ pub(crate) fn process_end(exit: u64, outs: &[ThreadOut]) -> ProcessEnd
 }
 
 /// The threads of a finished run, by number.
-pub(crate) fn thread_outs(
-    alloc: Global,
-    mut guests: Vec<Guest>,
-) -> Result<ThreadOuts, NoMemory>
+pub(crate) fn thread_outs(alloc: Global, mut guests: Vec<Guest>) -> Result<ThreadOuts, NoMemory>
     ensures { IfOk result (λ outs. outs ≡ map thread_out guests.items) }
 {
     let mut outs = ThreadOuts::new(alloc);

@@ -36,8 +36,9 @@ pub fn plain<S: Source, K: Sink>(
         Completes command (streamed (S.left src.old) (S.faults src.old)) (streamed (S.left src.new) (S.faults src.new))
         (streamed (K.written sink.old) (K.faults sink.old)) (streamed (K.written sink.new) (K.faults sink.new)) result }
 {
-    match read_words(words) {
+    let status = match read_words(words) {
         Ok(command) => serve(alloc, command, src, sink),
         Err(number) => Status::Usage(number),
-    }
+    };
+    status
 }
