@@ -404,3 +404,10 @@ fn other_files_are_refused(rt: HostRuntime) -> Result<(), Fail> {
     }
     Ok(())
 }
+
+fn is_sent<T: Send>() {}
+
+#[test]
+fn records_go_to_other_threads() {
+    is_sent::<Records>();
+}
