@@ -1,13 +1,12 @@
 -- What is read of a finished run is its outcome by the last book.
-use Rattle.std.proofs.Common.{◌≡◌, ℕ, zero, suc, ◌+◌, ◌-◌, ◌*◌, ◌/◌, ◌%◌, ◌<◌, ◌≤◌, arith, lit≤, eq-eqb, eqb, List, [], ◌∷◌, ◌++◌, length, Option, Some, None, refl, ap, sym, ◌∙◌, subst, Bool, true, false}
+use Rattle.std.proofs.Common.{◌≡◌, ℕ, ◌+◌, ◌-◌, ◌*◌, ◌/◌, ◌≤◌, arith, lit≤, eq-eqb, List, [], ◌∷◌, ◌++◌, length, Option, Some, None, refl, ap, sym, ◌∙◌, subst, true, false}
 use Rattle.std.specs.Prelude.{map, slice_index, slice_index_or, unwrap_or, ◌==◌}
-use Rattle.std.specs.List.{flat_map, position_or_len}
+use Rattle.std.specs.List.{position_or_len}
 use Rattle.cet_words.specs.Job.{JobData}
 use Rattle.cet_isa.specs.declared.threads.End.{End}
 use Rattle.cet_isa.specs.declared.threads.End.TheVariants as ending
-use Rattle.cet_isa.specs.declared.threads.Record.{Record}
 use Rattle.cet_book.specs.Book.{Entry, Holder, Current, Lost, Region, Book, first_book, nowhere, region, top, starting_at}
-use Rattle.cet_book.specs.Stack.{slot_word, tops, word_of, words_of, Stack}
+use Rattle.cet_book.specs.Stack.{tops, word_of, words_of, Stack}
 use Rattle.cet_cpu.specs.Gate.{exit_word}
 use Rattle.cet_cpu.specs.Machine.{Machine, Thread, Starts, machine, run}
 use Rattle.cet_own.specs.Report.{LastBook}
@@ -15,9 +14,9 @@ use Rattle.cet_own.specs.Safe.{KeepsStack, Safe}
 use Rattle.cet_top.specs.Answer.{Ran, outcome_of}
 use Rattle.cet_top.specs.Schedule.{ByRobin}
 use Rattle.cet_top.specs.Turns.{Robined}
-use Rattle.cet_top.specs.FirstStack.{words_from, first_stack, first_stacks, first_region, KeepsFirst, KeepsFirsts, end_of, read_outcome}
+use Rattle.cet_top.specs.FirstStack.{words_from, first_stack, first_stacks, KeepsFirst, KeepsFirsts, read_outcome}
 use Rattle.cet_top.specs.Outcome.{thread_out, process_end}
-use Rattle.cet_top.specs.Shown.{shown_region, shown_stacks, shown_starts, in_order, put_in, in_view, shown_of, shown_if, started}
+use Rattle.cet_top.specs.Shown.{shown_region, shown_stacks, shown_starts, in_order, in_view, shown_of, shown_if}
 use Rattle.cet_top.specs.declared.outcomes.Outcome.{Outcome}
 use Rattle.cet_top.specs.declared.outcomes.StackReport.{StackReport}
 use Rattle.cet_top.proofs.QuietTraces.{AllQuiet, starts_of, quiet}

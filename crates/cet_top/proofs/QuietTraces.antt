@@ -1,16 +1,16 @@
 -- No trace of a run tells of a new shadow stack, while none is made.
-use Rattle.std.proofs.Common.{◌≡◌, ℕ, zero, suc, List, [], ◌∷◌, ◌++◌, Option, Some, None, refl, ap, sym, ◌∙◌, subst, true, Bool}
+use Rattle.std.proofs.Common.{◌≡◌, ℕ, zero, suc, List, [], ◌∷◌, ◌++◌, Option, Some, None, refl, ap, sym, ◌∙◌, subst, true}
 use Rattle.std.specs.Prelude.{slice_get, slice_set}
 use Rattle.std.specs.List.{flat_map}
 use Rattle.std.proofs.lemmas.Grind.{flat_map-append}
-use Rattle.cet_words.specs.Access.{answer, after}
+use Rattle.cet_words.specs.Access.{answer}
 use Rattle.cet_words.specs.Job.{JobData}
 use Rattle.cet_words.specs.declared.accesses.Access.{Access}
 use Rattle.cet_isa.specs.declared.threads.Record.{Record}
 use Rattle.cet_isa.specs.declared.threads.What.{What}
 use Rattle.cet_isa.specs.declared.threads.What.TheVariants as what
-use Rattle.cet_cpu.specs.Core.{Core, After, next_access, taken}
-use Rattle.cet_cpu.specs.Machine.{Machine, Thread, Starts, machine, traced, thread_after, with_child, made_by, act, step_by, step, run}
+use Rattle.cet_cpu.specs.Core.{Core, next_access, taken}
+use Rattle.cet_cpu.specs.Machine.{Machine, Thread, Starts, traced, thread_after, with_child, act, step_by, step, run}
 use Rattle.cet_cpu.specs.OrderlyRows.{names_no_stack}
 use Rattle.cet_cpu.specs.Within.{NamesNoStack, taken_plain, no_child}
 use Rattle.cet_top.specs.Shown.{started}

@@ -1,11 +1,11 @@
 -- What follows of a command that was served.
-use Rattle.std.proofs.Common.{◌≡◌, ℕ, ◌+◌, ◌<◌, ◌≤◌, arith, List, [], ◌∷◌, ◌++◌, length, take, Option, Some, None, refl, ap, sym, ◌∙◌, subst, inl, inr, ◌⊎◌, length-append}
+use Rattle.std.proofs.Common.{◌≡◌, ℕ, ◌+◌, ◌<◌, ◌≤◌, arith, List, length, Option, Some, None, refl, ap, ◌∙◌, subst, inl, inr, ◌⊎◌, length-append}
 use Rattle.std.proofs.lemmas.Bool.{cases_lt}
 use Rattle.std.specs.Io.KnownBytes.{Appends}
-use Rattle.cet_top.specs.Answer.{Answers, Refuses, Runs, status_of}
-use Rattle.cet_top.specs.Serves.{IsAnswered, IsCutShort, Streamed, Read, Answered, Cut, Serves, Completes}
+use Rattle.cet_top.specs.Answer.{Answers, status_of}
+use Rattle.cet_top.specs.Serves.{IsCutShort, Streamed, Answered, Cut, Serves, Completes}
 use Rattle.cet_top.specs.Stream.{Rose, TakesAll, TakesMoreThan}
-use Rattle.cet_top.specs.Words.{Means, IsCommand, Begins, FaultyWord}
+use Rattle.cet_top.specs.Words.{Means, IsCommand, FaultyWord}
 use Rattle.cet_top.specs.declared.outcomes.ProcessEnd.{ProcessEnd}
 use Rattle.cet_top.specs.declared.outcomes.ProcessEnd.TheVariants as process
 use Rattle.cet_top.specs.declared.status.Status.{Status}

@@ -1,15 +1,15 @@
 -- One turn, and runs of turns.
-use Rattle.std.proofs.Common.{◌≡◌, ℕ, ◌+◌, ◌-◌, ◌<◌, ◌≤◌, List, [], ◌∷◌, ◌++◌, length, Option, Some, None, arith, refl, ap, sym, ◌∙◌, subst, get_or, set, append_assoc, append-nil, Result, Ok, Err}
-use Rattle.std.specs.Prelude.{slice_get, slice_set, All, sum_by, OnOk}
+use Rattle.std.proofs.Common.{◌≡◌, ℕ, ◌<◌, List, [], ◌∷◌, ◌++◌, length, Option, Some, None, arith, refl, ap, sym, ◌∙◌, subst, get_or, append_assoc, append-nil}
+use Rattle.std.specs.Prelude.{slice_get, slice_set}
 use Rattle.std.proofs.lemmas.List.Sums.{sum_by-set}
 use Rattle.std.proofs.lemmas.Option.{get_or_from_slice_get}
 use Rattle.cet_words.specs.Access.{answer, after}
 use Rattle.cet_words.specs.declared.accesses.Access.{Access}
 use Rattle.cet_words.specs.Job.{JobData}
 use Rattle.cet_cpu.specs.Core.{Core, next_access, taken}
-use Rattle.cet_cpu.specs.Left.{left_of, falls}
+use Rattle.cet_cpu.specs.Left.{falls}
 use Rattle.cet_cpu.specs.Machine.{Machine, Thread, machine, thread_after, with_child, act, made_by, step_by, step, run}
-use Rattle.cet_cpu.specs.Within.{IsCore, Waits, waiting, no_child}
+use Rattle.cet_cpu.specs.Within.{IsCore, Waits, no_child}
 use Rattle.cet_top.specs.Schedule.{IsRobin, next_turn}
 use Rattle.cet_top.specs.Turns.{AllCores, IsGoing, Robined, Leads, thread_left, total_left}
 

@@ -1,5 +1,5 @@
 -- One word more of those from an address on.
-use Rattle.std.proofs.Common.{◌≡◌, ℕ, zero, suc, ◌+◌, ◌-◌, ◌*◌, ◌<◌, ◌≤◌, arith, refl, ap, sym, ◌∙◌, append_assoc, append-nil, List, [], ◌∷◌, ◌++◌}
+use Rattle.std.proofs.Common.{◌≡◌, ℕ, suc, ◌+◌, ◌-◌, ◌*◌, ◌<◌, ◌≤◌, arith, refl, ap, sym, ◌∙◌, append_assoc, append-nil, List, [], ◌∷◌, ◌++◌}
 use Rattle.cet_book.specs.Stack.{slot_word}
 use Rattle.cet_top.specs.FirstStack.{words_from}
 

@@ -1,5 +1,5 @@
 -- What a command answers: its status and its output, by the words and the bytes of the source. Source: own.
-use Rattle.std.specs.Prelude.{◌≡◌, ℕ, ◌⊎◌, List, [], Option, Some, slice_index, map}
+use Rattle.std.specs.Prelude.{◌≡◌, ℕ, ◌⊎◌, List, [], Some, slice_index, map}
 use Rattle.cet_words.specs.Job.{ImageData, JobData}
 use Rattle.cet_book.specs.Book.{Book, first_book}
 use Rattle.cet_cpu.specs.Gate.{exit_word}

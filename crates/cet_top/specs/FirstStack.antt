@@ -1,6 +1,6 @@
 -- The shadow stack of thread 0, read from the words. Source: own.
 use Rattle.std.proofs.Common.{zero, suc}
-use Rattle.std.specs.Prelude.{◌≡◌, ℕ, ◌+◌, ◌-◌, ◌/◌, ◌≤◌, List, [], ◌∷◌, map, length, unwrap_or, slice_index}
+use Rattle.std.specs.Prelude.{ℕ, ◌+◌, ◌-◌, ◌/◌, ◌≤◌, List, [], ◌∷◌, map, unwrap_or, slice_index}
 use Rattle.cet_book.specs.Stack.{slot_word}
 use Rattle.cet_cpu.specs.Gate.{exit_word}
 use Rattle.cet_cpu.specs.Machine.{Thread}
@@ -9,7 +9,6 @@ use Rattle.cet_top.specs.declared.outcomes.Outcome.{Outcome}
 use Rattle.cet_isa.specs.declared.threads.End.{End}
 use Rattle.cet_isa.specs.declared.threads.End.TheVariants as ending
 use Rattle.cet_top.specs.declared.outcomes.Region.{Region}
-use Rattle.cet_top.specs.declared.outcomes.Shown.{Shown}
 use Rattle.cet_top.specs.declared.outcomes.Shown.TheVariants as shown
 use Rattle.cet_top.specs.declared.outcomes.StackReport.{StackReport}
 

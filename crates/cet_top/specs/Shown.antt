@@ -1,6 +1,6 @@
 -- The shadow stacks that a report shows, by the last book of the run. Source: own.
 use Rattle.std.proofs.Common.{zero, suc}
-use Rattle.std.specs.Prelude.{◌≡◌, ℕ, ◌-◌, Bool, true, false, nat_le, if◌then◌else◌, List, [], ◌∷◌, map, length}
+use Rattle.std.specs.Prelude.{ℕ, ◌-◌, Bool, true, false, nat_le, if◌then◌else◌, List, [], ◌∷◌, map, length}
 use Rattle.std.specs.List.{flat_map}
 use Rattle.cet_isa.specs.declared.threads.Record.{Record}
 use Rattle.cet_isa.specs.declared.threads.What.{What}

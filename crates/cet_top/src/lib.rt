@@ -8,6 +8,8 @@ mod lines;
 mod loads;
 mod memory_streams;
 mod outcomes;
+#[cfg(test)]
+mod program_tests;
 mod programs;
 mod reports;
 mod runs;

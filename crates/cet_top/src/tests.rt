@@ -15,11 +15,12 @@ use std::alloc::{AllocError, Global};
 use std::io;
 use std::test::Fail;
 
-/// Two bytes, and then a fault at each read.
+/// Gives so many reads what another source gives, and then a fault at each read.
 #[derive(Drop)]
-struct Breaks {
-    faults: u64,
-    is_read: bool,
+pub(crate) struct Breaks {
+    pub source: SureSource,
+    pub reads: u64,
+    pub faults: u64,
 }
 
 impl Source for Breaks {
@@ -28,12 +29,12 @@ impl Source for Breaks {
     ghost faults = { λ s. s.faults };
 
     fn read(&mut self, buf: &mut [u8]) -> Result<usize, Failed> {
-        if self.is_read {
+        if self.reads == 0 {
             self.faults = self.faults.saturating_add(1);
             return Err(Failed);
         }
-        self.is_read = true;
-        Ok(buf.len().min(2))
+        self.reads -= 1;
+        self.source.read(buf)
     }
 }
 
@@ -54,8 +55,9 @@ fn sources_are_read_to_their_end(rt: HostRuntime) -> Result<(), Fail> {
     );
 
     let mut breaks = Breaks {
+        source: SureSource::new(alloc, b"ab")?,
+        reads: 1,
         faults: 0,
-        is_read: false,
     };
     assert_eq!(rt; read_all(alloc, &mut breaks).err(), Some(Unread::Failed));
 
@@ -204,7 +206,7 @@ fn exit_seven(alloc: Global) -> Result<Outcome, NoMemory> {
     })
 }
 
-const EXIT_SEVEN: &str = "cetvm report 1
+pub(crate) const EXIT_SEVEN: &str = "cetvm report 1
 thread 0 records 3 exit 7
 0 step 0000000000401000 0 0000000000000007 0000000000000002
 0 step 0000000000401005 0 000000000000003c 0000000000000002
@@ -330,10 +332,10 @@ const BEHIND_SIZE: [(usize, &[u8]); 12] = [
 ];
 
 /// `mov edi, 7`, `mov eax, 60` and `syscall`.
-const EXIT_SEVEN_TEXT: [u8; 12] = [0xbf, 7, 0, 0, 0, 0xb8, 60, 0, 0, 0, 0x0f, 0x05];
+pub(crate) const EXIT_SEVEN_TEXT: [u8; 12] = [0xbf, 7, 0, 0, 0, 0xb8, 60, 0, 0, 0, 0x0f, 0x05];
 
 /// The file of a text of fewer than 256 bytes.
-fn file(alloc: Global, text: &[u8]) -> Result<Vec<u8>, AllocError> {
+pub(crate) fn file(alloc: Global, text: &[u8]) -> Result<Vec<u8>, AllocError> {
     let size = [text.len().min(255) as u8];
     let sizes = [(0x60, size.as_slice()), (0x68, size.as_slice())];
     let mut file = Vec::new(alloc);
@@ -401,4 +403,11 @@ fn other_files_are_refused(rt: HostRuntime) -> Result<(), Fail> {
         assert_eq!(rt; load_form(alloc, &bytes).err(), refused, "at {place}");
     }
     Ok(())
+}
+
+fn is_sent<T: Send>() {}
+
+#[test]
+fn records_go_to_other_threads() {
+    is_sent::<Records>();
 }

@@ -1,7 +1,6 @@
-use Rattle.std.proofs.Common.{◌≡◌, ℕ, ap, subst}
+use Rattle.std.proofs.Common.{◌≡◌, ap, subst}
 use Rattle.cet_top.specs.Words.{FaultyWord, IsCommand}
 use Rattle.cet_top.specs.declared.status.Status.TheVariants as status
-use Rattle.cet_top.specs.declared.words.Command.{Command}
 use Rattle.cet_top.proofs.Serving.{faulty_same, means_completes, means_serves, served_no_usage}
 use Rattle.cet_top.proofs.programs.plain.Goals as goal
 

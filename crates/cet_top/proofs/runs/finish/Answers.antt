@@ -1,4 +1,4 @@
-use Rattle.std.proofs.Common.{subst, IfOk}
+use Rattle.std.proofs.Common.{subst}
 use Rattle.std.proofs.lemmas.Result.{IfOk-weaker}
 use Rattle.cet_words.specs.Job.{IsJob}
 use Rattle.cet_own.specs.Reported.{last_book}

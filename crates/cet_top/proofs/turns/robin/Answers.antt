@@ -1,4 +1,4 @@
-use Rattle.std.proofs.Common.{◌≡◌, ℕ, ◌++◌, ◌∷◌, [], Some, None, arith, sym, ap, length}
+use Rattle.std.proofs.Common.{arith, sym, ap, length}
 use Rattle.cet_top.proofs.Steps.{lead_more, lead_ends}
 use Rattle.cet_top.proofs.turns.robin.Goals as goal
 

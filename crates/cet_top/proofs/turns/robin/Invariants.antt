@@ -1,4 +1,4 @@
-use Rattle.std.proofs.Common.{◌≡◌, ℕ, ◌++◌, List, length, ◌<◌}
+use Rattle.std.proofs.Common.{ℕ, List, length, ◌<◌}
 use Rattle.std.specs.Prelude.{IfSome}
 use Rattle.cet_cpu.specs.Machine.{machine}
 use Rattle.cet_top.specs.Turns.{AllCores, Leads, total_left}

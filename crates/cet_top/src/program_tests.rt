@@ -1,0 +1,224 @@
+//! The program on whole files, against reports that are written out here.
+
+use crate::tests::{Breaks, EXIT_SEVEN, EXIT_SEVEN_TEXT, file};
+use crate::{MemSink, Source, Status, SureSource, plain};
+use std::alloc::{AllocError, Global};
+use std::process::Abort;
+use std::test::Fail;
+
+/// More than the longest report here has, in bytes.
+const ROOM: u32 = 400_000;
+
+/// The words of a command, parted by blanks.
+fn words(alloc: Global, text: &str) -> Result<Vec<String>, AllocError> {
+    let mut words = Vec::new(alloc);
+    for word in text.split_whitespace() {
+        words.push(String::from_str(alloc, word)?)?;
+    }
+    Ok(words)
+}
+
+fn run<S: Source>(alloc: Global, src: &mut S, sink: &mut MemSink) -> Result<Status, AllocError> {
+    Ok(plain(alloc, &words(alloc, "run")?, src, sink))
+}
+
+/// `call` over an exit with status 3 to the `ret` behind it.
+const CALL_AND_RETURN_TEXT: [u8; 18] = [
+    0xe8, 12, 0, 0, 0, 0xbf, 3, 0, 0, 0, 0xb8, 60, 0, 0, 0, 0x0f, 0x05, 0xc3,
+];
+
+const CALL_AND_RETURN: &str = "cetvm report 1
+thread 0 records 5 exit 3
+0 call 0000000000401000 0 0000000000401011 0000000200008ff8
+0 ret 0000000000401011 0 0000000000401005 0000000200009000
+0 step 0000000000401005 0 0000000000000003 0000000000000002
+0 step 000000000040100a 0 000000000000003c 0000000000000002
+0 sys 000000000040100f 0 000000000000003c 0000000000000003
+region 0000000200001000 0000000200009000 lost
+process exit 3
+";
+
+const RETURN_ON_AN_EMPTY_STACK: &str = "cetvm report 1
+thread 0 records 2 group
+0 #PF 0000000000401000 68 0000000200009000 0000000000000000
+0 kill 0000000000401000 0 000000000000000b 0000000000000000
+region 0000000200001000 0000000200009000 current 0
+process killed 11
+";
+
+const PAST_THE_TEXT: &str = "cetvm report 1
+thread 0 records 3 group
+0 step 0000000000401000 0 0000000000000007 0000000000000002
+0 #UD 0000000000401005 0 0000000000000000 0000000000000000
+0 kill 0000000000401005 0 0000000000000004 0000000000000000
+region 0000000200001000 0000000200009000 current 0
+process killed 4
+";
+
+/// The report of a `call` to itself: 4,096 words fill the shadow stack, which begins at its end.
+fn full_stack(alloc: Global) -> Result<String, AllocError> {
+    let mut report = String::from_str(alloc, "cetvm report 1\nthread 0 records 4098 group\n")?;
+    for call in 1..=4096_u64 {
+        let ssp = 0x2_0000_9000 - 8 * call;
+        write!(
+            report,
+            "0 call 0000000000401000 0 0000000000401000 {ssp:016x}\n"
+        )?;
+    }
+    report.push_str("0 #PF 0000000000401000 70 0000000200000ff8 0000000000000000\n")?;
+    report.push_str("0 kill 0000000000401000 0 000000000000000b 0000000000000000\n")?;
+    report.push_str("region 0000000200001000 0000000200009000 current 0\n")?;
+    for _ in 0..4096 {
+        report.push_str("  ret 0000000000401005\n")?;
+    }
+    report.push_str("process killed 11\n")?;
+    Ok(report)
+}
+
+/// A run of the bytes writes the report, and has the status.
+fn reports(
+    rt: &impl Abort,
+    alloc: Global,
+    bytes: &[u8],
+    status: Status,
+    report: &str,
+) -> Result<(), Fail> {
+    let mut src = SureSource::new(alloc, bytes)?;
+    let mut sink = MemSink::new(alloc, ROOM, ROOM, &[])?;
+    assert_eq!(rt; run(alloc, &mut src, &mut sink)?, status);
+    assert_eq!(rt; sink.bytes(), report.as_bytes());
+    Ok(())
+}
+
+#[test]
+fn exit_seven_is_reported(rt: HostRuntime) -> Result<(), Fail> {
+    let bytes = file(rt.alloc(), &EXIT_SEVEN_TEXT)?;
+    reports(&rt, rt.alloc(), &bytes, Status::Done, EXIT_SEVEN)
+}
+
+#[test]
+fn call_and_return_are_reported(rt: HostRuntime) -> Result<(), Fail> {
+    let bytes = file(rt.alloc(), &CALL_AND_RETURN_TEXT)?;
+    reports(&rt, rt.alloc(), &bytes, Status::Done, CALL_AND_RETURN)
+}
+
+#[test]
+fn kills_are_reported(rt: HostRuntime) -> Result<(), Fail> {
+    let alloc = rt.alloc();
+    let bytes = file(alloc, &[0xc3])?;
+    reports(
+        &rt,
+        rt.alloc(),
+        &bytes,
+        Status::Killed(11),
+        RETURN_ON_AN_EMPTY_STACK,
+    )?;
+    let bytes = file(alloc, &[0xbf, 7, 0, 0, 0])?;
+    reports(&rt, rt.alloc(), &bytes, Status::Killed(4), PAST_THE_TEXT)?;
+    let bytes = file(alloc, &[0xe8, 0xfb, 0xff, 0xff, 0xff])?;
+    reports(
+        &rt,
+        rt.alloc(),
+        &bytes,
+        Status::Killed(11),
+        full_stack(alloc)?.as_str(),
+    )
+}
+
+#[test]
+fn a_nop_and_no_byte_and_a_short_file_are_refused(rt: HostRuntime) -> Result<(), Fail> {
+    let alloc = rt.alloc();
+    let refused = Status::Refused { rule: 0, offset: 0 };
+    reports(&rt, rt.alloc(), &file(alloc, &[0x90])?, refused, "")?;
+    reports(&rt, rt.alloc(), &[], refused, "")?;
+    let mut bytes = file(alloc, &EXIT_SEVEN_TEXT)?;
+    bytes.pop();
+    reports(&rt, rt.alloc(), &bytes, refused, "")
+}
+
+#[test]
+fn a_turned_byte_of_the_header_is_refused(rt: HostRuntime) -> Result<(), Fail> {
+    let mut bytes = file(rt.alloc(), &EXIT_SEVEN_TEXT)?;
+    if let Some(machine) = bytes.get_mut(18) {
+        *machine ^= 1;
+    }
+    let refused = Status::Refused { rule: 0, offset: 0 };
+    reports(&rt, rt.alloc(), &bytes, refused, "")
+}
+
+#[test]
+fn a_byte_over_the_most_is_too_long(rt: HostRuntime) -> Result<(), Fail> {
+    let mut bytes = Vec::new(rt.alloc());
+    bytes.resize(8_388_609, 0_u8)?;
+    reports(&rt, rt.alloc(), &bytes, Status::TooLong, "")
+}
+
+fn is_usage(rt: &impl Abort, alloc: Global, text: &str, number: u32) -> Result<(), Fail> {
+    let words = words(alloc, text)?;
+    let mut src = SureSource::new(alloc, &EXIT_SEVEN_TEXT)?;
+    let mut sink = MemSink::new(alloc, ROOM, ROOM, &[])?;
+    let status = plain(alloc, &words, &mut src, &mut sink);
+    assert_eq!(rt; status, Status::Usage(number));
+    assert!(rt; sink.bytes().is_empty());
+    Ok(())
+}
+
+#[test]
+fn no_word_and_walk_and_run_x_are_usage(rt: HostRuntime) -> Result<(), Fail> {
+    is_usage(&rt, rt.alloc(), "", 1)?;
+    is_usage(&rt, rt.alloc(), "walk", 1)?;
+    is_usage(&rt, rt.alloc(), "run x", 2)
+}
+
+/// The first part of the report that stays where this write of at most 64 bytes fails.
+fn keeps(
+    rt: &impl Abort,
+    alloc: Global,
+    failing: u32,
+    status: Status,
+    kept: usize,
+) -> Result<(), Fail> {
+    let mut src = SureSource::new(alloc, &file(alloc, &EXIT_SEVEN_TEXT)?)?;
+    let mut sink = MemSink::new(alloc, ROOM, 64, &[failing])?;
+    assert_eq!(rt; run(alloc, &mut src, &mut sink)?, status);
+    assert_eq!(rt; sink.bytes().len(), kept);
+    assert!(rt; EXIT_SEVEN.as_bytes().starts_with(sink.bytes()));
+    Ok(())
+}
+
+/// The report of the exit with status 7 has 281 bytes, so it is five writes of at most 64.
+#[test]
+fn each_write_that_fails_leaves_a_first_part(rt: HostRuntime) -> Result<(), Fail> {
+    for (failing, kept) in [(1, 0), (2, 64), (3, 128), (4, 192), (5, 256)] {
+        keeps(&rt, rt.alloc(), failing, Status::WriteFault, kept)?;
+    }
+    keeps(&rt, rt.alloc(), 6, Status::Done, 281)
+}
+
+fn reads(
+    rt: &impl Abort,
+    alloc: Global,
+    reads: u64,
+    status: Status,
+    report: &str,
+) -> Result<(), Fail> {
+    let source = SureSource::new(alloc, &file(alloc, &EXIT_SEVEN_TEXT)?)?;
+    let mut src = Breaks {
+        source,
+        reads,
+        faults: 0,
+    };
+    let mut sink = MemSink::new(alloc, ROOM, ROOM, &[])?;
+    assert_eq!(rt; run(alloc, &mut src, &mut sink)?, status);
+    assert_eq!(rt; sink.bytes(), report.as_bytes());
+    Ok(())
+}
+
+/// The file of 4,108 bytes is two reads of at most 4,096, and a third one finds its end.
+#[test]
+fn each_read_that_fails_is_a_read_fault(rt: HostRuntime) -> Result<(), Fail> {
+    reads(&rt, rt.alloc(), 0, Status::ReadFault, "")?;
+    reads(&rt, rt.alloc(), 1, Status::ReadFault, "")?;
+    reads(&rt, rt.alloc(), 2, Status::ReadFault, "")?;
+    reads(&rt, rt.alloc(), 3, Status::Done, EXIT_SEVEN)
+}
