@@ -2,6 +2,7 @@ mod Appended
 mod FirstWord
 mod Front
 mod Known
+mod InputReads
 mod Steps
 mod WordsFrom
 mod Marks

@@ -4,7 +4,8 @@ ghost use Rattle.std.specs.Prelude.{◌≡◌, ◌≤◌, Ok, IfOk};
 ghost use Rattle.cet_top.specs.Answer.{Answers, Reports, Runs, Refuses, job_of, job_with, status_of};
 ghost use Rattle.cet_top.specs.Accepts.{Accepts, image_of};
 ghost use Rattle.cet_top.specs.Schedule.{ByRobin};
-ghost use Rattle.cet_top.specs.Serves.{Serves, streamed};
+ghost use Rattle.cet_top.specs.Serves.{Serves, sink_state};
+ghost use Rattle.cet_top.specs.Stream.{source_state};
 
 use crate::loads::{LoadFault, load_form};
 use crate::outcomes::{ProcessEnd, Style};
@@ -97,8 +98,8 @@ pub(crate) fn serve<S: Source, K: Sink>(
     src: &mut S,
     sink: &mut K,
 ) -> Status
-    ensures { Serves command (streamed (S.left src.old) (S.faults src.old)) (streamed (S.left src.new) (S.faults src.new))
-        (streamed (K.written sink.old) (K.faults sink.old)) (streamed (K.written sink.new) (K.faults sink.new)) result }
+    ensures { Serves command (source_state (S.left src.old) (S.faults src.old) (S.tally src.old)) (source_state (S.left src.new) (S.faults src.new) (S.tally src.new))
+        (sink_state (K.written sink.old) (K.faults sink.old)) (sink_state (K.written sink.new) (K.faults sink.new)) result }
 {
     let bytes = match read_all(alloc, src) {
         Ok(bytes) => bytes,
