@@ -37,6 +37,10 @@ no_usage command.Run bytes output n a = elim a [
   | inl r ↦ (let e = r.refused in cc)
   | inr r ↦ run_no_usage r.reported.outcome.process n r.reported.ends
 ]
+no_usage command.Dis bytes output n a = elim a [
+  | inl r ↦ (let e = r.refused in cc)
+  | inr r ↦ (let e = r.done in cc)
+]
 
 pub served_no_usage : (c : Command) (src src' sink sink' : Streamed) (s : Status) (n : ℕ) → Serves c src src' sink sink' s → s ≡ status.Usage n → ⊥
 served_no_usage c src src' sink sink' s n h e =
@@ -114,6 +118,9 @@ served_completes c src src' sink sink' s h = record { long = completes_long c sr
 -- the words mean one command
 pub means_same : (words : List (List ℕ)) (c d : Command) → Means words c → Means words d → c ≡ d
 means_same words command.Run command.Run m n = refl
+means_same words command.Run command.Dis m n = absurd cc
+means_same words command.Dis command.Run m n = absurd cc
+means_same words command.Dis command.Dis m n = refl
 
 -- what was served is the one command that the words mean
 pub means_serves : (words : List (List ℕ)) (c d : Command) (src src' sink sink' : Streamed) (s : Status) → Means words c → Means words d → Serves c src src' sink sink' s → Serves d src src' sink sink' s
