@@ -1,5 +1,6 @@
 -- The first faulty word, where each command is one word.
 use Rattle.std.proofs.Common.{ℕ, zero, suc, ◌<◌, ◌≡◌, List, [], ◌∷◌, length, take, refl, ap, inl, inr, codes, arith}
+use Rattle.std.specs.Prelude.{slice_index}
 use Rattle.cet_top.specs.Words.{Means, IsCommand, Begins, FaultyWord}
 use Rattle.cet_top.specs.declared.words.Command.{Command}
 use Rattle.cet_top.specs.declared.words.Command.TheVariants.{Run, Dis}
@@ -53,3 +54,14 @@ two_words word next words c first = record { refused = refuse; before = before_t
 pub faulty_second : (word : List ℕ) (words : List (List ℕ)) (c : Command) → Means (word ∷ []) c → 0 < length words → FaultyWord IsCommand (word ∷ words) 2
 faulty_second word [] c first more = absurd (omega arith)
 faulty_second word (next ∷ words) c first more = two_words word next words c first
+
+abbrev first_letter : List (List ℕ) → ℕ
+first_letter [] = 0
+first_letter (word ∷ words) = slice_index word 0
+
+two_letters : (letter : ℕ) → letter ≡ 114 → letter ≡ 100 → ⊥
+two_letters letter r d = omega (arith, r, d)
+
+-- no list of words is two commands
+pub run_or_dis : (words : List (List ℕ)) → Means words Run → Means words Dis → ⊥
+run_or_dis words run dis = two_letters (first_letter words) (ap first_letter run) (ap first_letter dis)

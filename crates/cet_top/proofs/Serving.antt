@@ -12,6 +12,7 @@ use Rattle.cet_top.specs.declared.status.Status.{Status}
 use Rattle.cet_top.specs.declared.status.Status.TheVariants as status
 use Rattle.cet_top.specs.declared.words.Command.{Command}
 use Rattle.cet_top.specs.declared.words.Command.TheVariants as command
+use Rattle.cet_top.proofs.FirstWord.{run_or_dis}
 
 -- a faulty word is the only one
 faulty_below : (words : List (List ℕ)) (j k : ℕ) → FaultyWord IsCommand words j → FaultyWord IsCommand words k → j < k → ⊥
@@ -118,8 +119,8 @@ served_completes c src src' sink sink' s h = record { long = completes_long c sr
 -- the words mean one command
 pub means_same : (words : List (List ℕ)) (c d : Command) → Means words c → Means words d → c ≡ d
 means_same words command.Run command.Run m n = refl
-means_same words command.Run command.Dis m n = absurd cc
-means_same words command.Dis command.Run m n = absurd cc
+means_same words command.Run command.Dis m n = absurd (run_or_dis words m n)
+means_same words command.Dis command.Run m n = absurd (run_or_dis words n m)
 means_same words command.Dis command.Dis m n = refl
 
 -- what was served is the one command that the words mean

@@ -43,7 +43,10 @@ fn bytes_of_no_instruction_are_listed(rt: HostRuntime) -> Result<(), Fail> {
     let mixed = [0x90, 0xf3, 0x48, 0x0f, 0xae, 0xe8, 0xf3, 0x48];
     assert_eq!(rt; lines(alloc, &mixed, 3, true)?.as_slice(), MIXED.as_bytes());
     let cut_off = [0xc3, 0xe8, 0xff];
-    assert_eq!(rt; lines(alloc, &cut_off, 0, true)?.as_slice(), CUT_OFF.as_bytes());
+    assert_eq!(rt;
+        lines(alloc, &cut_off, 0, true)?.as_slice(),
+        CUT_OFF.as_bytes()
+    );
     assert!(rt; lines(alloc, &mixed, 3, false)?.as_slice().is_empty());
     Ok(())
 }

@@ -403,10 +403,7 @@ const WITH_DATA: [(usize, &[u8]); 35] = [
 fn programs_are_written(rt: HostRuntime) -> Result<(), Fail> {
     let alloc = rt.alloc();
     let alone = write(alloc, &EXIT_SEVEN_TEXT, &[], 0x401000, 2)?;
-    assert_eq!(rt;
-        alone.as_slice(),
-        file(alloc, &EXIT_SEVEN_TEXT)?.as_slice()
-    );
+    assert_eq!(rt; alone.as_slice(), file(alloc, &EXIT_SEVEN_TEXT)?.as_slice());
 
     let mut want = Vec::new(alloc);
     for (place, bytes) in WITH_DATA {

@@ -60,12 +60,7 @@ pub(crate) fn put_zeros(alloc: Global, out: &mut Bytes, count: usize) -> Result<
 }
 
 #[tactic(auto, unfolding(crate::specs::Written::file_header))]
-fn put_file_header(
-    alloc: Global,
-    out: &mut Bytes,
-    entry: u64,
-    count: u16,
-) -> Result<(), NoMemory>
+fn put_file_header(alloc: Global, out: &mut Bytes, entry: u64, count: u16) -> Result<(), NoMemory>
     ensures { OnOk result (out.new ≡ out.old ++ file_header entry count) }
 {
     let fields = [
@@ -248,12 +243,7 @@ fn headers(
 
 /// Appends what stands behind a text of this size.
 #[tactic(auto, unfolding(crate::specs::Written::data_part))]
-fn put_data(
-    alloc: Global,
-    out: &mut Bytes,
-    size: u64,
-    static_data: &[u8],
-) -> Result<(), NoMemory>
+fn put_data(alloc: Global, out: &mut Bytes, size: u64, static_data: &[u8]) -> Result<(), NoMemory>
     requires { size < 2 ^ 63 }
     ensures { OnOk result (out.new ≡ out.old ++ data_part size static_data.now) }
 {

@@ -15,4 +15,4 @@ loop-segment-preserved c =
     take_more segments at here c.loop-segment-test.true ∙ ap (λ (s : Segment). take at segments ++ s ∷ []) (sym c.segment-item.is) in
     subst (IsListing (take (at + 1) segments)) (sym out)
     (subst (λ (ss : List Segment). IsListing ss (c.loop-segment.out ++ text)) (sym front)
-     (listing_more (take at segments) here c.loop-segment.out text c.loop-segment.invariant lists))
+    (listing_more (take at segments) here c.loop-segment.out text c.loop-segment.invariant lists))
