@@ -9,7 +9,7 @@ use Rattle.cet_isa.specs.Spells.{Begins}
 use Rattle.cet_decode.specs.Decoded.{decoding}
 use Rattle.cet_decode.specs.declared.decoder.Decoded.{Decoded}
 use Rattle.cet_decode.specs.declared.decoder.Decoded.TheVariants as answers
-use Rattle.cet_top.specs.Listing.{Piece, IsFirst, IsCut, IsListing, Lists, ListsIf, piece_bytes, piece_line, piece_lines}
+use Rattle.cet_top.specs.Listing.{Piece, IsFirst, IsListing, Lists, ListsIf, piece_bytes, piece_line, piece_lines}
 
 -- lines that complete those of all code, where what is said is that of the code before a place
 abbrev pub SaidAt : (addr at : ℕ) (code said : List ℕ) → Type 0

@@ -1,4 +1,4 @@
-use Rattle.std.proofs.Common.{◌≡◌, ◌+◌, ◌++◌, drop, ◌∙◌, ap, sym, append_assoc}
+use Rattle.std.proofs.Common.{◌+◌, ◌++◌, ◌∙◌, ap, append_assoc}
 use Rattle.std.proofs.lemmas.List.{take_rest}
 use Rattle.cet_top.specs.Listing.{piece_line}
 use Rattle.cet_top.proofs.Listed.{piece_said, piece_within, all_said}

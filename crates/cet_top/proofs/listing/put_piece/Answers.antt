@@ -1,4 +1,4 @@
-use Rattle.std.proofs.Common.{ℕ, ◌≡◌, List, ◌++◌, take, drop, length, sym, ◌∙◌, ap, refl, arith, lit≤}
+use Rattle.std.proofs.Common.{◌++◌, take, sym, ◌∙◌, ap, refl, arith, lit≤}
 use Rattle.std.proofs.lemmas.List.{length-take-le, take-append-drop}
 use Rattle.std.specs.Prelude.{slice_index}
 use Rattle.cet_isa.specs.ReadingLaws.{decoded_within}
