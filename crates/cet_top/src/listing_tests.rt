@@ -1,12 +1,16 @@
 //! Listings of code that no accepted file has today.
 
+ghost use Rattle.std.specs.Prelude.{◌<◌, length};
+
 use crate::listing::put_segment;
 use cet_words::{Bytes, NoMemory, Segment};
 use std::alloc::Global;
 use std::test::Fail;
 
 /// The lines of so many bytes and zeros at 0x401000.
-fn lines(alloc: Global, code: &[u8], zeros: u8, exec: bool) -> Result<Bytes, NoMemory> {
+fn lines(alloc: Global, code: &[u8], zeros: u8, exec: bool) -> Result<Bytes, NoMemory>
+    requires { length code.now < 4096 }
+{
     let mut bytes = Bytes::new(alloc);
     bytes.extend(alloc, code)?;
     let segment = Segment {
