@@ -1,7 +1,9 @@
--- The first faulty word, where `run` alone is accepted.
-use Rattle.std.proofs.Common.{ℕ, zero, suc, ◌<◌, ◌≡◌, ◌≢◌, List, [], ◌∷◌, length, take, refl, ap, inl, inr, codes, arith}
-use Rattle.cet_top.specs.Words.{IsCommand, Begins, FaultyWord}
-use Rattle.cet_top.specs.declared.words.Command.TheVariants.{Run}
+-- The first faulty word, where each command is one word.
+use Rattle.std.proofs.Common.{ℕ, zero, suc, ◌<◌, ◌≡◌, List, [], ◌∷◌, length, take, refl, ap, inl, inr, codes, arith}
+use Rattle.std.specs.Prelude.{slice_index}
+use Rattle.cet_top.specs.Words.{Means, IsCommand, Begins, FaultyWord}
+use Rattle.cet_top.specs.declared.words.Command.{Command}
+use Rattle.cet_top.specs.declared.words.Command.TheVariants.{Run, Dis}
 
 begins_none : Begins IsCommand []
 begins_none = (codes "run" ∷ [], (Run, refl))
@@ -15,30 +17,51 @@ faulty_none = record { refused = refuse; before = before_one []; here = inr refl
   where
     refuse : IsCommand [] → ⊥
     refuse (Run, is) = cc
+    refuse (Dis, is) = cc
 
-pub faulty_first : (word : List ℕ) (words : List (List ℕ)) → word ≢ codes "run" → FaultyWord IsCommand (word ∷ words) 1
+-- what is a command is so by its first word
+first_alone : (word : List ℕ) (words : List (List ℕ)) (c : Command) → Means (word ∷ words) c → Means (word ∷ []) c
+first_alone word words Run is = let e : word ≡ codes "run" = cc in ap (λ (w : List ℕ). w ∷ []) e
+first_alone word words Dis is = let e : word ≡ codes "dis" = cc in ap (λ (w : List ℕ). w ∷ []) e
+
+one_word : (word next : List ℕ) (words : List (List ℕ)) (c : Command) → Means (word ∷ next ∷ words) c → ⊥
+one_word word next words Run is = cc
+one_word word next words Dis is = cc
+
+pub faulty_first : (word : List ℕ) (words : List (List ℕ)) → ((c : Command) → ¬ Means (word ∷ []) c) → FaultyWord IsCommand (word ∷ words) 1
 faulty_first word words other = record { refused = refuse; before = before_one (word ∷ words); here = inl (omega arith, stop) }
   where
     refuse : IsCommand (word ∷ words) → ⊥
-    refuse (Run, is) = let e : word ≡ codes "run" = cc in other e
+    refuse (c, is) = other c (first_alone word words c is)
 
     stop : Begins IsCommand (word ∷ []) → ⊥
-    stop (rest, (Run, is)) = let e : word ≡ codes "run" = cc in other e
+    stop (rest, (c, is)) = other c (first_alone word rest c is)
 
-two_words : (word next : List ℕ) (words : List (List ℕ)) → word ≡ codes "run" → FaultyWord IsCommand (word ∷ next ∷ words) 2
-two_words word next words first = record { refused = refuse; before = before_two; here = inl (omega arith, stop) }
+two_words : (word next : List ℕ) (words : List (List ℕ)) (c : Command) → Means (word ∷ []) c → FaultyWord IsCommand (word ∷ next ∷ words) 2
+two_words word next words c first = record { refused = refuse; before = before_two; here = inl (omega arith, stop) }
   where
     refuse : IsCommand (word ∷ next ∷ words) → ⊥
-    refuse (Run, is) = cc
+    refuse (d, is) = one_word word next words d is
 
     before_two : (n : ℕ) → n < 2 → Begins IsCommand (take n (word ∷ next ∷ words))
     before_two zero below = begins_none
-    before_two (suc zero) below = ([], (Run, ap (λ (w : List ℕ). w ∷ []) first))
+    before_two (suc zero) below = ([], (c, first))
     before_two (suc (suc n)) below = absurd (omega arith)
 
     stop : Begins IsCommand (word ∷ next ∷ []) → ⊥
-    stop (rest, (Run, is)) = cc
+    stop (rest, (d, is)) = one_word word next rest d is
 
-pub faulty_second : (word : List ℕ) (words : List (List ℕ)) → word ≡ codes "run" → 0 < length words → FaultyWord IsCommand (word ∷ words) 2
-faulty_second word [] first more = absurd (omega arith)
-faulty_second word (next ∷ words) first more = two_words word next words first
+pub faulty_second : (word : List ℕ) (words : List (List ℕ)) (c : Command) → Means (word ∷ []) c → 0 < length words → FaultyWord IsCommand (word ∷ words) 2
+faulty_second word [] c first more = absurd (omega arith)
+faulty_second word (next ∷ words) c first more = two_words word next words c first
+
+abbrev first_letter : List (List ℕ) → ℕ
+first_letter [] = 0
+first_letter (word ∷ words) = slice_index word 0
+
+two_letters : (letter : ℕ) → letter ≡ 114 → letter ≡ 100 → ⊥
+two_letters letter r d = omega (arith, r, d)
+
+-- no list of words is two commands
+pub run_or_dis : (words : List (List ℕ)) → Means words Run → Means words Dis → ⊥
+run_or_dis words run dis = two_letters (first_letter words) (ap first_letter run) (ap first_letter dis)

@@ -1,8 +1,8 @@
 -- A list by its first part, zeros, and the rest.
 use Rattle.std.proofs.Common.{ℕ, ◌+◌, ◌≤◌, ◌≡◌, List, [], ◌∷◌, ◌++◌, length, take, drop, replicate, All, refl, sym, ◌∙◌, ap, subst, arith}
-use Rattle.std.proofs.lemmas.List.{append_assoc, take-append-drop, drop-drop, take_at, drop_at, length-drop, length-take-le, length-replicate}
+use Rattle.std.proofs.lemmas.List.{append_assoc, append-nil, take-append-drop, drop-drop, take_at, drop_at, length-drop, length-take-le, length-replicate}
 use Rattle.std.proofs.lemmas.List.Elements.{All-head, All-tail, All-replicate}
-use Rattle.cet_top.specs.Written.{headers, gap, written, file_header, program_headers, program_header, property_note}
+use Rattle.cet_top.specs.Written.{headers, gap, data_part, written, written_text, text_address, file_header, program_headers, program_header, property_note}
 
 all_zero : (xs : List ℕ) → All (λ b. b ≡ 0) xs → xs ≡ replicate (length xs) 0
 all_zero [] each = refl
@@ -30,17 +30,24 @@ written_front m n xs head rest sized is =
       subst (λ (l : List ℕ). All (λ b. b ≡ 0) l) (sym middle) (All-replicate (λ b. b ≡ 0) n 0 refl),
     )
 
-pub length-headers : (size : ℕ) → length (headers size) ≡ 264
+-- the headers of a text alone
+abbrev pub text_headers : ℕ → List ℕ
+text_headers size = headers text_address 2 size 0
+
+pub length-headers : (size : ℕ) → length (text_headers size) ≡ 264
 unfolding headers file_header program_headers program_header property_note
 length-headers size = refl
 
--- a file is what is written exactly where its headers and the zeros after them are
-pub is_written : (bytes heads : List ℕ) → 4096 ≤ length bytes → heads ≡ headers (length (drop 4096 bytes)) → (take 264 bytes ≡ heads) × All (λ b. b ≡ 0) (take 3832 (drop 264 bytes)) → bytes ≡ written (drop 4096 bytes)
-unfolding written gap
-is_written bytes heads long are front =
-    front_written 264 3832 bytes heads long front.0 front.1 ∙ ap (λ (l : List ℕ). l ++ replicate 3832 0 ++ drop 4096 bytes) are
+-- what is written of a text alone
+front_and_text : (text : List ℕ) → text_headers (length text) ++ replicate 3832 0 ++ text ≡ written_text text
+unfolding written gap data_part
+front_and_text text = sym (append-nil (text_headers (length text) ++ replicate 3832 0 ++ text))
 
-pub has_front : (bytes heads : List ℕ) → heads ≡ headers (length (drop 4096 bytes)) → bytes ≡ written (drop 4096 bytes) → (take 264 bytes ≡ heads) × All (λ b. b ≡ 0) (take 3832 (drop 264 bytes))
-unfolding written gap
+-- a file is what is written exactly where its headers and the zeros after them are
+pub is_written : (bytes heads : List ℕ) → 4096 ≤ length bytes → heads ≡ text_headers (length (drop 4096 bytes)) → (take 264 bytes ≡ heads) × All (λ b. b ≡ 0) (take 3832 (drop 264 bytes)) → bytes ≡ written_text (drop 4096 bytes)
+is_written bytes heads long are front =
+    front_written 264 3832 bytes heads long front.0 front.1 ∙ ap (λ (l : List ℕ). l ++ replicate 3832 0 ++ drop 4096 bytes) are ∙ front_and_text (drop 4096 bytes)
+
+pub has_front : (bytes heads : List ℕ) → heads ≡ text_headers (length (drop 4096 bytes)) → bytes ≡ written_text (drop 4096 bytes) → (take 264 bytes ≡ heads) × All (λ b. b ≡ 0) (take 3832 (drop 264 bytes))
 has_front bytes heads are is =
-    written_front 264 3832 bytes heads (drop 4096 bytes) (ap length are ∙ length-headers _) (is ∙ ap (λ (l : List ℕ). l ++ replicate 3832 0 ++ drop 4096 bytes) (sym are))
+    written_front 264 3832 bytes heads (drop 4096 bytes) (ap length are ∙ length-headers _) (is ∙ sym (front_and_text (drop 4096 bytes)) ∙ ap (λ (l : List ℕ). l ++ replicate 3832 0 ++ drop 4096 bytes) (sym are))

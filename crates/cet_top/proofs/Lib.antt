@@ -1,5 +1,6 @@
 mod Appended
 mod FirstWord
+mod Listed
 mod Front
 mod Known
 mod InputReads

@@ -3,7 +3,7 @@ use Rattle.std.specs.Prelude.{ℕ, ◌≡◌, true, false, List, [], ◌∷◌, 
 use Rattle.cet_words.specs.Job.{ImageData}
 use Rattle.cet_words.specs.declared.images.Segment.{Segment}
 use Rattle.cet_top.specs.Text.{IsText}
-use Rattle.cet_top.specs.Written.{written, text_address}
+use Rattle.cet_top.specs.Written.{written_text, text_address}
 use Rattle.cet_top.specs.declared.loads.LoadFault.{LoadFault}
 use Rattle.cet_top.specs.declared.loads.LoadFault.TheVariants.{Refused, NoMemory}
 
@@ -13,7 +13,7 @@ text_of bytes = drop 4096 bytes
 
 -- the file is what is written of its text, and the text is one of those that are taken
 pub record Accepts (bytes : List ℕ) : Type 0 where
-  pub whole : bytes ≡ written (text_of bytes)
+  pub whole : bytes ≡ written_text (text_of bytes)
   pub text : IsText (text_of bytes)
 
 -- an executable segment of this text

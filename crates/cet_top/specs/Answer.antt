@@ -7,6 +7,7 @@ use Rattle.cet_cpu.specs.Machine.{Machine, Starts, run}
 use Rattle.cet_own.specs.Event.{book_of}
 use Rattle.cet_own.specs.Safe.{Safe}
 use Rattle.cet_top.specs.Accepts.{Accepts, image_of}
+use Rattle.cet_top.specs.Listing.{IsListing}
 use Rattle.cet_top.specs.Outcome.{thread_out, process_end}
 use Rattle.cet_top.specs.Report.{report_of}
 use Rattle.cet_top.specs.Schedule.{ByRobin}
@@ -19,7 +20,7 @@ use Rattle.cet_top.specs.declared.outcomes.Style.TheVariants as style
 use Rattle.cet_top.specs.declared.status.Status.{Status}
 use Rattle.cet_top.specs.declared.status.Status.TheVariants as status
 use Rattle.cet_top.specs.declared.words.Command.{Command}
-use Rattle.cet_top.specs.declared.words.Command.TheVariants.{Run}
+use Rattle.cet_top.specs.declared.words.Command.TheVariants.{Run, Dis}
 
 -- what a finished run comes to, with its last book
 abbrev pub outcome_of : Machine → Book → Outcome
@@ -71,5 +72,12 @@ pub record Runs (bytes : List ℕ) (s : Status) (output : List ℕ) : Type 0 whe
   pub accepted : Accepts bytes
   pub reported : Reports (job_of bytes) (ByRobin (job_of bytes)) style.Full s output
 
+-- a file that is accepted is listed
+pub record Disassembles (bytes : List ℕ) (s : Status) (output : List ℕ) : Type 0 where
+  pub accepted : Accepts bytes
+  pub done : s ≡ status.Done
+  pub listed : IsListing (image_of bytes).segments output
+
 abbrev pub Answers : Command → (bytes : List ℕ) → Status → (output : List ℕ) → Type 0
 Answers Run bytes s output = Refuses bytes s output ⊎ Runs bytes s output
+Answers Dis bytes s output = Refuses bytes s output ⊎ Disassembles bytes s output

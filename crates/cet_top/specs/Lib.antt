@@ -14,5 +14,6 @@ pub mod FirstStack
 pub mod Text
 pub mod Accepts
 pub mod Shown
+pub mod Listing
 pub mod Answer
 pub mod Serves

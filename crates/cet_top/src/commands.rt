@@ -1,12 +1,14 @@
 //! What the commands do, between a source and a sink.
 
-ghost use Rattle.std.specs.Prelude.{◌≡◌, ◌≤◌, Ok, IfOk};
-ghost use Rattle.cet_top.specs.Answer.{Answers, Reports, Runs, Refuses, job_of, job_with, status_of};
+ghost use Rattle.std.specs.Prelude.{◌≡◌, ◌≤◌, [], Ok, IfOk};
+ghost use Rattle.cet_top.specs.Answer.{Answers, Disassembles, Reports, Runs, Refuses, job_of, job_with, status_of};
 ghost use Rattle.cet_top.specs.Accepts.{Accepts, image_of};
+ghost use Rattle.cet_top.specs.Listing.{IsListing};
 ghost use Rattle.cet_top.specs.Schedule.{ByRobin};
 ghost use Rattle.cet_top.specs.Serves.{Serves, sink_state};
 ghost use Rattle.cet_top.specs.Stream.{source_state};
 
+use crate::listing::listing;
 use crate::loads::{LoadFault, load_form};
 use crate::outcomes::{ProcessEnd, Style};
 use crate::reports::report;
@@ -68,16 +70,45 @@ fn run_image(alloc: Global, image: &Image) -> Result<Answer, NoMemory>
     run_job(alloc, &job)
 }
 
+/// The answer to a file that isn't accepted.
+fn refused(alloc: Global, rule: u8, offset: u64) -> Answer
+    ensures { result ≡ record { status = Status.Refused rule offset; output = [] } }
+{
+    Answer {
+        status: Status::Refused { rule, offset },
+        output: Bytes::new(alloc),
+    }
+}
+
 /// Runs the image that the bytes are.
 fn run_bytes(alloc: Global, bytes: &[u8]) -> Result<Answer, NoMemory>
     ensures { IfOk result (λ answer. Answers Command.Run bytes.now answer.status answer.output) }
 {
     match load_form(alloc, bytes) {
         Ok(image) => run_image(alloc, &image),
-        Err(LoadFault::Refused { rule, offset }) => Ok(Answer {
-            status: Status::Refused { rule, offset },
-            output: Bytes::new(alloc),
-        }),
+        Err(LoadFault::Refused { rule, offset }) => Ok(refused(alloc, rule, offset)),
+        Err(LoadFault::NoMemory) => Err(NoMemory),
+    }
+}
+
+/// Lists an image.
+fn list_image(alloc: Global, image: &Image) -> Result<Answer, NoMemory>
+    ensures { IfOk result (λ answer. (answer.status ≡ Status.Done) × IsListing image.now.segments answer.output) }
+{
+    let output = listing(alloc, image)?;
+    Ok(Answer {
+        status: Status::Done,
+        output,
+    })
+}
+
+/// Lists the image that the bytes are.
+fn list_bytes(alloc: Global, bytes: &[u8]) -> Result<Answer, NoMemory>
+    ensures { IfOk result (λ answer. Answers Command.Dis bytes.now answer.status answer.output) }
+{
+    match load_form(alloc, bytes) {
+        Ok(image) => list_image(alloc, &image),
+        Err(LoadFault::Refused { rule, offset }) => Ok(refused(alloc, rule, offset)),
         Err(LoadFault::NoMemory) => Err(NoMemory),
     }
 }
@@ -88,6 +119,7 @@ fn answer_to(alloc: Global, command: Command, bytes: &[u8]) -> Result<Answer, No
 {
     match command {
         Command::Run => run_bytes(alloc, bytes),
+        Command::Dis => list_bytes(alloc, bytes),
     }
 }
 

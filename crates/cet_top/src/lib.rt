@@ -5,6 +5,9 @@ mod commands;
 mod ends;
 mod guests;
 mod lines;
+mod listing;
+#[cfg(test)]
+mod listing_tests;
 mod loads;
 mod memory_streams;
 mod outcomes;

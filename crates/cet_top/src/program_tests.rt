@@ -136,6 +136,45 @@ fn a_nop_and_no_byte_and_a_short_file_are_refused(rt: HostRuntime) -> Result<(),
     reports(&rt, rt.alloc(), &bytes, refused, "")
 }
 
+const EXIT_SEVEN_LISTING: &str = "0000000000401000 bf07000000 mov edi, 0x7
+0000000000401005 b83c000000 mov eax, 0x3c
+000000000040100a 0f05 syscall
+";
+
+const CALL_AND_RETURN_LISTING: &str = "0000000000401000 e80c000000 call rel 0xc
+0000000000401005 bf03000000 mov edi, 0x3
+000000000040100a b83c000000 mov eax, 0x3c
+000000000040100f 0f05 syscall
+0000000000401011 c3 ret
+";
+
+/// `dis` of the bytes writes the listing, and has the status.
+fn lists(
+    rt: &impl Abort,
+    alloc: Global,
+    bytes: &[u8],
+    status: Status,
+    listing: &str,
+) -> Result<(), Fail> {
+    let words = words(alloc, "dis")?;
+    let mut src = SureSource::new(alloc, bytes)?;
+    let mut sink = MemSink::new(alloc, ROOM, ROOM, &[])?;
+    assert_eq!(rt; plain(alloc, &words, &mut src, &mut sink), status);
+    assert_eq!(rt; sink.bytes(), listing.as_bytes());
+    Ok(())
+}
+
+#[test]
+fn code_is_listed(rt: HostRuntime) -> Result<(), Fail> {
+    let alloc = rt.alloc();
+    let bytes = file(alloc, &EXIT_SEVEN_TEXT)?;
+    lists(&rt, alloc, &bytes, Status::Done, EXIT_SEVEN_LISTING)?;
+    let bytes = file(alloc, &CALL_AND_RETURN_TEXT)?;
+    lists(&rt, alloc, &bytes, Status::Done, CALL_AND_RETURN_LISTING)?;
+    let refused = Status::Refused { rule: 0, offset: 0 };
+    lists(&rt, alloc, &file(alloc, &[0x90])?, refused, "")
+}
+
 #[test]
 fn a_turned_byte_of_the_header_is_refused(rt: HostRuntime) -> Result<(), Fail> {
     let mut bytes = file(rt.alloc(), &EXIT_SEVEN_TEXT)?;
@@ -196,10 +235,11 @@ fn is_usage(rt: &impl Abort, alloc: Global, text: &str, number: u32) -> Result<(
 }
 
 #[test]
-fn no_word_and_walk_and_run_x_are_usage(rt: HostRuntime) -> Result<(), Fail> {
+fn words_that_are_no_command_are_usage(rt: HostRuntime) -> Result<(), Fail> {
     is_usage(&rt, rt.alloc(), "", 1)?;
     is_usage(&rt, rt.alloc(), "walk", 1)?;
-    is_usage(&rt, rt.alloc(), "run x", 2)
+    is_usage(&rt, rt.alloc(), "run x", 2)?;
+    is_usage(&rt, rt.alloc(), "dis x", 2)
 }
 
 /// The first part of the report that stays where this write of at most 64 bytes fails.

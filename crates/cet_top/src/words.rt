@@ -1,4 +1,5 @@
-ghost use Rattle.std.specs.Prelude.{◌≡◌, ◌↔◌, IsTrue, map, codes, string_bytes, MatchResult};
+ghost use Rattle.std.specs.Prelude.{◌≡◌, ◌↔◌, ◌∷◌, [], IsTrue, map, string_bytes, MatchOption, MatchResult};
+ghost use Rattle.cet_top.specs.declared.words.Command.{Command};
 ghost use Rattle.cet_top.specs.Words.{Means, IsCommand, FaultyWord};
 
 /// A command with its options.
@@ -6,12 +7,28 @@ ghost use Rattle.cet_top.specs.Words.{Means, IsCommand, FaultyWord};
 pub(crate) enum Command {
     /// `run`: runs the image that the source gives, and reports.
     Run,
+    /// `dis`: lists the code of the image that the source gives.
+    Dis,
 }
 
-fn is_run(word: &String) -> bool
-    ensures { IsTrue result ↔ (string_bytes word.now ≡ codes "run") }
+fn is_word(word: &String, name: &str) -> bool
+    ensures { IsTrue result ↔ (string_bytes word.now ≡ name.now) }
 {
-    word.as_str() == "run"
+    word.as_str() == name
+}
+
+/// The command that begins with a word.
+fn command_of(word: &String) -> Option<Command>
+    ensures { MatchOption result ((command : Command) → ¬ Means (string_bytes word.now ∷ []) command)
+        (Means (string_bytes word.now ∷ [])) }
+{
+    if is_word(word, "run") {
+        Some(Command::Run)
+    } else if is_word(word, "dis") {
+        Some(Command::Dis)
+    } else {
+        None
+    }
 }
 
 /// Reads the words of a command. The error is the number of the first faulty word.
@@ -22,11 +39,11 @@ pub(crate) fn read_words(words: &[String]) -> Result<Command, u32>
     let Some((first, rest)) = words.split_first() else {
         return Err(1);
     };
-    if !is_run(first) {
+    let Some(command) = command_of(first) else {
         return Err(1);
-    }
+    };
     if !rest.is_empty() {
         return Err(2);
     }
-    Ok(Command::Run)
+    Ok(command)
 }

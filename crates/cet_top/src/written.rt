@@ -1,7 +1,7 @@
-ghost use Rattle.std.specs.Prelude.{◌≡◌, ◌↔◌, ◌++◌, ◌≤◌, List, length, take, drop, OnOk, IfOk, IsTrue, All};
+ghost use Rattle.std.specs.Prelude.{◌≡◌, ◌↔◌, ◌++◌, ◌+◌, ◌<◌, ◌≤◌, ◌^◌, List, length, take, drop, replicate, OnOk, IfOk, IsTrue, All};
 ghost use Rattle.std.specs.List.{flat_map};
 ghost use Rattle.cet_top.specs.Field.{field_bytes};
-ghost use Rattle.cet_top.specs.Written.{file_header, program_header, property_note, program_headers, headers, written};
+ghost use Rattle.cet_top.specs.Written.{file_header, program_header, property_note, text_header, data_header, property_header, header_count, program_headers, headers, rounded, data_part, written, written_text};
 
 use cet_base::put_bytes;
 use cet_words::{Bytes, NoMemory};
@@ -15,6 +15,9 @@ pub(crate) const TEXT_ADDRESS: u64 = 0x401000;
 
 /// The size of the headers and the property note, in bytes.
 const HEADERS_SIZE: usize = 264;
+
+/// The mark of an image for shadow stacks (GNU_PROPERTY_X86_FEATURE_1_SHSTK).
+const SHSTK: u8 = 2;
 
 /// A little-endian field of an ELF file, by the names of the System V ABI.
 #[derive(Clone, Copy, Debug, PartialEq, Eq)]
@@ -48,9 +51,17 @@ fn put_fields(alloc: Global, out: &mut Bytes, fields: &[Field]) -> Result<(), No
     Ok(())
 }
 
+/// Appends so many zeros.
+pub(crate) fn put_zeros(alloc: Global, out: &mut Bytes, count: usize) -> Result<(), NoMemory>
+    ensures { OnOk result (out.new ≡ out.old ++ replicate count 0) }
+{
+    let zeros = vec![in alloc; 0; count]?;
+    put_bytes(alloc, out, &zeros)
+}
+
 #[tactic(auto, unfolding(crate::specs::Written::file_header))]
-fn put_file_header(alloc: Global, out: &mut Bytes) -> Result<(), NoMemory>
-    ensures { OnOk result (out.new ≡ out.old ++ file_header) }
+fn put_file_header(alloc: Global, out: &mut Bytes, entry: u64, count: u16) -> Result<(), NoMemory>
+    ensures { OnOk result (out.new ≡ out.old ++ file_header entry count) }
 {
     let fields = [
         Field::Word(0x464c_457f),
@@ -62,13 +73,13 @@ fn put_file_header(alloc: Global, out: &mut Bytes) -> Result<(), NoMemory>
         Field::Half(2),
         Field::Half(62),
         Field::Word(1),
-        Field::Xword(TEXT_ADDRESS),
+        Field::Xword(entry),
         Field::Xword(64),
         Field::Xword(0),
         Field::Word(0),
         Field::Half(64),
         Field::Half(56),
-        Field::Half(2),
+        Field::Half(count),
         Field::Half(0),
         Field::Half(0),
         Field::Half(0),
@@ -109,8 +120,8 @@ fn put_program_header(
 }
 
 #[tactic(auto, unfolding(crate::specs::Written::property_note))]
-fn put_property_note(alloc: Global, out: &mut Bytes) -> Result<(), NoMemory>
-    ensures { OnOk result (out.new ≡ out.old ++ property_note) }
+fn put_property_note(alloc: Global, out: &mut Bytes, mark: u8) -> Result<(), NoMemory>
+    ensures { OnOk result (out.new ≡ out.old ++ property_note mark) }
 {
     let fields = [
         Field::Word(4),
@@ -119,18 +130,16 @@ fn put_property_note(alloc: Global, out: &mut Bytes) -> Result<(), NoMemory>
         Field::Word(0x0055_4e47),
         Field::Word(0xc000_0002),
         Field::Word(4),
-        Field::Word(2),
+        Field::Word(u32::from(mark)),
         Field::Word(0),
     ];
     put_fields(alloc, out, &fields)
 }
 
-/// Appends the header of a text of this size and that of the property note.
-#[tactic(auto, unfolding(crate::specs::Written::program_headers))]
-fn put_program_headers(alloc: Global, out: &mut Bytes, size: u64) -> Result<(), NoMemory>
-    ensures { OnOk result (out.new ≡ out.old ++ program_headers size) }
+fn put_text_header(alloc: Global, out: &mut Bytes, size: u64) -> Result<(), NoMemory>
+    ensures { OnOk result (out.new ≡ out.old ++ text_header size) }
 {
-    let text = ProgramHeader {
+    let header = ProgramHeader {
         kind: 1,
         rights: 5,
         offset: TEXT_OFFSET as u64,
@@ -138,7 +147,44 @@ fn put_program_headers(alloc: Global, out: &mut Bytes, size: u64) -> Result<(), 
         size,
         align: 4096,
     };
-    let property = ProgramHeader {
+    put_program_header(alloc, out, &header)
+}
+
+/// The next multiple of 4,096.
+fn rounded(size: u64) -> u64
+    requires { size < 2 ^ 63 }
+    ensures value { result ≡ rounded size }
+    ensures near { result < size + 4096 }
+{
+    (size + 4095) / 4096 * 4096
+}
+
+/// Appends the header of data of this size behind a text of that size.
+fn put_data_header(
+    alloc: Global,
+    out: &mut Bytes,
+    size: u64,
+    data_size: u64,
+) -> Result<(), NoMemory>
+    requires { size < 2 ^ 63 }
+    ensures { OnOk result (out.new ≡ out.old ++ data_header size data_size) }
+{
+    let behind = rounded(size);
+    let header = ProgramHeader {
+        kind: 1,
+        rights: 6,
+        offset: TEXT_OFFSET as u64 + behind,
+        address: TEXT_ADDRESS + behind,
+        size: data_size,
+        align: 4096,
+    };
+    put_program_header(alloc, out, &header)
+}
+
+fn put_property_header(alloc: Global, out: &mut Bytes) -> Result<(), NoMemory>
+    ensures { OnOk result (out.new ≡ out.old ++ property_header) }
+{
+    let header = ProgramHeader {
         kind: 0x6474_e553,
         rights: 4,
         offset: 232,
@@ -146,20 +192,84 @@ fn put_program_headers(alloc: Global, out: &mut Bytes, size: u64) -> Result<(), 
         size: 32,
         align: 8,
     };
-    put_program_header(alloc, out, &text)?;
-    put_program_header(alloc, out, &property)
+    put_program_header(alloc, out, &header)
 }
 
-/// The headers and the note of a file whose text has this size.
+/// Appends the program headers, and zeros up to the note.
+#[tactic(auto, unfolding(crate::specs::Written::program_headers))]
+fn put_program_headers(
+    alloc: Global,
+    out: &mut Bytes,
+    size: u64,
+    data_size: u64,
+) -> Result<(), NoMemory>
+    requires { size < 2 ^ 63 }
+    ensures { OnOk result (out.new ≡ out.old ++ program_headers size data_size) }
+{
+    put_text_header(alloc, out, size)?;
+    if data_size == 0 {
+        put_property_header(alloc, out)?;
+        put_bytes(alloc, out, &[0; 56])
+    } else {
+        put_data_header(alloc, out, size, data_size)?;
+        put_property_header(alloc, out)
+    }
+}
+
+fn header_count(data_size: u64) -> u16
+    ensures { result ≡ header_count data_size }
+{
+    if data_size == 0 { 2 } else { 3 }
+}
+
+/// The headers and the note of a file whose text and data have these sizes.
 #[tactic(auto, unfolding(crate::specs::Written::headers))]
-fn headers(alloc: Global, size: u64) -> Result<Bytes, NoMemory>
-    ensures { IfOk result (λ bytes. bytes ≡ headers size) }
+fn headers(
+    alloc: Global,
+    entry: u64,
+    mark: u8,
+    size: u64,
+    data_size: u64,
+) -> Result<Bytes, NoMemory>
+    requires { size < 2 ^ 63 }
+    ensures { IfOk result (λ bytes. bytes ≡ headers entry mark size data_size) }
 {
     let mut out = Bytes::new(alloc);
-    put_file_header(alloc, &mut out)?;
-    put_program_headers(alloc, &mut out, size)?;
-    put_bytes(alloc, &mut out, &[0; 56])?;
-    put_property_note(alloc, &mut out)?;
+    put_file_header(alloc, &mut out, entry, header_count(data_size))?;
+    put_program_headers(alloc, &mut out, size, data_size)?;
+    put_property_note(alloc, &mut out, mark)?;
+    Ok(out)
+}
+
+/// Appends what stands behind a text of this size.
+#[tactic(auto, unfolding(crate::specs::Written::data_part))]
+fn put_data(alloc: Global, out: &mut Bytes, size: u64, static_data: &[u8]) -> Result<(), NoMemory>
+    requires { size < 2 ^ 63 }
+    ensures { OnOk result (out.new ≡ out.old ++ data_part size static_data.now) }
+{
+    if static_data.len() == 0 {
+        return Ok(());
+    }
+    put_zeros(alloc, out, (rounded(size) - size) as usize)?;
+    put_bytes(alloc, out, static_data)
+}
+
+/// Writes the file of a program: its text at `TEXT_ADDRESS`, its data at the next page, its entry's
+/// address, and its mark (GNU_PROPERTY_X86_FEATURE_1: IBT is bit 0, SHSTK bit 1).
+pub(crate) fn write(
+    alloc: Global,
+    text: &[u8],
+    static_data: &[u8],
+    entry: u64,
+    mark: u8,
+) -> Result<Bytes, NoMemory>
+    ensures { IfOk result (λ bytes. bytes ≡ written text.now static_data.now entry mark) }
+{
+    let size = text.len() as u64;
+    let mut out = headers(alloc, entry, mark, size, static_data.len() as u64)?;
+    put_zeros(alloc, &mut out, TEXT_OFFSET - HEADERS_SIZE)?;
+    put_bytes(alloc, &mut out, text)?;
+    put_data(alloc, &mut out, size, static_data)?;
     Ok(out)
 }
 
@@ -187,11 +297,13 @@ fn has_front(bytes: &[u8], headers: &[u8]) -> bool
     same && is_zero(gap)
 }
 
-/// Whether a file is what is written of the text behind its first 4,096 bytes.
+/// Whether a file is what is written of the text behind its first 4,096 bytes, without data, and with the
+/// text's first byte as the entry.
 pub(crate) fn is_written(alloc: Global, bytes: &[u8]) -> Result<bool, NoMemory>
     requires { 4096 ≤ length bytes.now }
-    ensures { IfOk result (λ yes. IsTrue yes ↔ (bytes.now ≡ written (drop 4096 bytes.now))) }
+    ensures { IfOk result (λ yes. IsTrue yes ↔ (bytes.now ≡ written_text (drop 4096 bytes.now))) }
 {
-    let headers = headers(alloc, (bytes.len() - TEXT_OFFSET) as u64)?;
+    let size = (bytes.len() - TEXT_OFFSET) as u64;
+    let headers = headers(alloc, TEXT_ADDRESS, SHSTK, size, 0)?;
     Ok(has_front(bytes, headers.as_slice()))
 }
