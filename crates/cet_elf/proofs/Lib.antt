@@ -1,2 +1,4 @@
 pub mod HeaderLemmas
+pub mod ImageLemmas
 pub mod NoteLemmas
+pub mod RuleLemmas

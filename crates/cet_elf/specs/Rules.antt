@@ -85,18 +85,20 @@ is_apart hs h = not (list_any (precedes h) hs)
 abbrev pub has_entry : ℕ → ProgramHeader → Bool
 has_entry addr h = is_load h && is_executable h && nat_le h.address addr && nat_lt addr (h.address + h.memory_size)
 
--- Of the program headers, for a file of this size, this entry (e_entry) and these feature bits: no PT_INTERP, PT_LOAD
--- with its bytes in the file, in the image range, aligned, guarded and apart, the entry in code, marked SHSTK.
-unfoldable pub header_breaches : ℕ → ℕ → ℕ → List ProgramHeader → List (Option ℕ)
-header_breaches size entry marks hs =
-    header_breach (λ h. not (is_interpreter h)) hs ∷ load_breach (is_filled size) hs ∷ load_breach is_placed hs
+-- Of the program headers, with these feature bits: no PT_INTERP, each PT_LOAD with its bytes in the file, in the image
+-- range, aligned, guarded and apart, the entry (e_entry) in code, marked SHSTK.
+unfoldable pub header_breaches : List ℕ → ℕ → List ProgramHeader → List (Option ℕ)
+header_breaches bytes marks hs =
+    header_breach (λ h. not (is_interpreter h)) hs ∷ load_breach (is_filled (length bytes)) hs ∷ load_breach is_placed hs
     ∷ load_breach is_aligned hs ∷ load_breach is_guarded hs ∷ load_breach (is_apart hs) hs
-    ∷ unless (list_any (has_entry entry) hs) 24 ∷ unless (has_stacks marks) 0 ∷ []
+    ∷ unless (list_any (has_entry (xword bytes 24)) hs) 24 ∷ unless (has_stacks marks) 0 ∷ []
+
+abbrev pub later_breaches : List ℕ → List (Option ℕ)
+later_breaches bytes = header_breaches bytes (features bytes) (headers bytes)
 
 -- where a file breaks each of the fourteen rules
 abbrev pub breaches : List ℕ → List (Option ℕ)
-breaches bytes =
-    file_breaches bytes ++ header_breaches (length bytes) (xword bytes 24) (features bytes) (headers bytes)
+breaches bytes = file_breaches bytes ++ later_breaches bytes
 
 -- where a file breaks a rule, by its number from 1 on, or None where the rule holds
 unfoldable pub breach : ℕ → List ℕ → Option ℕ

@@ -1,8 +1,9 @@
 ghost use Rattle.std.specs.Prelude.{◌≡◌, ◌≤◌, ◌+◌, ◌++◌, ◌∷◌, [], true, length, IfOk, OnOk, All};
 ghost use Rattle.cet_words.specs.Job.{IsImage};
-ghost use Rattle.cet_elf.specs.Headers.{xword, is_load};
+ghost use Rattle.cet_elf.specs.Headers.{xword, headers, is_load};
 ghost use Rattle.cet_elf.specs.Accepts.{segment_of, segments_of, image_from, Loads};
-ghost use Rattle.cet_elf.specs.Refusals.{Refusal};
+ghost use Rattle.cet_elf.specs.Refusals.{HoldBelow, Refusal};
+ghost use Rattle.cet_elf.specs.Rules.{file_breaches};
 
 use crate::headers::{ProgramHeader, headers, is_executable, is_load, is_writable, xword};
 use crate::notes::{features, has_stacks, has_tracking};
@@ -97,6 +98,7 @@ fn segments(
 }
 
 /// The image of a file whose rules hold.
+#[tactic(auto, unfolding(crate::specs::Accepts::image_from))]
 fn image(
     alloc: Global,
     bytes: &[u8],
@@ -116,6 +118,21 @@ fn image(
     })
 }
 
+/// Loads a file whose rules 1 to 6 hold, by its program headers.
+fn load_headers(
+    alloc: Global,
+    bytes: &[u8],
+    table: &[ProgramHeader],
+) -> Result<Image, LoadFault>
+    requires file { HoldBelow 6 (file_breaches bytes.now) }
+    requires headers { table.now ≡ headers bytes.now }
+    ensures { Loads bytes.now result }
+{
+    let features = features(bytes, table);
+    refuse_broken(&header_breaches(bytes, features, table), 7)?;
+    Ok(image(alloc, bytes, features, table)?)
+}
+
 /// Loads a file: its image, with one segment for each PT_LOAD in the order of the table, or the first of
 /// the fourteen rules that it breaks.
 pub fn load(alloc: Global, bytes: &[u8]) -> Result<Image, LoadFault>
@@ -123,9 +140,5 @@ pub fn load(alloc: Global, bytes: &[u8]) -> Result<Image, LoadFault>
 {
     refuse_broken(&file_breaches(bytes), 1)?;
     let headers = headers(alloc, bytes)?;
-    let features = features(bytes, headers.as_slice());
-    let size = bytes.len() as u64;
-    let breaches = header_breaches(size, xword(bytes, 24), features, headers.as_slice());
-    refuse_broken(&breaches, 7)?;
-    Ok(image(alloc, bytes, features, headers.as_slice())?)
+    load_headers(alloc, bytes, headers.as_slice())
 }

@@ -216,25 +216,23 @@ fn entry_breach(entry: u64, headers: &[ProgramHeader]) -> Option<u64>
     unless(is_entered(entry, headers), 24)
 }
 
-/// Where the program headers break each of the rules 7 to 14, in a file of this size with this entry and
-/// these feature bits.
+/// Where the program headers of a file with these feature bits break each of the rules 7 to 14.
 #[tactic(auto, unfolding(crate::specs::Rules::header_breaches))]
 pub(crate) fn header_breaches(
-    size: u64,
-    entry: u64,
+    bytes: &[u8],
     features: u32,
     headers: &[ProgramHeader],
 ) -> [Option<u64>; 8]
-    ensures { result ≡ header_breaches size entry features headers.now }
+    ensures { result ≡ header_breaches bytes.now features headers.now }
 {
     [
         interpreter_breach(headers),
-        filled_breach(size, headers),
+        filled_breach(bytes.len() as u64, headers),
         placed_breach(headers),
         aligned_breach(headers),
         guarded_breach(headers),
         apart_breach(headers),
-        entry_breach(entry, headers),
+        entry_breach(xword(bytes, 24), headers),
         unless(has_stacks(features), 0),
     ]
 }
