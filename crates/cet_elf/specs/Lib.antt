@@ -3,3 +3,4 @@ pub mod Headers
 pub mod Notes
 pub mod Refusals
 pub mod Rules
+pub mod Written

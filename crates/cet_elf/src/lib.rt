@@ -4,6 +4,10 @@
 mod headers;
 mod loads;
 mod notes;
+mod program;
 mod rules;
+mod written;
 
 pub use loads::{LoadFault, load};
+pub use program::Program;
+pub use written::write;
