@@ -23,8 +23,8 @@ none_found : {X : Type 0} (p : X → Bool) (xs : List X) → find p xs ≡ None 
 none_found p [] e = tt
 none_found p (x ∷ xs) e =
     elim (p x) as (λ b. p x ≡ b → cond b (Some x) (find p xs) ≡ None → AllByRecursion (λ y. p y ≡ false) (x ∷ xs)) [
-      true ↦ λ is f. absurd (none-some x (sym f))
-    | false ↦ λ is f. (is, none_found p xs f)
+      | true ↦ λ is f. absurd (none-some x (sym f))
+      | false ↦ λ is f. (is, none_found p xs f)
     ] refl e
 
 map_none : {X Y : Type 0} (f : X → Y) (o : Option X) → option_map f o ≡ None → o ≡ None
@@ -105,12 +105,12 @@ third false b c e p q = cc
 apart : (bytes : List ℕ) (g h : ProgramHeader) → shares_page g h ≡ false → SharesNoPage (segment_of bytes g) (segment_of bytes h)
 apart bytes g h e =
     elim (four (ltb 0 g.memory_size) (ltb 0 h.memory_size) (ends_before g h) (ends_before h g) e) [
-      inl a ↦ inl (omega (arith, ltb-false 0 g.memory_size a))
-    | inr o ↦ elim o [
-        inl b ↦ inr (inl (omega (arith, ltb-false 0 h.memory_size b)))
-      | inr p ↦ elim p [
-          inl c ↦ inr (inr (inl (ltb-true ((g.address + g.memory_size - 1) / 4096) (h.address / 4096) c)))
-        | inr d ↦ inr (inr (inr (ltb-true ((h.address + h.memory_size - 1) / 4096) (g.address / 4096) d)))
+      | inl a ↦ inl (omega (arith, ltb-false 0 g.memory_size a))
+      | inr o ↦ elim o [
+        | inl b ↦ inr (inl (omega (arith, ltb-false 0 h.memory_size b)))
+        | inr p ↦ elim p [
+          | inl c ↦ inr (inr (inl (ltb-true ((g.address + g.memory_size - 1) / 4096) (h.address / 4096) c)))
+          | inr d ↦ inr (inr (inr (ltb-true ((h.address + h.memory_size - 1) / 4096) (g.address / 4096) d)))
         ]
       ]
     ]

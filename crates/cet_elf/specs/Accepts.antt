@@ -28,7 +28,7 @@ segment_of bytes h = record {
   bytes = slice_range bytes h.offset (h.offset + h.file_size);
   size = h.memory_size;
   write = is_writable h;
-  exec = is_executable h
+  exec = is_executable h;
 }
 
 -- the segments of these headers, in their order
@@ -42,7 +42,7 @@ image_from bytes marks hs = record {
   entry = xword bytes 24;
   marked = has_stacks marks;
   tracked = has_tracking marks;
-  segments = segments_of bytes hs
+  segments = segments_of bytes hs;
 }
 
 abbrev pub image_of : List ℕ → ImageData

@@ -24,7 +24,7 @@ header_at bytes at = record {
   offset = xword bytes (at + 8);
   address = xword bytes (at + 16);
   file_size = xword bytes (at + 32);
-  memory_size = xword bytes (at + 40)
+  memory_size = xword bytes (at + 40);
 }
 
 -- so many program headers of 56 bytes, from a place on

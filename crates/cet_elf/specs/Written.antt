@@ -1,8 +1,9 @@
 -- The file of a program: a file header, the program headers, a property note, and at multiples of 4096 the text and the
 -- data. Source: System V ABI, ELF-64 object files; for the property note the x86-64 supplement. The choice of fields and
 -- places is own.
-use Rattle.std.specs.Prelude.{ℕ, ◌+◌, ◌-◌, ◌*◌, ◌/◌, Bool, ◌==◌, if◌then◌else◌, List, [], ◌∷◌, ◌++◌, length, replicate}
+use Rattle.std.specs.Prelude.{ℕ, ◌+◌, ◌≤◌, ◌<◌, IsTrue, ◌-◌, ◌*◌, ◌/◌, Bool, ◌==◌, if◌then◌else◌, List, [], ◌∷◌, ◌++◌, length, replicate}
 use Rattle.std.specs.Int.{w16, w32, w64, to_le_bytes}
+use Rattle.cet_elf.specs.Notes.{has_stacks}
 use Rattle.cet_elf.specs.declared.program.Program.{Program}
 use Rattle.cet_elf.specs.declared.written.Field.{Field}
 use Rattle.cet_elf.specs.declared.written.Field.TheVariants.{Byte, Half, Word, Xword}
@@ -59,8 +60,8 @@ unfoldable pub note_header : List ℕ
 note_header = program_header 0x6474e553 4 232 0 32 8
 
 -- what stands before the note, for a text and for data of these sizes: there is no header for no data
-unfoldable pub headers : ℕ → ℕ → ℕ → List ℕ
-headers text data_size entry =
+unfoldable pub front : ℕ → ℕ → ℕ → List ℕ
+front text data_size entry =
     if data_size == 0 then file_header entry 2 ++ text_header text ++ note_header ++ zeros 56
     else file_header entry 3 ++ text_header text ++ data_header text data_size ++ note_header
 
@@ -71,9 +72,18 @@ data_part text static_data =
 
 unfoldable pub written_of : List ℕ → List ℕ → ℕ → ℕ → List ℕ
 written_of text static_data entry mark =
-    headers (length text) (length static_data) entry ++ property_note mark ++ zeros 3832 ++ text
+    front (length text) (length static_data) entry ++ property_note mark ++ zeros 3832 ++ text
     ++ data_part (length text) static_data
 
 -- the file of a program
 abbrev pub written : Program → List ℕ
 written p = written_of p.text p.static_data p.entry p.mark
+
+-- The text isn't empty, the entry is in it, the mark is one for shadow stacks, and the text's pages and the data fit the
+-- image range.
+pub record IsLoadable (text static_data : List ℕ) (entry mark : ℕ) : Type 0 where
+  pub some : 1 ≤ length text
+  pub low : text_address ≤ entry
+  pub high : entry < text_address + length text
+  pub marked : IsTrue (has_stacks mark)
+  pub fits : rounded (length text) + length static_data ≤ 4190208

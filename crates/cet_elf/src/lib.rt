@@ -6,6 +6,8 @@ mod loads;
 mod notes;
 mod program;
 mod rules;
+#[cfg(test)]
+mod tests;
 mod written;
 
 pub use loads::{LoadFault, load};

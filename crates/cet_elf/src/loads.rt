@@ -82,11 +82,7 @@ fn push_segment(
 }
 
 /// The segments of program headers.
-fn segments(
-    alloc: Global,
-    bytes: &[u8],
-    headers: &[ProgramHeader],
-) -> Result<Segments, NoMemory>
+fn segments(alloc: Global, bytes: &[u8], headers: &[ProgramHeader]) -> Result<Segments, NoMemory>
     requires { All (λ h. is_load h ≡ true → h.offset + h.file_size ≤ length bytes.now) headers.now }
     ensures { IfOk result (λ segments. segments ≡ segments_of bytes.now headers.now) }
 {
@@ -119,11 +115,7 @@ fn image(
 }
 
 /// Loads a file whose rules 1 to 6 hold, by its program headers.
-fn load_headers(
-    alloc: Global,
-    bytes: &[u8],
-    table: &[ProgramHeader],
-) -> Result<Image, LoadFault>
+fn load_headers(alloc: Global, bytes: &[u8], table: &[ProgramHeader]) -> Result<Image, LoadFault>
     requires file { HoldBelow 6 (file_breaches bytes.now) }
     requires headers { table.now ≡ headers bytes.now }
     ensures { Loads bytes.now result }

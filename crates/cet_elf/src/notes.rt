@@ -68,7 +68,11 @@ fn description<'a>(bytes: &'a [u8], header: &ProgramHeader) -> &'a [u8]
     let at = header.offset as usize;
     let size = word(bytes, at + 4) as usize;
     let rest = &bytes[at + 16..];
-    if size < rest.len() { &rest[..size] } else { rest }
+    if size < rest.len() {
+        &rest[..size]
+    } else {
+        rest
+    }
 }
 
 #[tactic(auto, unfolding(crate::specs::Notes::note_feature))]

@@ -9,6 +9,7 @@ use crate::notes::has_stacks;
 
 /// The first address of the image range, and the one past its end.
 const IMAGE_START: u64 = 0x400000;
+
 const IMAGE_END: u64 = 0x800000;
 
 /// PT_INTERP, the type of a program header.

@@ -1,6 +1,6 @@
 ghost use Rattle.std.specs.Prelude.{◌≡◌, ◌++◌, ◌^◌, ◌<◌, length, OnOk, IfOk};
 ghost use Rattle.std.specs.List.{flat_map};
-ghost use Rattle.cet_elf.specs.Written.{field_bytes, zeros, rounded, file_header, program_header, property_note, text_header, data_header, note_header, headers, data_part, written_of, written};
+ghost use Rattle.cet_elf.specs.Written.{field_bytes, zeros, rounded, file_header, program_header, property_note, text_header, data_header, note_header, front, data_part, written_of, written};
 
 use crate::program::Program;
 use cet_base::put_bytes;
@@ -46,12 +46,7 @@ fn put_fields(alloc: Global, out: &mut Bytes, fields: &[Field]) -> Result<(), No
 }
 
 #[tactic(auto, unfolding(crate::specs::Written::file_header))]
-fn put_file_header(
-    alloc: Global,
-    out: &mut Bytes,
-    entry: u64,
-    count: u16,
-) -> Result<(), NoMemory>
+fn put_file_header(alloc: Global, out: &mut Bytes, entry: u64, count: u16) -> Result<(), NoMemory>
     ensures { OnOk result (out.new ≡ out.old ++ file_header entry count) }
 {
     let fields = [
@@ -184,9 +179,9 @@ fn put_property_note(alloc: Global, out: &mut Bytes, mark: u8) -> Result<(), NoM
 }
 
 /// The headers of a file with no data, and zeros up to the note.
-#[tactic(auto, unfolding(crate::specs::Written::headers))]
+#[tactic(auto, unfolding(crate::specs::Written::front))]
 fn text_headers(alloc: Global, text_size: u64, entry: u64) -> Result<Bytes, NoMemory>
-    ensures { IfOk result (λ bytes. bytes ≡ headers text_size 0 entry) }
+    ensures { IfOk result (λ bytes. bytes ≡ front text_size 0 entry) }
 {
     let mut out = Bytes::new(alloc);
     put_file_header(alloc, &mut out, entry, 2)?;
@@ -197,7 +192,7 @@ fn text_headers(alloc: Global, text_size: u64, entry: u64) -> Result<Bytes, NoMe
 }
 
 /// The headers of a file with data.
-#[tactic(auto, unfolding(crate::specs::Written::headers))]
+#[tactic(auto, unfolding(crate::specs::Written::front))]
 fn data_headers(
     alloc: Global,
     text_size: u64,
@@ -206,7 +201,7 @@ fn data_headers(
 ) -> Result<Bytes, NoMemory>
     requires room { text_size < 2 ^ 63 }
     requires some { 0 < data_size }
-    ensures { IfOk result (λ bytes. bytes ≡ headers text_size data_size entry) }
+    ensures { IfOk result (λ bytes. bytes ≡ front text_size data_size entry) }
 {
     let mut out = Bytes::new(alloc);
     put_file_header(alloc, &mut out, entry, 3)?;
@@ -217,14 +212,9 @@ fn data_headers(
 }
 
 /// What stands before the note.
-fn headers(
-    alloc: Global,
-    text_size: u64,
-    data_size: u64,
-    entry: u64,
-) -> Result<Bytes, NoMemory>
+fn headers(alloc: Global, text_size: u64, data_size: u64, entry: u64) -> Result<Bytes, NoMemory>
     requires { text_size < 2 ^ 63 }
-    ensures { IfOk result (λ bytes. bytes ≡ headers text_size data_size entry) }
+    ensures { IfOk result (λ bytes. bytes ≡ front text_size data_size entry) }
 {
     if data_size == 0 {
         text_headers(alloc, text_size, entry)
