@@ -94,11 +94,12 @@ abbrev properties : ℕ → List ℕ
 properties mark = to_le_bytes w32 0xc0000002 ++ to_le_bytes w32 4 ++ to_le_bytes w32 mark ++ to_le_bytes w32 0
 
 feature_read : (mark : ℕ) → mark < 2 ^ 32 → feature (properties mark) ≡ Some mark
+unfolding word
 feature_read mark small =
     found_here 16 (properties mark) (lit< tt) refl ∙ field_here w32 (properties mark) (to_le_bytes w32 mark) 8 (omega arith) refl
     ∙ ap (λ n. Some n) (from_le_bytes-to_le_bytes_4 mark small)
 
-note_size : (mark : ℕ) → length (property_note mark) ≡ 32
+pub note_size : (mark : ℕ) → length (property_note mark) ≡ 32
 unfolding property_note
 note_size mark = refl
 

@@ -2,6 +2,9 @@
 use Rattle.std.proofs.Common.{◌≡◌, ℕ, ◌+◌, ◌-◌, ◌*◌, ◌/◌, ◌<◌, ◌≤◌, ◌^◌, Bool, true, false, cond, eqb, List, [], ◌∷◌, ◌++◌, length, Some, refl, ap, sym, ◌∙◌, subst, arith, length-append, append_assoc, lit<}
 use Rattle.std.proofs.lemmas.List.{length-replicate}
 use Rattle.std.proofs.lemmas.Bool.{eqb-true, eqb-false}
+use Rattle.std.specs.Prelude.{Result, IfOk}
+use Rattle.std.proofs.lemmas.Result.{IfOk-weaker}
+use Rattle.cet_words.specs.declared.lists.NoMemory.{NoMemory}
 use Rattle.cet_elf.specs.Headers.{headers, header_at}
 use Rattle.cet_elf.specs.Notes.{has_stacks, note_feature}
 use Rattle.cet_elf.specs.Accepts.{Accepts}
@@ -129,8 +132,8 @@ by_data text static_data entry mark true e small marked h =
     let high = h.high in
     let fits = h.fits in
     subst (λ (l : List ℕ). Accepts l) (sym (written_none text static_data entry mark e))
-    (one_file entry s mark (zeros 56) tail (length-replicate 56 0) small
-    (omega (arith, length-append (zeros 3832) (text ++ []), length-append text [], length-replicate 3832 0)) (omega arith) low high marked)
+    (one_file entry s mark (zeros 56) tail (length-replicate {A = ℕ} 56 0) small
+    (omega (arith, length-append (zeros 3832) (text ++ []), length-append text [], length-replicate {A = ℕ} 3832 0)) (omega arith) low high marked)
 by_data text static_data entry mark false e small marked h =
     let s = length text in
     let d = length static_data in
@@ -142,7 +145,14 @@ by_data text static_data entry mark false e small marked h =
     let fits = h.fits in
     subst (λ (l : List ℕ). Accepts l) (sym (written_some text static_data entry mark e))
     (two_file entry s d mark tail small h.some
-    (omega (arith, length-append (zeros 3832) (text ++ (gap ++ static_data)), length-append text (gap ++ static_data), length-append gap static_data, length-replicate 3832 0, length-replicate (rounded s - s) 0)) (omega arith) low high marked)
+    (omega (arith, length-append (zeros 3832) (text ++ (gap ++ static_data)), length-append text (gap ++ static_data), length-append gap static_data, length-replicate {A = ℕ} 3832 0, length-replicate {A = ℕ} (rounded s - s) 0)) (omega arith) low high marked)
 
 pub accepted : (text static_data : List ℕ) (entry mark : ℕ) → mark < 2 ^ 32 → IsLoadable text static_data entry mark → Accepts (written_of text static_data entry mark)
 accepted text static_data entry mark small h = by_data text static_data entry mark (eqb (length static_data) 0) refl small h.marked h
+
+pub all_accepted : (text static_data x y : List ℕ) (entry mark : ℕ) (r : Result (List ℕ) NoMemory) → x ≡ text → y ≡ static_data → IfOk r (λ bytes. bytes ≡ written_of x y entry mark) → mark < 2 ^ 32 → IsLoadable text static_data entry mark → IfOk r Accepts
+all_accepted text static_data x y entry mark r text_is data_is is small h =
+    let same : written_of x y entry mark ≡ written_of text static_data entry mark
+    = ap (λ l. written_of l y entry mark) text_is ∙ ap (λ l. written_of text l entry mark) data_is in
+    IfOk-weaker r (λ bytes. bytes ≡ written_of x y entry mark) Accepts
+    (λ bytes e. subst (λ (l : List ℕ). Accepts l) (sym (e ∙ same)) (accepted text static_data entry mark small h)) is

@@ -1,6 +1,7 @@
 ghost use Rattle.std.specs.Prelude.{◌≡◌, ◌++◌, ◌^◌, ◌<◌, length, OnOk, IfOk};
 ghost use Rattle.std.specs.List.{flat_map};
-ghost use Rattle.cet_elf.specs.Written.{field_bytes, zeros, rounded, file_header, program_header, property_note, text_header, data_header, note_header, front, data_part, written_of, written};
+ghost use Rattle.cet_elf.specs.Written.{field_bytes, zeros, rounded, file_header, program_header, property_note, text_header, data_header, note_header, front, data_part, written_of, written, IsLoadable};
+ghost use Rattle.cet_elf.specs.Accepts.{Accepts};
 
 use crate::program::Program;
 use cet_base::put_bytes;
@@ -272,7 +273,9 @@ fn write_parts(
 /// Writes a program's file: its headers, a property note with its mark, its text at 4096, and its data, if
 /// it has any, at the next multiple of 4096.
 pub fn write(alloc: Global, program: &Program) -> Result<Bytes, NoMemory>
-    ensures { IfOk result (λ bytes. bytes ≡ written program.now) }
+    ensures bytes { IfOk result (λ bytes. bytes ≡ written program.now) }
+    ensures accepted { let p = program.now in
+        IsLoadable p.text p.static_data p.entry p.mark → IfOk result Accepts }
 {
     write_parts(
         alloc,
