@@ -1,5 +1,5 @@
 -- Fields of bytes that are put together.
-use Rattle.std.proofs.Common.{◌≡◌, ℕ, ◌+◌, ◌-◌, ◌<◌, ◌≤◌, ◌^◌, Bool, true, cond, leb, List, [], ◌∷◌, ◌++◌, length, take, drop, Option, Some, None, unwrap_or, refl, ap, sym, ◌∙◌, arith, length-append, le-leb}
+use Rattle.std.proofs.Common.{◌≡◌, ℕ, ◌+◌, ◌-◌, ◌<◌, ◌≤◌, ◌^◌, List, ◌++◌, length, take, drop, Some, unwrap_or, refl, ap, sym, ◌∙◌, arith, length-append, le-leb}
 use Rattle.std.specs.Prelude.{slice_range}
 use Rattle.std.specs.Int.{Width, w16, w32, w64, byte_len, from_le_bytes, to_le_bytes}
 use Rattle.std.proofs.Math.Seq.{drop-append-add}
@@ -7,7 +7,6 @@ use Rattle.std.proofs.lemmas.Nat.{from_le_bytes-to_le_bytes_2, from_le_bytes-to_
 use Rattle.cet_base.specs.Fields.{field_at}
 use Rattle.cet_elf.specs.Headers.{half, word, xword, header_at}
 use Rattle.cet_elf.specs.Written.{program_header}
-use Rattle.cet_elf.specs.declared.headers.ProgramHeader.{ProgramHeader}
 
 -- a field that is wholly inside
 pub field_here : (w : Width) (bytes field : List ℕ) (at : ℕ) → at + byte_len w ≤ length bytes → slice_range bytes at (at + byte_len w) ≡ field → field_at w bytes at ≡ Some (from_le_bytes w field)

@@ -1,5 +1,5 @@
 -- The fourteen rules in a row.
-use Rattle.std.proofs.Common.{◌≡◌, ℕ, zero, suc, ◌+◌, ◌-◌, ◌*◌, ◌<◌, ◌≤◌, Bool, true, false, List, [], ◌∷◌, ◌++◌, length, get_or, Option, Some, None, Result, Ok, Err, ap, sym, ◌∙◌, refl, ◌&&◌, eqb, ltb, leb, subst, arith, lit<}
+use Rattle.std.proofs.Common.{◌≡◌, ℕ, ◌+◌, ◌-◌, ◌*◌, ◌<◌, ◌≤◌, Bool, true, false, List, length, get_or, Option, None, Result, Err, ap, sym, ◌∙◌, refl, ◌&&◌, eqb, ltb, leb, subst, arith, lit<}
 use Rattle.std.specs.Option.{option_or}
 use Rattle.std.proofs.lemmas.List.{get_or_append_left, get_or-append-add}
 use Rattle.std.proofs.lemmas.Bool.{ltb-true, ltb-false, leb-true}
@@ -8,8 +8,8 @@ use Rattle.cet_elf.specs.Notes.{features_of, features}
 use Rattle.std.specs.List.{list_any}
 use Rattle.cet_words.specs.Job.{ImageData}
 use Rattle.cet_elf.specs.Rules.{unless, file_breaches, later_breaches, header_breaches, table_breach, breaches, breach, load_breach, is_filled, is_placed, is_guarded, is_apart, has_entry}
-use Rattle.cet_elf.specs.Refusals.{HoldBelow, BrokenFirst, Refusal}
-use Rattle.cet_elf.specs.Accepts.{Accepts, FirstBroken, Loads, image_from, image_of}
+use Rattle.cet_elf.specs.Refusals.{HoldBelow, Refusal}
+use Rattle.cet_elf.specs.Accepts.{Accepts, Loads, image_from, image_of}
 use Rattle.cet_elf.specs.declared.headers.ProgramHeader.{ProgramHeader}
 use Rattle.cet_elf.specs.declared.loads.LoadFault.{LoadFault}
 use Rattle.cet_elf.specs.declared.loads.LoadFault.TheVariants.{Refused, NoMemory}

@@ -1,16 +1,13 @@
 -- The headers and the note of a written file, as they are read.
-use Rattle.std.proofs.Common.{◌≡◌, ℕ, suc, ◌+◌, ◌-◌, ◌*◌, ◌/◌, ◌<◌, ◌≤◌, ◌^◌, Bool, true, false, cond, ◌&&◌, eqb, leb, List, [], ◌∷◌, ◌++◌, length, take, drop, Option, Some, None, unwrap_or, refl, ap, sym, ◌∙◌, subst, arith, length-append, append_assoc, lit<}
-use Rattle.std.specs.Int.{w32, from_le_bytes, to_le_bytes}
+use Rattle.std.proofs.Common.{◌≡◌, ℕ, ◌+◌, ◌<◌, ◌≤◌, ◌^◌, true, leb, List, [], ◌∷◌, ◌++◌, length, take, drop, Some, None, refl, ap, sym, ◌∙◌, arith, length-append, lit<}
+use Rattle.std.specs.Int.{w32, to_le_bytes}
 use Rattle.std.proofs.Math.Seq.{drop-append-add}
 use Rattle.std.proofs.lemmas.Bool.{le-leb}
-use Rattle.std.proofs.lemmas.List.{length-replicate}
 use Rattle.std.proofs.lemmas.Nat.{from_le_bytes-to_le_bytes_4}
-use Rattle.cet_base.specs.Fields.{field_at}
 use Rattle.cet_elf.specs.Headers.{half, word, xword, header_at, headers_from, headers}
-use Rattle.cet_elf.specs.Notes.{is_feature, feature_among, feature, is_note, description, note_feature, features_of}
-use Rattle.cet_elf.specs.Rules.{magic_breach, class_breach, table_breach, file_breaches}
-use Rattle.cet_elf.specs.Refusals.{HoldBelow}
-use Rattle.cet_elf.specs.Written.{zeros, text_address, rounded, file_header, program_header, text_header, data_header, note_header, property_note}
+use Rattle.cet_elf.specs.Notes.{feature, is_note, description, note_feature}
+use Rattle.cet_elf.specs.Rules.{magic_breach, class_breach}
+use Rattle.cet_elf.specs.Written.{text_address, rounded, file_header, text_header, data_header, note_header, property_note}
 use Rattle.cet_elf.specs.declared.headers.ProgramHeader.{ProgramHeader}
 use Rattle.cet_elf.proofs.FieldLemmas.{field_here, half_here, word_here, xword_here, word_behind, header_behind}
 use Rattle.cet_elf.proofs.NoteLemmas.{found_here}

@@ -1,14 +1,13 @@
 -- The file of a program that fits the image range is accepted.
-use Rattle.std.proofs.Common.{◌≡◌, ℕ, ◌+◌, ◌-◌, ◌*◌, ◌/◌, ◌<◌, ◌≤◌, ◌^◌, Bool, true, false, cond, eqb, List, [], ◌∷◌, ◌++◌, length, Some, refl, ap, sym, ◌∙◌, subst, arith, length-append, append_assoc, lit<}
+use Rattle.std.proofs.Common.{◌≡◌, ℕ, ◌+◌, ◌-◌, ◌/◌, ◌<◌, ◌≤◌, ◌^◌, Bool, true, false, eqb, List, [], ◌++◌, length, Some, refl, ap, sym, ◌∙◌, subst, arith, length-append, append_assoc, lit<}
 use Rattle.std.proofs.lemmas.List.{length-replicate}
-use Rattle.std.proofs.lemmas.Bool.{eqb-true, eqb-false}
 use Rattle.std.specs.Prelude.{Result, IfOk}
 use Rattle.std.proofs.lemmas.Result.{IfOk-weaker}
 use Rattle.cet_words.specs.declared.lists.NoMemory.{NoMemory}
-use Rattle.cet_elf.specs.Headers.{headers, header_at}
+use Rattle.cet_elf.specs.Headers.{header_at}
 use Rattle.cet_elf.specs.Notes.{has_stacks, note_feature}
 use Rattle.cet_elf.specs.Accepts.{Accepts}
-use Rattle.cet_elf.specs.Written.{zeros, text_address, rounded, file_header, program_header, text_header, data_header, note_header, property_note, front, data_part, written_of, IsLoadable}
+use Rattle.cet_elf.specs.Written.{zeros, text_address, rounded, file_header, text_header, data_header, note_header, property_note, front, data_part, written_of, IsLoadable}
 use Rattle.cet_elf.proofs.FieldLemmas.{header_size}
 use Rattle.cet_elf.proofs.WrittenHeaders.{heads, file_size, note_size, text_read, data_read, note_read, text_behind, data_behind, note_behind, two_headers, three_headers, note_feature_read}
 use Rattle.cet_elf.proofs.WrittenRules.{one_accepted, two_accepted}

@@ -1,15 +1,13 @@
 -- A written file breaks no rule.
-use Rattle.std.proofs.Common.{◌≡◌, ℕ, zero, suc, ◌+◌, ◌-◌, ◌*◌, ◌/◌, ◌%◌, ◌<◌, ◌≤◌, ◌^◌, Bool, true, false, not, ◌&&◌, ◌||◌, cond, eqb, ltb, leb, List, [], ◌∷◌, ◌++◌, length, get_or, Option, Some, None, refl, ap, sym, ◌∙◌, subst, arith, length-append, append_assoc, lit<}
+use Rattle.std.proofs.Common.{◌≡◌, ℕ, zero, suc, ◌+◌, ◌-◌, ◌*◌, ◌/◌, ◌%◌, ◌<◌, ◌≤◌, Bool, true, false, not, ◌&&◌, eqb, ltb, leb, List, [], ◌∷◌, length, get_or, Option, Some, None, refl, ap, ◌∙◌, arith}
 use Rattle.std.specs.List.{list_any, AllByRecursion}
-use Rattle.std.specs.Option.{option_and_then}
 use Rattle.std.proofs.lemmas.Bool.{le-leb, lt-ltb, eq-eqb, and_from}
-use Rattle.std.proofs.lemmas.List.{length-replicate}
 use Rattle.cet_elf.specs.Headers.{half, word, xword, headers}
 use Rattle.cet_elf.specs.Notes.{has_stacks, note_feature, features_of, features}
-use Rattle.cet_elf.specs.Rules.{unless, magic_breach, class_breach, table_breach, file_breaches, header_breaches, later_breaches, load_breach, is_filled, is_placed, is_aligned, is_guarded, is_apart, ends_before, shares_page, has_entry}
+use Rattle.cet_elf.specs.Rules.{unless, table_breach, file_breaches, header_breaches, later_breaches, load_breach, is_filled, is_placed, is_aligned, is_guarded, is_apart, ends_before, shares_page, has_entry}
 use Rattle.cet_elf.specs.Refusals.{HoldBelow}
 use Rattle.cet_elf.specs.Accepts.{Accepts}
-use Rattle.cet_elf.specs.Written.{text_address, rounded}
+use Rattle.cet_elf.specs.Written.{text_address}
 use Rattle.cet_elf.specs.declared.headers.ProgramHeader.{ProgramHeader}
 use Rattle.cet_elf.proofs.RuleLemmas.{all_hold}
 use Rattle.cet_elf.proofs.WrittenHeaders.{Heads, text_read, data_read, note_read}
@@ -39,9 +37,22 @@ version_holds bytes e = rw e refl
 
 pub file_holds : (bytes : List ℕ) (entry count : ℕ) → Heads entry count bytes → (leb 1 count && leb count 64) ≡ true → 64 + 56 * count ≤ length bytes → HoldBelow 6 (file_breaches bytes)
 file_holds bytes entry count h few inside k small =
-    none_at (file_breaches bytes)
-    (h.magic, (h.class, (kind_holds bytes h.kind, (machine_holds bytes h.machine, (version_holds bytes h.version,
-    (table_holds bytes entry count h few (le-leb (64 + 56 * count) (length bytes) inside), tt)))))) k
+    none_at (file_breaches bytes) (
+      h.magic,
+      (
+        h.class,
+        (
+          kind_holds bytes h.kind,
+          (
+            machine_holds bytes h.machine,
+            (
+              version_holds bytes h.version,
+              (table_holds bytes entry count h few (le-leb (64 + 56 * count) (length bytes) inside), tt),
+            ),
+          ),
+        ),
+      ),
+    ) k
 
 -- the headers of the text and of the data
 one_load : (holds : ProgramHeader → Bool) (s place : ℕ) → holds (text_read s) ≡ true → load_breach holds (text_read s ∷ note_read place ∷ []) ≡ None
@@ -96,26 +107,56 @@ unfolding header_breaches
 one_later bytes s place entry mark enter inside fits low high marked =
     let hs = text_read s ∷ note_read place ∷ [] in
     let entered : list_any (has_entry (xword bytes 24)) hs ≡ true
-    = ap (λ e. list_any (has_entry e) hs) enter ∙ one_entered s place entry (le-leb text_address entry low) (lt-ltb entry (text_address + s) high) in
-    (refl, (one_load (is_filled (length bytes)) s place (text_filled (length bytes) s inside),
-    (one_load is_placed s place (text_placed s fits), (one_load is_aligned s place refl, (one_load is_guarded s place refl,
-    (one_load (is_apart hs) s place refl, (holds_at (list_any (has_entry (xword bytes 24)) hs) 24 entered,
-    (holds_at (has_stacks mark) 0 marked, tt))))))))
+    = ap (λ e. list_any (has_entry e) hs) enter ∙ one_entered s place entry (le-leb text_address entry low) (lt-ltb entry (text_address + s) high) in (
+      refl,
+      (
+        one_load (is_filled (length bytes)) s place (text_filled (length bytes) s inside),
+        (
+          one_load is_placed s place (text_placed s fits),
+          (
+            one_load is_aligned s place refl,
+            (
+              one_load is_guarded s place refl,
+              (
+                one_load (is_apart hs) s place refl,
+                (
+                  holds_at (list_any (has_entry (xword bytes 24)) hs) 24 entered,
+                  (holds_at (has_stacks mark) 0 marked, tt),
+                ),
+              ),
+            ),
+          ),
+        ),
+      ),
+    )
 
 two_later : (bytes : List ℕ) (s r d q place entry mark : ℕ) → xword bytes 24 ≡ entry → r ≡ 4096 * q → 1 ≤ s → s ≤ r → 4096 + r + d ≤ length bytes → text_address + r + d ≤ 0x800000 → text_address ≤ entry → entry < text_address + s → has_stacks mark ≡ true → AllByRecursion (λ (o : Option ℕ). o ≡ None) (header_breaches bytes mark (text_read s ∷ data_read r d ∷ note_read place ∷ []))
 unfolding header_breaches
 two_later bytes s r d q place entry mark enter multiple some behind inside fits low high marked =
     let hs = text_read s ∷ data_read r d ∷ note_read place ∷ [] in
     let entered : list_any (has_entry (xword bytes 24)) hs ≡ true
-    = ap (λ e. list_any (has_entry e) hs) enter ∙ two_entered s r d place entry (le-leb text_address entry low) (lt-ltb entry (text_address + s) high) in
-    (refl,
-    (two_loads (is_filled (length bytes)) s r d place (text_filled (length bytes) s (omega arith)) (data_filled (length bytes) r d inside),
-    (two_loads is_placed s r d place (text_placed s (omega arith)) (data_placed r d fits),
-    (two_loads is_aligned s r d place refl (data_aligned r d q multiple),
-    (two_loads is_guarded s r d place refl refl,
-    (two_loads (is_apart hs) s r d place refl (data_apart s r d place (no_page s r d (ends s r d q multiple some behind))),
-    (holds_at (list_any (has_entry (xword bytes 24)) hs) 24 entered,
-    (holds_at (has_stacks mark) 0 marked, tt))))))))
+    = ap (λ e. list_any (has_entry e) hs) enter ∙ two_entered s r d place entry (le-leb text_address entry low) (lt-ltb entry (text_address + s) high) in (
+      refl,
+      (
+        two_loads (is_filled (length bytes)) s r d place (text_filled (length bytes) s (omega arith)) (data_filled (length bytes) r d inside),
+        (
+          two_loads is_placed s r d place (text_placed s (omega arith)) (data_placed r d fits),
+          (
+            two_loads is_aligned s r d place refl (data_aligned r d q multiple),
+            (
+              two_loads is_guarded s r d place refl refl,
+              (
+                two_loads (is_apart hs) s r d place refl (data_apart s r d place (no_page s r d (ends s r d q multiple some behind))),
+                (
+                  holds_at (list_any (has_entry (xword bytes 24)) hs) 24 entered,
+                  (holds_at (has_stacks mark) 0 marked, tt),
+                ),
+              ),
+            ),
+          ),
+        ),
+      ),
+    )
 
 -- the feature bits of the note
 features_read : (bytes : List ℕ) (hs : List ProgramHeader) (mark : ℕ) → headers bytes ≡ hs → features_of bytes hs ≡ mark → features bytes ≡ mark

@@ -1,6 +1,6 @@
 -- Which files are loaded, the image of such a file, and what is answered for every file. Source: System V ABI for x86-64,
 -- program loading; the rules are own.
-use Rattle.std.specs.Prelude.{ℕ, ◌≡◌, ◌+◌, ◌≤◌, ◌<◌, List, length, map, filter, slice_range, Option, Some, None, Result, Ok, Err}
+use Rattle.std.specs.Prelude.{ℕ, ◌≡◌, ◌+◌, ◌≤◌, ◌<◌, List, map, filter, slice_range, Some, None, Result, Ok, Err}
 use Rattle.cet_words.specs.Job.{ImageData}
 use Rattle.cet_words.specs.declared.images.Segment.{Segment}
 use Rattle.cet_elf.specs.Headers.{xword, headers, is_load, is_writable, is_executable}

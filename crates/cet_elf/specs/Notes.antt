@@ -1,6 +1,6 @@
 -- How a file is marked for shadow stacks and branch tracking. Source: System V ABI for x86-64, program property note
 -- (NT_GNU_PROPERTY_TYPE_0, GNU_PROPERTY_X86_FEATURE_1_AND); that a fault in it is no mark is own.
-use Rattle.std.specs.Prelude.{ℕ, zero, suc, ◌+◌, ◌*◌, ◌/◌, Bool, ◌==◌, ◌&&◌, nat_le, if◌then◌else◌, List, length, take, drop, find, Option, Some, None, unwrap_or, bit_and}
+use Rattle.std.specs.Prelude.{ℕ, zero, suc, ◌+◌, ◌*◌, ◌/◌, Bool, ◌==◌, ◌&&◌, nat_le, if◌then◌else◌, List, length, take, drop, find, Option, None, unwrap_or, bit_and}
 use Rattle.std.specs.Int.{w32}
 use Rattle.std.specs.Option.{option_and_then}
 use Rattle.cet_base.specs.Fields.{field_at}

@@ -10,7 +10,8 @@ HoldBelow count breaches = (k : ℕ) → k < count → slice_index_or breaches k
 -- this rule, of those that are numbered from `first` on, is broken at this place, and none before it
 abbrev pub BrokenFirst : ℕ → List (Option ℕ) → ℕ → ℕ → Type 0
 BrokenFirst first breaches rule offset =
-    (k : ℕ) × (k < length breaches) × (rule ≡ first + k) × (slice_index_or breaches k None ≡ Some offset) × HoldBelow k breaches
+    (k : ℕ) × (k < length breaches) × (rule ≡ first + k) × (slice_index_or breaches k None ≡ Some offset)
+    × HoldBelow k breaches
 
 abbrev pub Refusal : ℕ → List (Option ℕ) → Result (Unit {0}) LoadFault → Type 0
 Refusal first breaches (Ok _) = HoldBelow (length breaches) breaches

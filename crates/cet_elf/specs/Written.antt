@@ -1,7 +1,7 @@
 -- The file of a program: a file header, the program headers, a property note, and at multiples of 4096 the text and the
 -- data. Source: System V ABI, ELF-64 object files; for the property note the x86-64 supplement. The choice of fields and
 -- places is own.
-use Rattle.std.specs.Prelude.{ℕ, ◌+◌, ◌≤◌, ◌<◌, IsTrue, ◌-◌, ◌*◌, ◌/◌, Bool, ◌==◌, if◌then◌else◌, List, [], ◌∷◌, ◌++◌, length, replicate}
+use Rattle.std.specs.Prelude.{ℕ, ◌+◌, ◌≤◌, ◌<◌, IsTrue, ◌-◌, ◌*◌, ◌/◌, ◌==◌, if◌then◌else◌, List, [], ◌∷◌, ◌++◌, length, replicate}
 use Rattle.std.specs.Int.{w16, w32, w64, to_le_bytes}
 use Rattle.cet_elf.specs.Notes.{has_stacks}
 use Rattle.cet_elf.specs.declared.program.Program.{Program}

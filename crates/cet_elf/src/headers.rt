@@ -1,5 +1,4 @@
-ghost use Rattle.std.specs.Prelude.{◌≡◌, ◌≤◌, ◌<◌, ◌+◌, ◌*◌, ◌^◌, length, map, IfOk, slice_index};
-ghost use Rattle.std.specs.List.{range_with_len};
+ghost use Rattle.std.specs.Prelude.{◌≡◌, ◌≤◌, ◌+◌, ◌*◌, length, IfOk, slice_index};
 ghost use Rattle.cet_elf.specs.Headers.{half, word, xword, header_at, headers_from, headers, is_load, is_writable, is_executable};
 
 use cet_base::{get_u16, get_u32, get_u64};

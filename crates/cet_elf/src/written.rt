@@ -1,4 +1,4 @@
-ghost use Rattle.std.specs.Prelude.{◌≡◌, ◌++◌, ◌^◌, ◌<◌, length, OnOk, IfOk};
+ghost use Rattle.std.specs.Prelude.{◌≡◌, ◌++◌, ◌^◌, ◌<◌, OnOk, IfOk};
 ghost use Rattle.std.specs.List.{flat_map};
 ghost use Rattle.cet_elf.specs.Written.{field_bytes, zeros, rounded, file_header, program_header, property_note, text_header, data_header, note_header, front, data_part, written_of, written, IsLoadable};
 ghost use Rattle.cet_elf.specs.Accepts.{Accepts};
@@ -87,7 +87,8 @@ struct Extent {
 
 #[tactic(auto, unfolding(crate::specs::Written::program_header))]
 fn put_program_header(alloc: Global, out: &mut Bytes, header: &Extent) -> Result<(), NoMemory>
-    ensures { OnOk result (out.new ≡ out.old ++ program_header header.now.kind header.now.flags header.now.offset header.now.address header.now.size header.now.align) }
+    ensures { let h = header.now in
+        OnOk result (out.new ≡ out.old ++ program_header h.kind h.flags h.offset h.address h.size h.align) }
 {
     let fields = [
         Field::Word(header.kind),

@@ -1,4 +1,4 @@
-use Rattle.std.proofs.Common.{◌≡◌, ap, sym, ◌∙◌, subst, Option, List, ℕ, Err, length, Result}
+use Rattle.std.proofs.Common.{subst, Option, List, ℕ, Err, length}
 use Rattle.std.proofs.lemmas.Result.{err_from_is_err_and}
 use Rattle.cet_elf.specs.Refusals.{HoldBelow, Refusal}
 use Rattle.cet_elf.proofs.RuleLemmas.{early_refused, table_inside, answered}

@@ -1,8 +1,7 @@
-use Rattle.std.proofs.Common.{◌≡◌, ap, sym, ◌∙◌, subst, Option, List, ℕ, Ok, Err, length, Result}
+use Rattle.std.proofs.Common.{subst, Option, List, ℕ, Err, length}
 use Rattle.std.proofs.lemmas.Result.{err_from_is_err_and}
 use Rattle.cet_elf.specs.Headers.{xword}
 use Rattle.cet_elf.specs.Refusals.{HoldBelow, Refusal}
-use Rattle.cet_elf.specs.Accepts.{Loads}
 use Rattle.cet_elf.proofs.RuleLemmas.{late_refused, same_breaches, each_holds, all_hold, loaded, answered}
 use Rattle.cet_elf.proofs.ImageLemmas.{is_image, all_filled}
 use Rattle.cet_elf.proofs.loads.load_headers.Goals as goal

@@ -1,6 +1,6 @@
-use Rattle.std.proofs.Common.{◌≡◌, ◌-◌, ◌+◌, ◌<◌, None, length, sym, ◌∙◌, ap, subst, arith}
+use Rattle.std.proofs.Common.{◌≡◌, ◌-◌, ◌+◌, ◌<◌, None, length, sym, ◌∙◌, ap, arith}
 use Rattle.cet_elf.specs.Notes.{feature_among}
-use Rattle.cet_elf.proofs.NoteLemmas.{found_here, found_later, none_behind, none_left, counted_out}
+use Rattle.cet_elf.proofs.NoteLemmas.{found_here, found_later, none_behind, counted_out}
 use Rattle.cet_elf.proofs.notes.feature.Goals as goal
 
 pub returns-then-is_feature : goal.returns-then-is_feature
