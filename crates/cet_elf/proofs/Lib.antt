@@ -1,0 +1,9 @@
+pub mod FieldLemmas
+pub mod HeaderLemmas
+pub mod ImageLemmas
+pub mod NoteLemmas
+pub mod RuleLemmas
+pub mod WriterLemmas
+pub mod WrittenHeaders
+pub mod WrittenLoads
+pub mod WrittenRules
