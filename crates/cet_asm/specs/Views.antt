@@ -1,0 +1,96 @@
+-- The code's tokens, operands and lines without where their bytes lie. Source: own.
+use Rattle.std.specs.Prelude.{◌≡◌, ℕ, List, [], ◌∷◌, Option, Some, None}
+use Rattle.std.specs.Borrow.{Bor}
+use Rattle.cet_asm.specs.declared.tokens.Token as token
+use Rattle.cet_asm.specs.declared.tokens.Token.TheVariants as token_variants
+use Rattle.cet_asm.specs.declared.places.Place as place
+use Rattle.cet_asm.specs.declared.places.Place.TheVariants as place_variants
+use Rattle.cet_asm.specs.declared.places.Item as item
+use Rattle.cet_asm.specs.declared.places.Item.TheVariants as item_variants
+use Rattle.cet_asm.specs.declared.operands.Address as address
+use Rattle.cet_asm.specs.declared.operands.Given as given
+use Rattle.cet_asm.specs.declared.operands.Given.TheVariants as given_variants
+use Rattle.cet_asm.specs.declared.operands.Operands as operands
+use Rattle.cet_asm.specs.declared.operands.Operands.TheVariants as operands_variants
+use Rattle.cet_asm.specs.declared.lines.Uses as uses
+use Rattle.cet_asm.specs.declared.lines.Statement as statement
+use Rattle.cet_asm.specs.declared.lines.Statement.TheVariants as statement_variants
+use Rattle.cet_asm.specs.declared.lines.Line as line
+use Rattle.cet_asm.specs.Tokens.{Token, Word, Sign, Minus, tokens}
+use Rattle.cet_asm.specs.Words.{Place, Number, Label}
+use Rattle.cet_asm.specs.Operands.{Address, Given, Register, Counter, Value, Memory, Dword, Byte, Relative, Short, Operands, Absent, One, Two}
+use Rattle.cet_asm.specs.Instructions.{Uses}
+use Rattle.cet_asm.specs.Line.{Item, Known, Named, Statement, Nothing, Broken, TextSection, DataSection, Mark, Zero, Values, Quads, Code, Line, bytes_in, quads_in, labels_of}
+
+abbrev pub token_view : token.Token → Token
+token_view (token_variants.Word w) = Word w.now
+token_view (token_variants.Sign b) = Sign b
+token_view token_variants.Minus = Minus
+
+abbrev pub name_view : Option (Bor (List ℕ)) → Option (List ℕ)
+name_view None = None
+name_view (Some name) = Some name.now
+
+abbrev pub place_view : place.Place → Place
+place_view (place_variants.Number value) = Number value
+place_view (place_variants.Label name) = Label name.now
+
+abbrev pub item_view : item.Item → Item
+item_view (item_variants.Known n) = Known n
+item_view (item_variants.Named name) = Named name.now
+
+abbrev pub disp_view : Option place.Place → Option Place
+disp_view None = None
+disp_view (Some p) = Some (place_view p)
+
+abbrev pub address_view : address.Address → Address
+address_view a = record { base = a.base; index = a.index; scale = a.scale; disp = disp_view a.disp }
+
+abbrev pub given_view : given.Given → Given
+given_view (given_variants.Register size r) = Register size r
+given_view given_variants.Counter = Counter
+given_view (given_variants.Value p) = Value (place_view p)
+given_view (given_variants.Memory a) = Memory (address_view a)
+given_view (given_variants.Dword a) = Dword (address_view a)
+given_view (given_variants.Byte a) = Byte (address_view a)
+given_view (given_variants.Relative value) = Relative value
+given_view (given_variants.Short name) = Short name.now
+
+abbrev pub operands_view : operands.Operands → Operands
+operands_view operands_variants.Absent = Absent
+operands_view (operands_variants.One g) = One (given_view g)
+operands_view (operands_variants.Two g h) = Two (given_view g) (given_view h)
+
+abbrev pub uses_view : uses.Uses → Uses
+uses_view u = record { displacement = name_view u.displacement; immediate = name_view u.immediate; target = name_view u.target; short = name_view u.short }
+
+abbrev pub statement_view : statement.Statement → Statement
+statement_view statement_variants.Nothing = Nothing
+statement_view (statement_variants.Broken rule) = Broken rule
+statement_view statement_variants.TextSection = TextSection
+statement_view statement_variants.DataSection = DataSection
+statement_view (statement_variants.Mark n) = Mark n
+statement_view (statement_variants.Zero n) = Zero n
+statement_view (statement_variants.Values text) = Values (bytes_in (tokens text.now))
+statement_view (statement_variants.Quads text) = Quads (quads_in (tokens text.now))
+statement_view (statement_variants.Code i u) = Code i (uses_view u)
+
+abbrev pub line_view : line.Line → Line
+line_view l = record { labels = labels_of l.labels.now; statement = statement_view l.statement }
+
+-- ---- reading item by item
+
+-- the first label of a text and the text after it, or none
+abbrev pub IsFirstLabel : List ℕ → Option (Bor (List ℕ) × Bor (List ℕ)) → Type 0
+IsFirstLabel text None = labels_of text ≡ []
+IsFirstLabel text (Some x) = labels_of text ≡ x.0.now ∷ labels_of x.1.now
+
+-- the first byte of a list and the text after it, or none
+abbrev pub IsFirstByte : List ℕ → Option (ℕ × Bor (List ℕ)) → Type 0
+IsFirstByte text None = bytes_in (tokens text) ≡ []
+IsFirstByte text (Some x) = bytes_in (tokens text) ≡ x.0 ∷ bytes_in (tokens x.1.now)
+
+-- the first word of a list and the text after it, or none
+abbrev pub IsFirstQuad : List ℕ → Option (item.Item × Bor (List ℕ)) → Type 0
+IsFirstQuad text None = quads_in (tokens text) ≡ []
+IsFirstQuad text (Some x) = quads_in (tokens text) ≡ item_view x.0 ∷ quads_in (tokens x.1.now)

@@ -1,0 +1,14 @@
+//! The assembler: from a text to the bytes of a program.
+#![tactic(auto)]
+
+mod classes;
+mod lines;
+mod mnemonics;
+mod operands;
+mod places;
+mod program;
+mod rules;
+mod sections;
+mod tokens;
+
+pub use program::{AsmFault, Program};
