@@ -12,13 +12,15 @@ use Rattle.cet_asm.specs.declared.operands.Given as given
 use Rattle.cet_asm.specs.declared.operands.Given.TheVariants as given_variants
 use Rattle.cet_asm.specs.declared.operands.Operands as operands
 use Rattle.cet_asm.specs.declared.operands.Operands.TheVariants as operands_variants
+use Rattle.cet_asm.specs.declared.mnemonics.Named as named
 use Rattle.cet_asm.specs.declared.lines.Uses as uses
 use Rattle.cet_asm.specs.declared.lines.Statement as statement
 use Rattle.cet_asm.specs.declared.lines.Statement.TheVariants as statement_variants
 use Rattle.cet_asm.specs.declared.lines.Line as line
-use Rattle.cet_asm.specs.Tokens.{Token, Word, Sign, Minus, tokens}
+use Rattle.cet_asm.specs.Tokens.{Token, Word, Sign, Minus, tokens, word_first, sign_first}
 use Rattle.cet_asm.specs.Words.{Place, Number, Label}
 use Rattle.cet_asm.specs.Operands.{Address, Given, Register, Counter, Value, Memory, Dword, Byte, Relative, Short, Operands, Absent, One, Two}
+use Rattle.cet_asm.specs.Mnemonics as mnemonics
 use Rattle.cet_asm.specs.Instructions.{Uses}
 use Rattle.cet_asm.specs.Line.{Item, Known, Named, Statement, Nothing, Broken, TextSection, DataSection, Mark, Zero, Values, Quads, Code, Line, bytes_in, quads_in, labels_of}
 
@@ -61,6 +63,9 @@ operands_view operands_variants.Absent = Absent
 operands_view (operands_variants.One g) = One (given_view g)
 operands_view (operands_variants.Two g h) = Two (given_view g) (given_view h)
 
+abbrev pub named_view : named.Named → mnemonics.Named
+named_view n = record { name = n.name.now; mnemonic = n.mnemonic }
+
 abbrev pub uses_view : uses.Uses → Uses
 uses_view u = record { displacement = name_view u.displacement; immediate = name_view u.immediate; target = name_view u.target; short = name_view u.short }
 
@@ -94,3 +99,24 @@ IsFirstByte text (Some x) = bytes_in (tokens text) ≡ x.0 ∷ bytes_in (tokens 
 abbrev pub IsFirstQuad : List ℕ → Option (item.Item × Bor (List ℕ)) → Type 0
 IsFirstQuad text None = quads_in (tokens text) ≡ []
 IsFirstQuad text (Some x) = quads_in (tokens text) ≡ item_view x.0 ∷ quads_in (tokens x.1.now)
+
+-- ---- token by token
+
+-- the first token of a text and the text after it, or none
+abbrev pub IsFirstToken : List ℕ → Option (token.Token × Bor (List ℕ)) → Type 0
+IsFirstToken text None = tokens text ≡ []
+IsFirstToken text (Some x) = tokens text ≡ token_view x.0 ∷ tokens x.1.now
+
+abbrev pub rest_view : Option (Bor (List ℕ)) → Option (List Token)
+rest_view None = None
+rest_view (Some rest) = Some (tokens rest.now)
+
+abbrev pub word_view : Option (Bor (List ℕ) × Bor (List ℕ)) → Option (List ℕ × List Token)
+word_view None = None
+word_view (Some x) = Some (x.0.now, tokens x.1.now)
+
+abbrev pub IsAfterSign : ℕ → List ℕ → Option (Bor (List ℕ)) → Type 0
+IsAfterSign sign text result = rest_view result ≡ sign_first sign (tokens text)
+
+abbrev pub IsAfterWord : List ℕ → Option (Bor (List ℕ) × Bor (List ℕ)) → Type 0
+IsAfterWord text result = word_view result ≡ word_first (tokens text)

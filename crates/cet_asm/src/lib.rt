@@ -4,6 +4,7 @@
 mod classes;
 mod lines;
 mod mnemonics;
+mod names;
 mod operands;
 mod places;
 mod program;
