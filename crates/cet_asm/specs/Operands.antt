@@ -89,15 +89,20 @@ word_part a w ts = go (starred ts)
     go None = after (with_word a w) ts
     go (Some k) = after (with_scaled a w k.0) k.1
 
+-- a number whose `-` stands before, with what follows it
+abbrev pub minus_part : Address → Bool → List Token → Option (Address × List Token)
+minus_part a minus (Word w ∷ ts) = after (with_place a (number_place minus w)) ts
+minus_part a minus ts = None
+
 unfoldable pub part : Address → List Token → Option (Address × List Token)
 part a (Word w ∷ ts) = word_part a w ts
-part a (Minus ∷ Word w ∷ ts) = after (with_place a (number_place true w)) ts
+part a (Minus ∷ ts) = minus_part a true ts
 part a ts = None
 
 -- a number that is taken away
 unfoldable pub taken_part : Address → List Token → Option (Address × List Token)
 taken_part a (Word w ∷ ts) = after (with_place a (number_place true w)) ts
-taken_part a (Minus ∷ Word w ∷ ts) = after (with_place a (number_place false w)) ts
+taken_part a (Minus ∷ ts) = minus_part a false ts
 taken_part a ts = None
 
 -- a part after `+`, or a number after `-`

@@ -7,7 +7,7 @@ use Rattle.cet_asm.specs.declared.places.Place as place
 use Rattle.cet_asm.specs.declared.places.Place.TheVariants as place_variants
 use Rattle.cet_asm.specs.declared.places.Item as item
 use Rattle.cet_asm.specs.declared.places.Item.TheVariants as item_variants
-use Rattle.cet_asm.specs.declared.operands.Address as address
+use Rattle.cet_asm.specs.declared.addresses.Address as address
 use Rattle.cet_asm.specs.declared.operands.Given as given
 use Rattle.cet_asm.specs.declared.operands.Given.TheVariants as given_variants
 use Rattle.cet_asm.specs.declared.operands.Operands as operands
@@ -47,6 +47,14 @@ disp_view (Some p) = Some (place_view p)
 
 abbrev pub address_view : address.Address → Address
 address_view a = record { base = a.base; index = a.index; scale = a.scale; disp = disp_view a.disp }
+
+abbrev pub address_option_view : Option address.Address → Option Address
+address_option_view None = None
+address_option_view (Some a) = Some (address_view a)
+
+abbrev pub part_view : Option (address.Address × Bor (List ℕ)) → Option (Address × List Token)
+part_view None = None
+part_view (Some x) = Some (address_view x.0, tokens x.1.now)
 
 abbrev pub given_view : given.Given → Given
 given_view (given_variants.Register size r) = Register size r

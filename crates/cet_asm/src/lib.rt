@@ -1,6 +1,7 @@
 //! The assembler: from a text to the bytes of a program.
 #![tactic(auto)]
 
+mod addresses;
 mod classes;
 mod lines;
 mod mnemonics;

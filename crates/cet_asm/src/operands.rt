@@ -2,17 +2,9 @@
 
 ghost use Rattle.std.specs.Prelude.{◌≡◌};
 
+use crate::addresses::Address;
 use crate::places::Place;
-use cet_isa::{Base, Reg, Size};
-
-/// A memory operand: base, index with its scale, and displacement.
-#[derive(Clone, Copy)]
-pub(crate) struct Address<'a> {
-    pub base: Base,
-    pub index: Option<Reg>,
-    pub scale: u8,
-    pub disp: Option<Place<'a>>,
-}
+use cet_isa::{Reg, Size};
 
 /// An operand as it is written. `Dword` and `Byte` are memory after that word, `Relative` is a number after `rel`,
 /// `Short` a label after `short`.
