@@ -1,1 +1,2 @@
 pub mod TokenLaws
+mod MapLaws

@@ -8,3 +8,4 @@ pub mod Views
 pub mod Layout
 pub mod Program
 pub mod Answer
+pub mod Passes

@@ -64,11 +64,11 @@ place_of entries name = spot_in (find (λ e. bytes_eq e.name name) entries)
 
 -- what a line needs to know of the whole text
 pub record Whole : Type 0 where
-  pub entries : List Entry
+  pub place : List ℕ → Option Spot
   pub text_size : ℕ
 
 abbrev pub whole_of : List Line → Whole
-whole_of lines = record { entries = entries_from start lines; text_size = (end_from start lines).text }
+whole_of lines = record { place = place_of (entries_from start lines); text_size = (end_from start lines).text }
 
 abbrev pub address_in : ℕ → Option Spot → Option ℕ
 address_in text None = None
@@ -76,7 +76,7 @@ address_in text (Some spot) = Some (address_of text spot)
 
 -- the address of a label, where it is defined
 unfoldable pub label_address : Whole → List ℕ → Option ℕ
-label_address w name = address_in w.text_size (place_of w.entries name)
+label_address w name = address_in w.text_size (w.place name)
 
 abbrev pub or_start : Option ℕ → ℕ
 or_start None = text_start
@@ -136,15 +136,19 @@ abbrev pub rule_unless : Bool → Rule → Option Rule
 rule_unless true rule = None
 rule_unless false rule = Some rule
 
+-- the first rule that a line breaks which stands here, by whether one of its labels is defined before
+unfoldable pub broken_at : Whole → Bool → Here → Statement → Option Rule
+broken_at w twice h s =
+    or_rule (own_fault s)
+    (or_rule (rule_unless (knows_all w s) rules.UnknownLabel)
+    (or_rule (rule_unless (not twice) rules.DefinedBefore)
+    (or_rule (rule_unless (is_in_reach w h s) rules.OutOfReach)
+    (or_rule (directive_fault s)
+    (rule_unless (not (is_too_long h s)) rules.TooLong)))))
+
 -- the first rule that a line breaks, which stands here below these labels
-unfoldable pub broken_by : Whole → List (List ℕ) → Here → Line → Option Rule
-broken_by w above h l =
-    or_rule (own_fault l.statement)
-    (or_rule (rule_unless (knows_all w l.statement) rules.UnknownLabel)
-    (or_rule (rule_unless (not (is_twice above l.labels)) rules.DefinedBefore)
-    (or_rule (rule_unless (is_in_reach w h l.statement) rules.OutOfReach)
-    (or_rule (directive_fault l.statement)
-    (rule_unless (not (is_too_long h l.statement)) rules.TooLong)))))
+abbrev pub broken_by : Whole → List (List ℕ) → Here → Line → Option Rule
+broken_by w above h l = broken_at w (is_twice above l.labels) h l.statement
 
 -- a line that breaks a rule
 pub record Fault : Type 0 where

@@ -3,6 +3,7 @@
 
 mod addresses;
 mod classes;
+mod labels;
 mod lines;
 mod mnemonics;
 mod names;
