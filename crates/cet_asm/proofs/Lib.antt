@@ -1,2 +1,4 @@
 pub mod TokenLaws
 mod MapLaws
+pub mod LayoutLaws
+pub mod FillingLaws

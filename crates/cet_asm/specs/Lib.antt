@@ -8,4 +8,6 @@ pub mod Views
 pub mod Layout
 pub mod Program
 pub mod Answer
+pub mod Filling
 pub mod Passes
+pub mod Places

@@ -96,9 +96,12 @@ abbrev pub knows_item : Whole → Item → Bool
 knows_item w (Known n) = true
 knows_item w (Named name) = is_some (label_address w name)
 
+abbrev pub knows_uses : Whole → Uses → Bool
+knows_uses w u = knows w u.displacement && (knows w u.immediate && (knows w u.target && knows w u.short))
+
 -- whether all labels that a line uses are defined
 unfoldable pub knows_all : Whole → Statement → Bool
-knows_all w (Code i u) = knows w u.displacement && (knows w u.immediate && (knows w u.target && knows w u.short))
+knows_all w (Code i u) = knows_uses w u
 knows_all w (Quads items) = list_all (knows_item w) items
 knows_all w s = true
 

@@ -2,8 +2,12 @@
 #![tactic(auto)]
 
 mod addresses;
+mod checks;
 mod classes;
+mod boundary;
+mod filling;
 mod labels;
+mod layout;
 mod lines;
 mod mnemonics;
 mod names;
@@ -12,6 +16,7 @@ mod places;
 mod program;
 mod rules;
 mod sections;
+mod sizes;
 mod tokens;
 
 pub use program::{AsmFault, Program};
