@@ -5,6 +5,7 @@ mod addresses;
 mod checks;
 mod classes;
 mod boundary;
+mod emission;
 mod filling;
 mod labels;
 mod layout;
