@@ -178,37 +178,46 @@ second_given w v =
 unfoldable pub minus_given : List ℕ → List ℕ → Option Given
 minus_given w v = if bytes_eq w (codes "rel") then relative_given (number_place true v) else None
 
+-- the same, with what follows it
+abbrev pub minus_worded : List ℕ → List Token → Option (Given × List Token)
+minus_worded w (Word v ∷ ts) = followed (minus_given w v) ts
+minus_worded w ts = None
+
 -- an operand that begins by the word, with what follows it
 unfoldable pub worded : List ℕ → List Token → Option (Given × List Token)
 worded w [] = followed (word_given w) []
 worded w (Sign s ∷ ts) = if s == 91 then sized_given w ts else followed (word_given w) (Sign s ∷ ts)
 worded w (Word v ∷ ts) = followed (second_given w v) ts
-worded w (Minus ∷ Word v ∷ ts) = followed (minus_given w v) ts
-worded w ts = None
+worded w (Minus ∷ ts) = minus_worded w ts
 
 abbrev pub memory_given : Option (Address × List Token) → Option (Given × List Token)
 memory_given None = None
 memory_given (Some m) = Some (Memory m.0, m.1)
 
+-- a number after its `-`, with what follows it
+abbrev pub negative_given : List Token → Option (Given × List Token)
+negative_given (Word w ∷ ts) = followed (value_given (number_place true w)) ts
+negative_given ts = None
+
 -- an operand, with what follows it
 unfoldable pub given : List Token → Option (Given × List Token)
 given (Word w ∷ ts) = worded w ts
 given (Sign s ∷ ts) = if s == 91 then memory_given (memory ts) else None
-given (Minus ∷ Word w ∷ ts) = followed (value_given (number_place true w)) ts
-given ts = None
+given (Minus ∷ ts) = negative_given ts
+given [] = None
 
 pub data Operands : Type 0 where
   Absent : Operands
   One : Given → Operands
   Two : Given → Given → Operands
 
+abbrev pub ended : Given → Given → List Token → Option Operands
+ended g h [] = Some (Two g h)
+ended g h ts = None
+
 -- the second operand, which ends the line
 unfoldable pub second : Given → List Token → Option Operands
-second g ts = given ts >>= (λ o. go o.0 o.1)
-  where
-    go : Given → List Token → Option Operands
-    go o [] = Some (Two g o)
-    go o ts = None
+second g ts = given ts >>= (λ o. ended g o.0 o.1)
 
 unfoldable pub after_first : Given → List Token → Option Operands
 after_first g [] = Some (One g)

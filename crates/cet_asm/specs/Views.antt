@@ -66,6 +66,14 @@ given_view (given_variants.Byte a) = Byte (address_view a)
 given_view (given_variants.Relative value) = Relative value
 given_view (given_variants.Short name) = Short name.now
 
+abbrev pub given_option_view : Option given.Given → Option Given
+given_option_view None = None
+given_option_view (Some g) = Some (given_view g)
+
+abbrev pub operand_view : Option (given.Given × Bor (List ℕ)) → Option (Given × List Token)
+operand_view None = None
+operand_view (Some x) = Some (given_view x.0, tokens x.1.now)
+
 abbrev pub operands_view : operands.Operands → Operands
 operands_view operands_variants.Absent = Absent
 operands_view (operands_variants.One g) = One (given_view g)
@@ -73,6 +81,10 @@ operands_view (operands_variants.Two g h) = Two (given_view g) (given_view h)
 
 abbrev pub named_view : named.Named → mnemonics.Named
 named_view n = record { name = n.name.now; mnemonic = n.mnemonic }
+
+abbrev pub operands_option_view : Option operands.Operands → Option Operands
+operands_option_view None = None
+operands_option_view (Some o) = Some (operands_view o)
 
 abbrev pub uses_view : uses.Uses → Uses
 uses_view u = record { displacement = name_view u.displacement; immediate = name_view u.immediate; target = name_view u.target; short = name_view u.short }
