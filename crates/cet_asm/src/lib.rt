@@ -3,7 +3,9 @@
 
 mod addresses;
 mod classes;
+mod instructions;
 mod lines;
+mod lists;
 mod mnemonics;
 mod names;
 mod operands;
@@ -11,6 +13,7 @@ mod places;
 mod program;
 mod rules;
 mod sections;
+mod statements;
 mod tokens;
 
 pub use program::{AsmFault, Program};
