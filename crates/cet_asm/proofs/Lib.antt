@@ -2,3 +2,6 @@ pub mod TokenLaws
 mod MapLaws
 pub mod LayoutLaws
 pub mod FillingLaws
+pub mod ListLaws
+pub mod LineLaws
+pub mod SizeLaws

@@ -1,9 +1,7 @@
 -- Instructions with the addresses of their labels. Source: own.
-use Rattle.std.specs.Prelude.{◌≡◌, ℕ, ◌<◌, ◌^◌, true, List, Option, Some, None, IfSome}
-use Rattle.cet_isa.specs.Spelled.{has_spelling}
+use Rattle.std.specs.Prelude.{ℕ, ◌<◌, ◌^◌, List, Option, Some, None, IfSome}
 use Rattle.cet_isa.specs.declared.instructions.Instr.{Instr}
 use Rattle.cet_asm.specs.Instructions.{Uses}
-use Rattle.cet_asm.specs.Line.{Statement, Code}
 use Rattle.cet_asm.specs.Layout.{with_memory, with_immediate, with_target, placed_mem, distance}
 use Rattle.cet_asm.specs.declared.filling.Found.{Found}
 
@@ -28,8 +26,3 @@ found_in env u = record { displacement = address_for env u.displacement; immedia
 -- each fits a signed number of 32 bits
 abbrev pub AreSmall : Found → Type 0
 AreSmall x = IfSome x.displacement (λ a. a < 2 ^ 31) × (IfSome x.immediate (λ a. a < 2 ^ 31) × IfSome x.target (λ a. a < 2 ^ 31))
-
--- an instruction has a spelling
-abbrev pub IsSpelled : Statement → Type 0
-IsSpelled (Code i u) = has_spelling i ≡ true
-IsSpelled s = Unit {0}

@@ -1,5 +1,5 @@
 -- The instruction that a mnemonic and its operands make. Source: Intel SDM volume 2; which operands are taken is own.
-use Rattle.std.specs.Prelude.{ℕ, ℤ, pos, ◌^◌, Bool, true, false, not, ◌&&◌, ◌==◌, if◌then◌else◌, List, [], ◌∷◌, Option, Some, None}
+use Rattle.std.specs.Prelude.{ℕ, ℤ, pos, ◌^◌, Bool, true, false, not, ◌&&◌, ◌==◌, if◌then◌else◌, List, [], ◌∷◌, Option, Some, None, is_some, unwrap_or}
 use Rattle.cet_isa.specs.Spelled.{has_spelling}
 use Rattle.cet_isa.specs.declared.instructions.Count.{Count}
 use Rattle.cet_isa.specs.declared.instructions.Count.TheVariants as counts
@@ -40,10 +40,14 @@ abbrev pub number_field : Option ℤ → Field
 number_field None = record { value = pos 0; fits = false; label = None }
 number_field (Some z) = record { value = z; fits = true; label = None }
 
+-- of a number that may be ill-formed
+abbrev pub value_field : Size → Option ℤ → Field
+value_field size value = number_field (value >>= immediate_field size)
+
 -- of an immediate
 abbrev pub place_field : Size → Place → Field
 place_field size (Label name) = record { value = pos 0; fits = true; label = Some name }
-place_field size (Number value) = number_field (value >>= immediate_field size)
+place_field size (Number value) = value_field size value
 
 -- of a displacement
 abbrev pub disp_field : Option Place → Field
@@ -139,17 +143,8 @@ pair m g h = do
   y ← argument size h
   with_argument (both x y) (pair_instr m size x.operand y.operand)
 
--- a number of 64 bits, 0 for a label and for one that doesn't fit
-abbrev pub quad_number : Option ℕ → ℕ
-quad_number None = 0
-quad_number (Some n) = n
-
-abbrev pub is_there : {A : Type 0} → Option A → Bool
-is_there None = false
-is_there (Some x) = true
-
 abbrev pub wide_number : Reg → Option ℕ → Built
-wide_number r n = record { instr = instrs.MovWide r (quad_number n); fits = is_there n; uses = no_uses }
+wide_number r n = record { instr = instrs.MovWide r (unwrap_or n 0); fits = is_some n; uses = no_uses }
 
 abbrev pub wide_built : Reg → Place → Built
 wide_built r (Label name) = record { instr = instrs.MovWide r 0; fits = true; uses = record no_uses { immediate = Some name } }
@@ -164,8 +159,8 @@ abbrev pub is_wide : Given → Given → Bool
 is_wide (Register sizes.Qword r) (Value (Number (Some z))) = not (dword_holds z)
 is_wide g h = false
 
-unfoldable pub move : Given → Given → Option Built
-move g h = if is_wide g h then wide_move g h else pair words.Mov g h
+unfoldable pub any_move : Given → Given → Option Built
+any_move g h = if is_wide g h then wide_move g h else pair words.Mov g h
 
 unfoldable pub zero_move : Given → Given → Option Built
 zero_move (Register s r) (Byte a) = let f = disp_field a.disp in with_argument (memory_argument a) (Some (instrs.MovZero8 r (mem_of a f.value)))
@@ -187,17 +182,17 @@ abbrev pub small_number : ℕ → Place → Option ℕ
 small_number count (Label name) = None
 small_number count (Number value) = value >>= unsigned_field count
 
-abbrev pub with_number : Option ℕ → Option Instr → Option Built
-with_number n None = None
-with_number n (Some i) = Some (record { instr = i; fits = is_there n; uses = no_uses })
+abbrev pub with_fit : Bool → Option Instr → Option Built
+with_fit fits None = None
+with_fit fits (Some i) = Some (record { instr = i; fits = fits; uses = no_uses })
 
 unfoldable pub shift : Mnemonic → Given → Given → Option Built
 shift m (Register s r) Counter = plain (shift_instr m s r counts.Cl)
-shift m (Register s r) (Value p) = let n = small_number 256 p in with_number n (shift_instr m s r (counts.Number (quad_number n)))
+shift m (Register s r) (Value p) = let n = small_number (2 ^ 8) p in with_fit (is_some n) (shift_instr m s r (counts.Number (unwrap_or n 0)))
 shift m g h = None
 
 unfoldable pub two_operands : Mnemonic → Given → Given → Option Built
-two_operands words.Mov g h = move g h
+two_operands words.Mov g h = any_move g h
 two_operands words.Movabs g h = wide_move g h
 two_operands words.Movzx g h = zero_move g h
 two_operands words.Movsxd g h = sign_move g h
@@ -206,32 +201,37 @@ two_operands words.Shr g h = shift words.Shr g h
 two_operands words.Sar g h = shift words.Sar g h
 two_operands m g h = pair m g h
 
+-- a call or jump by way of a register or memory
+abbrev pub indirect_instr : Mnemonic → Operand → Option Instr
+indirect_instr words.Call target = Some (instrs.CallInd target false)
+indirect_instr words.Jmp target = Some (instrs.JmpInd target false)
+indirect_instr words.UntrackedCall target = Some (instrs.CallInd target true)
+indirect_instr words.UntrackedJmp target = Some (instrs.JmpInd target true)
+indirect_instr m target = None
+
+-- one register of 64 bits
+abbrev pub qword_instr : Mnemonic → Reg → Option Instr
+qword_instr words.Push r = Some (instrs.Push (operands.Reg r))
+qword_instr words.Pop r = Some (instrs.Pop r)
+qword_instr words.Incsspq r = Some (instrs.Incsspq r)
+qword_instr words.Rdsspq r = Some (instrs.Rdsspq r)
+qword_instr m r = indirect_instr m (operands.Reg r)
+
 -- one register
 unfoldable pub register_instr : Mnemonic → Size → Reg → Option Instr
 register_instr words.Inc size r = Some (instrs.Inc size r)
 register_instr words.Dec size r = Some (instrs.Dec size r)
 register_instr words.Not size r = Some (instrs.Not size r)
 register_instr words.Neg size r = Some (instrs.Neg size r)
-register_instr words.Push sizes.Qword r = Some (instrs.Push (operands.Reg r))
-register_instr words.Pop sizes.Qword r = Some (instrs.Pop r)
-register_instr words.Incsspq sizes.Qword r = Some (instrs.Incsspq r)
-register_instr words.Rdsspq sizes.Qword r = Some (instrs.Rdsspq r)
-register_instr words.Call sizes.Qword r = Some (instrs.CallInd (operands.Reg r) false)
-register_instr words.Jmp sizes.Qword r = Some (instrs.JmpInd (operands.Reg r) false)
-register_instr words.UntrackedCall sizes.Qword r = Some (instrs.CallInd (operands.Reg r) true)
-register_instr words.UntrackedJmp sizes.Qword r = Some (instrs.JmpInd (operands.Reg r) true)
-register_instr m size r = None
+register_instr m sizes.Qword r = qword_instr m r
+register_instr m sizes.Dword r = None
 
 -- memory alone
 unfoldable pub memory_instr : Mnemonic → Mem → Option Instr
 memory_instr words.Push mem = Some (instrs.Push (operands.Mem mem))
 memory_instr words.Rstorssp mem = Some (instrs.Rstorssp mem)
 memory_instr words.Clrssbsy mem = Some (instrs.Clrssbsy mem)
-memory_instr words.Call mem = Some (instrs.CallInd (operands.Mem mem) false)
-memory_instr words.Jmp mem = Some (instrs.JmpInd (operands.Mem mem) false)
-memory_instr words.UntrackedCall mem = Some (instrs.CallInd (operands.Mem mem) true)
-memory_instr words.UntrackedJmp mem = Some (instrs.JmpInd (operands.Mem mem) true)
-memory_instr m mem = None
+memory_instr m mem = indirect_instr m (operands.Mem mem)
 
 -- a relative target of four bytes
 unfoldable pub relative_instr : Mnemonic → ℤ → Option Instr
@@ -261,14 +261,14 @@ label_target m (Number value) = None
 -- a number or label alone
 unfoldable pub value_built : Mnemonic → Place → Option Built
 value_built words.Push p = let f = place_field sizes.Qword p in with_field f (Some (instrs.Push (operands.Imm f.value)))
-value_built words.Ret p = let n = small_number (2 ^ 16) p in with_number n (Some (instrs.RetImm (quad_number n)))
+value_built words.Ret p = let n = small_number (2 ^ 16) p in with_fit (is_some n) (Some (instrs.RetImm (unwrap_or n 0)))
 value_built m p = label_target m p
 
 unfoldable pub one_operand : Mnemonic → Given → Option Built
 one_operand m (Register s r) = plain (register_instr m s r)
 one_operand m (Memory a) = let f = disp_field a.disp in with_argument (memory_argument a) (memory_instr m (mem_of a f.value))
 one_operand m (Value p) = value_built m p
-one_operand m (Relative value) = let f = number_field (value >>= immediate_field sizes.Qword) in with_field f (relative_instr m f.value)
+one_operand m (Relative value) = let f = value_field sizes.Qword value in with_field f (relative_instr m f.value)
 one_operand m (Short name) = with_uses (record no_uses { short = Some name }) (short_instr m)
 one_operand m g = None
 

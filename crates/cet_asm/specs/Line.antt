@@ -1,5 +1,5 @@
 -- One line of the assembler by itself: its labels, and what it states. Source: own.
-use Rattle.std.specs.Prelude.{ℕ, zero, suc, ℤ, pos, negsuc, Bool, true, false, not, ◌&&◌, ◌==◌, nat_lt, if◌then◌else◌, List, [], ◌∷◌, length, map, Option, Some, None, is_some, codes}
+use Rattle.std.specs.Prelude.{ℕ, ◌^◌, zero, suc, ℤ, pos, negsuc, Bool, true, false, not, ◌&&◌, ◌==◌, nat_lt, if◌then◌else◌, List, [], ◌∷◌, length, map, Option, Some, None, is_some, codes}
 use Rattle.std.specs.List.{list_all, filter_map}
 use Rattle.std.specs.Str.{bytes_eq, is_utf8}
 use Rattle.cet_isa.specs.Spelled.{has_spelling}
@@ -10,7 +10,7 @@ use Rattle.cet_asm.specs.declared.rules.Rule.{Rule}
 use Rattle.cet_asm.specs.declared.rules.Rule.TheVariants as rules
 use Rattle.cet_asm.specs.Tokens.{front, behind, Token, tokens, ◌>>=◌}
 use Rattle.cet_asm.specs.Words.{Place, Number, Label, is_label, unsigned_field, byte_field, quad_field}
-use Rattle.cet_asm.specs.Operands.{Operands, Absent, One, Two, Value, operands, is_list, listed}
+use Rattle.cet_asm.specs.Operands.{Operands, Absent, One, Two, Value, operands, is_list, items, listed}
 use Rattle.cet_asm.specs.Mnemonics.{mnemonic_of, locked_mnemonic, untracked_mnemonic}
 use Rattle.cet_asm.specs.Instructions.{Uses, Built, built}
 
@@ -53,20 +53,31 @@ instruction (Some m) text = stated (operands (tokens text) >>= built m)
 
 -- ---- directives
 
-abbrev pub without_operands : Statement → List Token → Statement
-without_operands s [] = s
-without_operands s ts = Broken rules.Operand
+-- `.text` or `.data`, which have no operands
+abbrev pub section_stated : Bool → List Token → Statement
+section_stated is_text [] = if is_text then TextSection else DataSection
+section_stated is_text ts = Broken rules.Operand
 
--- the number below the count that stands alone
-unfoldable pub number_alone : ℕ → Option Operands → Option (Option ℕ)
-number_alone count (Some (One (Value (Number value)))) = Some (value >>= unsigned_field count)
-number_alone count (Some (One (Value (Label name)))) = Some None
-number_alone count o = None
+-- the number that stands alone; a label is as one that doesn't fit
+abbrev pub number_alone : Option Operands → Option (Option ℤ)
+number_alone (Some (One (Value (Number value)))) = Some value
+number_alone (Some (One (Value (Label name)))) = Some None
+number_alone o = None
 
-abbrev pub numbered : (ℕ → Statement) → Option (Option ℕ) → Statement
-numbered f None = Broken rules.Operand
-numbered f (Some None) = Broken rules.Number
-numbered f (Some (Some n)) = f n
+abbrev pub number_stated : (ℕ → Statement) → Option ℕ → Statement
+number_stated f None = Broken rules.Number
+number_stated f (Some n) = f n
+
+-- what is stated of a number below the count
+abbrev pub numbered : ℕ → (ℕ → Statement) → Option (Option ℤ) → Statement
+numbered count f None = Broken rules.Operand
+numbered count f (Some value) = number_stated f (value >>= unsigned_field count)
+
+abbrev pub mark_stated : Option (Option ℤ) → Statement
+mark_stated value = numbered 4 (λ n. Mark n) value
+
+abbrev pub zero_stated : Option (Option ℤ) → Statement
+zero_stated value = numbered (2 ^ 64) (λ n. Zero n) value
 
 abbrev pub byte_of : Place → Option ℕ
 byte_of (Number (Some z)) = byte_field z
@@ -83,26 +94,37 @@ quad_of (Label name) = Some (Named name)
 
 -- the bytes and the words of a list
 unfoldable pub bytes_in : List Token → List ℕ
-bytes_in ts = filter_map byte_of (listed ts)
+bytes_in ts = items byte_of ts
 
 unfoldable pub quads_in : List Token → List Item
-quads_in ts = filter_map quad_of (listed ts)
+quads_in ts = items quad_of ts
 
-abbrev pub list_stated : Bool → Bool → Statement → Statement
-list_stated form fits s = if not form then Broken rules.Operand else if fits then s else Broken rules.Number
+-- whether all items fit, or None for what is no list
+unfoldable pub list_fits : (Place → Bool) → List Token → Option Bool
+list_fits fits ts = if is_list ts then Some (list_all fits (listed ts)) else None
 
-unfoldable pub bytes_stated : List Token → Statement
-bytes_stated ts = list_stated (is_list ts) (list_all (λ p. is_some (byte_of p)) (listed ts)) (Values (bytes_in ts))
+abbrev pub list_stated : Option Bool → Statement → Statement
+list_stated None s = Broken rules.Operand
+list_stated (Some fits) s = if fits then s else Broken rules.Number
 
-unfoldable pub quads_stated : List Token → Statement
-quads_stated ts = list_stated (is_list ts) (list_all (λ p. is_some (quad_of p)) (listed ts)) (Quads (quads_in ts))
+abbrev pub is_byte : Place → Bool
+is_byte p = is_some (byte_of p)
+
+abbrev pub is_quad : Place → Bool
+is_quad p = is_some (quad_of p)
+
+abbrev pub bytes_stated : List Token → Statement
+bytes_stated ts = list_stated (list_fits is_byte ts) (Values (bytes_in ts))
+
+abbrev pub quads_stated : List Token → Statement
+quads_stated ts = list_stated (list_fits is_quad ts) (Quads (quads_in ts))
 
 unfoldable pub directive : List ℕ → List ℕ → Statement
 directive w text =
-    if bytes_eq w (codes ".text") then without_operands TextSection (tokens text)
-    else if bytes_eq w (codes ".data") then without_operands DataSection (tokens text)
-    else if bytes_eq w (codes ".mark") then numbered (λ n. Mark n) (number_alone 4 (operands (tokens text)))
-    else if bytes_eq w (codes ".zero") then numbered (λ n. Zero n) (number_alone 0x10000000000000000 (operands (tokens text)))
+    if bytes_eq w (codes ".text") then section_stated true (tokens text)
+    else if bytes_eq w (codes ".data") then section_stated false (tokens text)
+    else if bytes_eq w (codes ".mark") then mark_stated (number_alone (operands (tokens text)))
+    else if bytes_eq w (codes ".zero") then zero_stated (number_alone (operands (tokens text)))
     else if bytes_eq w (codes ".byte") then bytes_stated (tokens text)
     else if bytes_eq w (codes ".quad") then quads_stated (tokens text)
     else Broken rules.Directive
@@ -119,13 +141,18 @@ second_word text = front Solid (skip_blanks text)
 abbrev pub after_second : List ℕ → List ℕ
 after_second text = behind Solid (skip_blanks text)
 
+-- after `lock`, or after `notrack`
+abbrev pub prefixed : Bool → List ℕ → Statement
+prefixed lock text =
+    instruction (if lock then locked_mnemonic (second_word text) else untracked_mnemonic (second_word text)) (after_second text)
+
 -- a word, and the text after it
 unfoldable pub begun : List ℕ → List ℕ → Statement
 begun [] text = Nothing
 begun (b ∷ w) text =
     if b == 46 then directive (b ∷ w) text
-    else if bytes_eq (b ∷ w) (codes "lock") then instruction (locked_mnemonic (second_word text)) (after_second text)
-    else if bytes_eq (b ∷ w) (codes "notrack") then instruction (untracked_mnemonic (second_word text)) (after_second text)
+    else if bytes_eq (b ∷ w) (codes "lock") then prefixed true text
+    else if bytes_eq (b ∷ w) (codes "notrack") then prefixed false text
     else instruction (mnemonic_of (b ∷ w)) text
 
 unfoldable pub statement_of : List ℕ → Statement

@@ -1,6 +1,5 @@
 -- The operands of a line. Source: own, after the Intel syntax of the SDM (volume 2).
 use Rattle.std.specs.Prelude.{ℕ, ℤ, Bool, true, false, ◌==◌, ◌&&◌, if◌then◌else◌, List, [], ◌∷◌, Option, Some, None, is_some, codes}
-use Rattle.std.specs.List.{cons_option}
 use Rattle.std.specs.Str.{bytes_eq}
 use Rattle.cet_isa.specs.declared.instructions.Base.{Base}
 use Rattle.cet_isa.specs.declared.instructions.Base.TheVariants as bases
@@ -178,37 +177,46 @@ second_given w v =
 unfoldable pub minus_given : List ℕ → List ℕ → Option Given
 minus_given w v = if bytes_eq w (codes "rel") then relative_given (number_place true v) else None
 
+-- the same, with what follows it
+abbrev pub minus_worded : List ℕ → List Token → Option (Given × List Token)
+minus_worded w (Word v ∷ ts) = followed (minus_given w v) ts
+minus_worded w ts = None
+
 -- an operand that begins by the word, with what follows it
 unfoldable pub worded : List ℕ → List Token → Option (Given × List Token)
 worded w [] = followed (word_given w) []
 worded w (Sign s ∷ ts) = if s == 91 then sized_given w ts else followed (word_given w) (Sign s ∷ ts)
 worded w (Word v ∷ ts) = followed (second_given w v) ts
-worded w (Minus ∷ Word v ∷ ts) = followed (minus_given w v) ts
-worded w ts = None
+worded w (Minus ∷ ts) = minus_worded w ts
 
 abbrev pub memory_given : Option (Address × List Token) → Option (Given × List Token)
 memory_given None = None
 memory_given (Some m) = Some (Memory m.0, m.1)
 
+-- a number after its `-`, with what follows it
+abbrev pub negative_given : List Token → Option (Given × List Token)
+negative_given (Word w ∷ ts) = followed (value_given (number_place true w)) ts
+negative_given ts = None
+
 -- an operand, with what follows it
 unfoldable pub given : List Token → Option (Given × List Token)
 given (Word w ∷ ts) = worded w ts
 given (Sign s ∷ ts) = if s == 91 then memory_given (memory ts) else None
-given (Minus ∷ Word w ∷ ts) = followed (value_given (number_place true w)) ts
-given ts = None
+given (Minus ∷ ts) = negative_given ts
+given [] = None
 
 pub data Operands : Type 0 where
   Absent : Operands
   One : Given → Operands
   Two : Given → Given → Operands
 
+abbrev pub ended : Given → Given → List Token → Option Operands
+ended g h [] = Some (Two g h)
+ended g h ts = None
+
 -- the second operand, which ends the line
 unfoldable pub second : Given → List Token → Option Operands
-second g ts = given ts >>= (λ o. go o.0 o.1)
-  where
-    go : Given → List Token → Option Operands
-    go o [] = Some (Two g o)
-    go o ts = None
+second g ts = given ts >>= (λ o. ended g o.0 o.1)
 
 unfoldable pub after_first : Given → List Token → Option Operands
 after_first g [] = Some (One g)
@@ -230,10 +238,34 @@ is_list (Minus ∷ Word w ∷ []) = is_some (number_place true w)
 is_list (Minus ∷ Word w ∷ Sign s ∷ ts) = is_some (number_place true w) && ((s == 44) && is_list ts)
 is_list ts = false
 
--- the numbers and labels of a list
-unfoldable pub listed : List Token → List Place
-listed (Word w ∷ []) = cons_option (word_place w) []
-listed (Word w ∷ Sign s ∷ ts) = cons_option (word_place w) (listed ts)
-listed (Minus ∷ Word w ∷ []) = cons_option (number_place true w) []
-listed (Minus ∷ Word w ∷ Sign s ∷ ts) = cons_option (number_place true w) (listed ts)
-listed ts = []
+abbrev pub before : {A : Type 0} → Option A → List A → List A
+before None xs = []
+before (Some x) xs = x ∷ xs
+
+-- what the function makes of the numbers and labels of a list, up to the first for which it has nothing
+unfoldable pub items : {A : Type 0} → (Place → Option A) → List Token → List A
+items f (Word w ∷ []) = before (word_place w >>= f) []
+items f (Word w ∷ Sign s ∷ ts) = if s == 44 then before (word_place w >>= f) (items f ts) else []
+items f (Minus ∷ Word w ∷ []) = before (number_place true w >>= f) []
+items f (Minus ∷ Word w ∷ Sign s ∷ ts) = if s == 44 then before (number_place true w >>= f) (items f ts) else []
+items f ts = []
+
+abbrev pub listed : List Token → List Place
+listed ts = items (λ p. Some p) ts
+
+-- what follows an item: the end, or a comma and more
+abbrev pub separated : Option Place → List Token → Option (Place × Option (List Token))
+separated None ts = None
+separated (Some p) [] = Some (p, None)
+separated (Some p) (Sign s ∷ ts) = if s == 44 then Some (p, Some ts) else None
+separated (Some p) ts = None
+
+abbrev pub negative_item : List Token → Option (Place × Option (List Token))
+negative_item (Word w ∷ ts) = separated (number_place true w) ts
+negative_item ts = None
+
+-- the first item of a list, and what follows its comma
+unfoldable pub item_first : List Token → Option (Place × Option (List Token))
+item_first (Word w ∷ ts) = separated (word_place w) ts
+item_first (Minus ∷ ts) = negative_item ts
+item_first ts = None

@@ -3,28 +3,26 @@
 ghost use Rattle.std.specs.Prelude.{◌≡◌, ◌++◌, ◌<◌, ◌≤◌, OnOk, [], ◌∷◌, true};
 ghost use Rattle.std.specs.Int.{w64, to_le_bytes};
 ghost use Rattle.std.specs.List.{flat_map, repeat};
-ghost use Rattle.cet_isa.specs.Canonical.{one_byte};
-ghost use Rattle.cet_isa.specs.Code.{cond_number};
+ghost use Rattle.cet_isa.specs.Canonical.{fits_byte, one_byte};
 ghost use Rattle.cet_isa.specs.Spelled.{has_spelling};
 ghost use Rattle.cet_asm.specs.Tokens.{tokens};
 ghost use Rattle.cet_asm.specs.Line.{Code, bytes_in, quads_in};
 ghost use Rattle.cet_asm.specs.Layout.{size_of};
-ghost use Rattle.cet_asm.specs.Program.{item_bytes, short_opcode, short_distance, code_bytes, bytes_of};
-ghost use Rattle.cet_asm.specs.Views.{uses_view, statement_view, item_view};
-ghost use Rattle.cet_asm.specs.Filling.{IsSpelled};
+ghost use Rattle.cet_asm.specs.Program.{item_bytes, short_opcode, short_distance, is_in_reach, code_bytes, bytes_of};
+ghost use Rattle.cet_asm.specs.Views.{uses_view, statement_view, item_view, IsSpelledStatement};
 ghost use Rattle.cet_asm.specs.Passes.{IsWithin};
 ghost use Rattle.cet_asm.specs.Places.{whole_view, IsSmall};
 
-use crate::boundary::{first_byte, first_quad};
 use crate::checks::short_distance;
 use crate::filling::filled;
 use crate::labels::{Labels, environment, found_in};
 use crate::layout::{address_of, spot_of};
 use crate::lines::{Statement, Uses};
+use crate::lists::{next_byte, next_quad};
 use crate::places::Item;
 use crate::sections::Here;
 use crate::sizes::spell;
-use cet_isa::{Cond, Instr};
+use cet_isa::Instr;
 use cet_words::{Bytes, NoMemory};
 use std::alloc::Global;
 
@@ -41,7 +39,7 @@ fn put_values(alloc: Global, out: &mut Bytes, text: &[u8]) -> Result<(), NoMemor
     ensures { OnOk result (out.new ≡ out.old ++ bytes_in (tokens text.now)) }
 {
     let mut rest = text;
-    while let Some((byte, after)) = first_byte(rest) {
+    while let Some((byte, after)) = next_byte(rest) {
         out.push(alloc, byte)?;
         rest = after;
     }
@@ -63,51 +61,28 @@ fn put_quads<'a>(alloc: Global, out: &mut Bytes, labels: &Labels<'a>, text: &'a 
     ensures { OnOk result (out.new ≡ out.old ++ flat_map (item_bytes (whole_view labels.now)) (quads_in (tokens text.now))) }
 {
     let mut rest = text;
-    while let Some((item, after)) = first_quad(rest) {
+    while let Some((item, after)) = next_quad(rest) {
         out.extend(alloc, &item_word(labels, item).to_le_bytes())?;
         rest = after;
     }
     Ok(())
 }
 
-fn cond_number(cond: Cond) -> u8
-    ensures number { result ≡ cond_number cond }
-    ensures small { result < 16 }
-{
-    match cond {
-        Cond::O => 0,
-        Cond::No => 1,
-        Cond::B => 2,
-        Cond::Ae => 3,
-        Cond::E => 4,
-        Cond::Ne => 5,
-        Cond::Be => 6,
-        Cond::A => 7,
-        Cond::S => 8,
-        Cond::Ns => 9,
-        Cond::P => 10,
-        Cond::Np => 11,
-        Cond::L => 12,
-        Cond::Ge => 13,
-        Cond::Le => 14,
-        Cond::G => 15,
-    }
-}
-
 fn short_opcode(instr: Instr) -> u8
     ensures { result ≡ short_opcode instr }
 {
     match instr {
-        Instr::Jcc { cond, .. } => 0x70 + cond_number(cond),
+        Instr::Jcc { cond, .. } => 0x70 + cond as u8,
         _ => 0xeb,
     }
 }
 
-/// A signed number as one byte, modulo 2^8.
+/// A signed number of one byte.
 fn one_byte(value: i32) -> u8
+    requires { fits_byte value ≡ true }
     ensures { result ∷ [] ≡ one_byte value }
 {
-    value.to_le_bytes()[0]
+    (value as i8).cast_unsigned()
 }
 
 /// A jump with a target of one byte.
@@ -121,6 +96,7 @@ fn put_short<'a>(
 ) -> Result<(), NoMemory>
     requires small { IsSmall (whole_view labels.now) }
     requires within { IsWithin here }
+    requires reach { fits_byte (short_distance (whole_view labels.now) here name.now) ≡ true }
     ensures { OnOk result (out.new ≡ out.old ++ short_opcode instr ∷ one_byte (short_distance (whole_view labels.now) here name.now)) }
 {
     let distance = short_distance(labels, here, name);
@@ -129,7 +105,7 @@ fn put_short<'a>(
 }
 
 /// An instruction of so many bytes.
-#[tactic(auto, using(crate::proofs::FillingLaws::filling_laws))]
+#[tactic(auto, using(crate::proofs::FillingLaws::filling_laws), unfolding(crate::specs::Program::is_in_reach))]
 fn put_code<'a>(
     alloc: Global,
     out: &mut Bytes,
@@ -144,6 +120,7 @@ fn put_code<'a>(
     requires spelled { has_spelling instr ≡ true }
     requires size { size ≡ size_of (Code instr (uses_view uses)) }
     requires short { size ≤ 4190208 }
+    requires reach { is_in_reach (whole_view labels.now) here (Code instr (uses_view uses)) ≡ true }
     ensures { OnOk result (out.new ≡ out.old ++ code_bytes (whole_view labels.now) here instr (uses_view uses.entry)) }
 {
     match uses.short {
@@ -167,9 +144,10 @@ pub(crate) fn put_statement<'a>(
 ) -> Result<(), NoMemory>
     requires small { IsSmall (whole_view labels.now) }
     requires within { IsWithin here }
-    requires spelled { IsSpelled (statement_view statement) }
+    requires spelled { IsSpelledStatement statement }
     requires size { size ≡ size_of (statement_view statement) }
     requires short { size ≤ 4190208 }
+    requires reach { is_in_reach (whole_view labels.now) here (statement_view statement) ≡ true }
     ensures { OnOk result (out.new ≡ out.old ++ bytes_of (whole_view labels.now) here (statement_view statement.entry)) }
 {
     match statement {

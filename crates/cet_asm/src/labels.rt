@@ -10,10 +10,10 @@ ghost use Rattle.cet_asm.specs.Filling.{address_for, found_in, AreSmall};
 ghost use Rattle.cet_asm.specs.Passes.{place_in, with_label, with_labels, has_one};
 ghost use Rattle.cet_asm.specs.Places.{whole_view, IsSmall};
 
-use crate::boundary::{first_label, first_quad};
 use crate::filling::Found;
 use crate::layout::{TEXT_START, address_of};
-use crate::lines::Uses;
+use crate::lines::{Uses, next_label};
+use crate::lists::next_quad;
 use crate::places::Item;
 use crate::sections::Spot;
 use cet_words::NoMemory;
@@ -46,7 +46,7 @@ pub(crate) fn define_all<'a>(places: &mut BTreeMap<&'a [u8], Spot>, text: &'a [u
 {
     let mut known = false;
     let mut rest = text;
-    while let Some((name, after)) = first_label(rest) {
+    while let Some((name, after)) = next_label(rest) {
         known = define(places, name, spot)? || known;
         rest = after;
     }
@@ -125,7 +125,7 @@ pub(crate) fn knows_items<'a>(labels: &Labels<'a>, text: &'a [u8]) -> bool
     ensures { result ≡ list_all (knows_item (whole_view labels.now)) (quads_in (tokens text.now)) }
 {
     let mut rest = text;
-    while let Some((item, after)) = first_quad(rest) {
+    while let Some((item, after)) = next_quad(rest) {
         if !knows_item(labels, item) {
             return false;
         }

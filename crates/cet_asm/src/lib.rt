@@ -4,12 +4,13 @@
 mod addresses;
 mod checks;
 mod classes;
-mod boundary;
 mod emission;
 mod filling;
+mod instructions;
 mod labels;
 mod layout;
 mod lines;
+mod lists;
 mod mnemonics;
 mod names;
 mod operands;
@@ -18,6 +19,7 @@ mod program;
 mod rules;
 mod sections;
 mod sizes;
+mod statements;
 mod tokens;
 
 pub use program::{AsmFault, Program};

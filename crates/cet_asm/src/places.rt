@@ -93,6 +93,15 @@ pub(crate) fn word_number(value: i128) -> Option<u16>
     u16::try_from(value).ok()
 }
 
+pub(crate) fn mark_number(value: i128) -> Option<u8>
+    ensures { result ≡ unsigned_field 4 value }
+{
+    match u8::try_from(value) {
+        Ok(mark) if mark < 4 => Some(mark),
+        _ => None,
+    }
+}
+
 pub(crate) fn unsigned_quad(value: i128) -> Option<u64>
     ensures { result ≡ unsigned_field (2 ^ 64) value }
 {

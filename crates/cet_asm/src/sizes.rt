@@ -6,13 +6,13 @@ ghost use Rattle.cet_isa.specs.Spelled.{has_spelling, InstrFits};
 ghost use Rattle.cet_asm.specs.Tokens.{tokens};
 ghost use Rattle.cet_asm.specs.Line.{bytes_in, quads_in};
 ghost use Rattle.cet_asm.specs.Layout.{code_size, size_of, text_start};
-ghost use Rattle.cet_asm.specs.Views.{name_view, uses_view, statement_view};
-ghost use Rattle.cet_asm.specs.Filling.{address_for, found_in, AreSmall, IsSpelled};
+ghost use Rattle.cet_asm.specs.Views.{name_view, uses_view, statement_view, IsSpelledStatement};
+ghost use Rattle.cet_asm.specs.Filling.{address_for, found_in, AreSmall};
 
-use crate::boundary::{first_byte, first_quad};
 use crate::filling::{Found, filled};
 use crate::layout::TEXT_START;
 use crate::lines::{Statement, Uses};
+use crate::lists::{next_byte, next_quad};
 use cet_encode::encode;
 use cet_isa::Instr;
 use cet_words::{Bytes, NoMemory};
@@ -75,24 +75,26 @@ fn code_size(alloc: Global, instr: Instr, uses: Uses) -> Result<usize, NoMemory>
     }
 }
 
+#[tactic(auto, using(crate::proofs::SizeLaws::size_laws))]
 fn count_values(text: &[u8]) -> usize
     ensures { result ≡ length (bytes_in (tokens text.now)) }
 {
     let mut count = 0;
     let mut rest = text;
-    while let Some((_value, after)) = first_byte(rest) {
+    while let Some((_value, after)) = next_byte(rest) {
         count += 1;
         rest = after;
     }
     count
 }
 
+#[tactic(auto, using(crate::proofs::SizeLaws::size_laws))]
 fn count_quads(text: &[u8]) -> usize
     ensures { result ≡ length (quads_in (tokens text.now)) }
 {
     let mut count = 0;
     let mut rest = text;
-    while let Some((_item, after)) = first_quad(rest) {
+    while let Some((_item, after)) = next_quad(rest) {
         count += 1;
         rest = after;
     }
@@ -102,7 +104,7 @@ fn count_quads(text: &[u8]) -> usize
 /// How many bytes a line states.
 #[tactic(auto, unfolding(crate::specs::Layout::size_of))]
 pub(crate) fn size_of(alloc: Global, statement: Statement) -> Result<u128, NoMemory>
-    requires { IsSpelled (statement_view statement) }
+    requires { IsSpelledStatement statement }
     ensures { IfOk result (λ n. n ≡ size_of (statement_view statement.entry)) }
 {
     match statement {

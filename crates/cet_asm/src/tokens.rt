@@ -66,7 +66,8 @@ pub(crate) fn after_sign(sign: u8, text: &[u8]) -> Option<&[u8]>
 
 /// The word that is the first token, and the text after it.
 pub(crate) fn first_word(text: &[u8]) -> Option<(&[u8], &[u8])>
-    ensures { IsAfterWord text.now result }
+    ensures word { IsAfterWord text.now result }
+    ensures shorter { IfSome result (λ x. length x.1.now < length text.now) }
 {
     match next(text) {
         Some((Token::Word(word), rest)) => Some((word, rest)),

@@ -7,4 +7,4 @@ abbrev pub invariant-loop-byte : goal.invariant-loop-byte
 invariant-loop-byte l = l.out ++ bytes_in (tokens l.rest) ≡ l.fn.out ++ bytes_in (tokens l.text)
 
 abbrev pub decreases-loop-byte : goal.decreases-loop-byte
-decreases-loop-byte l = length l.rest
+decreases-loop-byte l = length (bytes_in (tokens l.rest))

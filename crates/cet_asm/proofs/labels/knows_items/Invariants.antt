@@ -10,4 +10,4 @@ abbrev pub invariant-loop-item : goal.invariant-loop-item
 invariant-loop-item l = list_all (knows_item (whole_view l.labels)) (quads_in (tokens l.rest)) ≡ list_all (knows_item (whole_view l.labels)) (quads_in (tokens l.text))
 
 abbrev pub decreases-loop-item : goal.decreases-loop-item
-decreases-loop-item l = length l.rest
+decreases-loop-item l = length (quads_in (tokens l.rest))
