@@ -1,0 +1,13 @@
+-- How long a program may get.
+use Rattle.std.proofs.Common.{◌≡◌, ℕ, ◌+◌, ◌*◌, ◌/◌, ◌≤◌, ◌<◌, Bool, true, false, not, nat_le, refl, sym, ap, ◌∙◌, arith}
+use Rattle.cet_asm.specs.Layout.{round_up, grown, exceeds}
+use Rattle.cet_asm.specs.declared.sections.Section.TheVariants as sections
+use Rattle.cet_asm.specs.declared.sections.Here.{Here}
+
+round_up_least : (n : ℕ) → n ≤ round_up n
+round_up_least n = omega arith
+
+pub long_exceeds : (h : Here) (n : ℕ) → 4190208 < n → exceeds (grown h n) ≡ true
+long_exceeds h n l = grind (arith, round_up_least)
+
+pub ruleset layout_laws = (long_exceeds)

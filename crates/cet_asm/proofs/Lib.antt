@@ -1,0 +1,7 @@
+pub mod TokenLaws
+mod MapLaws
+pub mod LayoutLaws
+pub mod FillingLaws
+pub mod ListLaws
+pub mod LineLaws
+pub mod SizeLaws

@@ -1,0 +1,8 @@
+use Rattle.std.proofs.Common.{rules, ◌≡◌, true, subst, sym, ap, ◌∙◌}
+use Rattle.cet_isa.specs.Canonical.{canonical_spelling}
+use Rattle.cet_isa.specs.CanonicalSpells.{canonical_spells}
+use Rattle.cet_isa.specs.Spelled.{has_spelling}
+use Rattle.cet_asm.proofs.sizes.spell.Goals as goal
+
+pub encode-requires : goal.encode-requires
+encode-requires c = (canonical_spelling c.ranged.result, canonical_spells c.ranged.result c.ranged.ensures.fits (ap has_spelling c.ranged.ensures.same ∙ c.requires))

@@ -1,0 +1,132 @@
+//! The rules that a line breaks.
+
+ghost use Rattle.std.specs.Prelude.{◌≡◌};
+ghost use Rattle.cet_isa.specs.Canonical.{fits_byte};
+ghost use Rattle.cet_asm.specs.Layout.{size_of};
+ghost use Rattle.cet_asm.specs.Program.{knows_all, short_distance, is_in_reach, own_fault, directive_fault, broken_at, rule_number};
+ghost use Rattle.cet_asm.specs.Views.{statement_view};
+ghost use Rattle.cet_asm.specs.Passes.{IsWithin};
+ghost use Rattle.cet_asm.specs.Places.{whole_view, IsSmall};
+
+use crate::filling::distance;
+use crate::labels::{Labels, environment, knows_items, knows_uses};
+use crate::layout::{address_of, is_too_long, spot_of};
+use crate::lines::Statement;
+use crate::rules::Rule;
+use crate::sections::Here;
+
+#[tactic(auto, unfolding(crate::specs::Program::knows_all))]
+fn knows_all<'a>(labels: &Labels<'a>, statement: Statement<'a>) -> bool
+    requires { IsSmall (whole_view labels.now) }
+    ensures { result ≡ knows_all (whole_view labels.now) (statement_view statement.entry) }
+{
+    match statement {
+        Statement::Code(_, uses) => knows_uses(labels, uses),
+        Statement::Quads(text) => knows_items(labels, text),
+        _ => true,
+    }
+}
+
+/// From the byte after a short jump that stands here to its label.
+pub(crate) fn short_distance<'a>(labels: &Labels<'a>, here: Here, name: &'a [u8]) -> i32
+    requires small { IsSmall (whole_view labels.now) }
+    requires within { IsWithin here }
+    ensures { result ≡ short_distance (whole_view labels.now) here name.now }
+{
+    distance(
+        address_of(labels.text_size, spot_of(here)) + 2,
+        environment(labels, name),
+    )
+}
+
+fn fits_byte(distance: i32) -> bool
+    ensures { result ≡ fits_byte distance }
+{
+    distance >= -128 && distance < 128
+}
+
+#[tactic(auto, unfolding(crate::specs::Program::is_in_reach))]
+fn is_in_reach<'a>(labels: &Labels<'a>, here: Here, statement: Statement<'a>) -> bool
+    requires small { IsSmall (whole_view labels.now) }
+    requires within { IsWithin here }
+    ensures { result ≡ is_in_reach (whole_view labels.now) here (statement_view statement.entry) }
+{
+    match statement {
+        Statement::Code(_, uses) => match uses.short {
+            Some(name) => fits_byte(short_distance(labels, here, name)),
+            None => true,
+        },
+        _ => true,
+    }
+}
+
+fn own_fault(statement: Statement) -> Option<Rule>
+    ensures { result ≡ own_fault (statement_view statement.entry) }
+{
+    match statement {
+        Statement::Broken(Rule::Directive) => None,
+        Statement::Broken(rule) => Some(rule),
+        _ => None,
+    }
+}
+
+fn directive_fault(statement: Statement) -> Option<Rule>
+    ensures { result ≡ directive_fault (statement_view statement.entry) }
+{
+    match statement {
+        Statement::Broken(Rule::Directive) => Some(Rule::Directive),
+        _ => None,
+    }
+}
+
+/// The first rule that a line of so many bytes breaks which stands here, by whether one of its labels is defined before.
+#[tactic(auto, unfolding(crate::specs::Program::broken_at, crate::specs::Layout::is_too_long))]
+pub(crate) fn broken_at<'a>(
+    labels: &Labels<'a>,
+    twice: bool,
+    here: Here,
+    statement: Statement<'a>,
+    size: u128,
+) -> Option<Rule>
+    requires small { IsSmall (whole_view labels.now) }
+    requires within { IsWithin here }
+    requires size { size ≡ size_of (statement_view statement) }
+    ensures { result ≡ broken_at (whole_view labels.now) twice here (statement_view statement.entry) }
+{
+    if let Some(rule) = own_fault(statement) {
+        return Some(rule);
+    }
+    if !knows_all(labels, statement) {
+        return Some(Rule::UnknownLabel);
+    }
+    if twice {
+        return Some(Rule::DefinedBefore);
+    }
+    if !is_in_reach(labels, here, statement) {
+        return Some(Rule::OutOfReach);
+    }
+    if let Some(rule) = directive_fault(statement) {
+        return Some(rule);
+    }
+    if is_too_long(here, size) {
+        return Some(Rule::TooLong);
+    }
+    None
+}
+
+/// The number of a rule in an answer.
+pub(crate) fn rule_number(rule: Rule) -> u8
+    ensures { result ≡ rule_number rule }
+{
+    match rule {
+        Rule::Mnemonic => 1,
+        Rule::Operand => 2,
+        Rule::Number => 3,
+        Rule::UnknownLabel => 4,
+        Rule::DefinedBefore => 5,
+        Rule::OutOfReach => 6,
+        Rule::Directive => 7,
+        Rule::TooLong => 8,
+        Rule::NotUtf8 => 9,
+    }
+}

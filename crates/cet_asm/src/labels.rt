@@ -1,0 +1,143 @@
+//! The places of labels.
+
+ghost use Rattle.std.specs.Prelude.{◌≡◌, ◌<◌, ◌^◌, OnOk, IfOk, IfSome, is_some};
+ghost use Rattle.std.specs.List.{list_all};
+ghost use Rattle.cet_asm.specs.Tokens.{tokens};
+ghost use Rattle.cet_asm.specs.Line.{labels_of, quads_in};
+ghost use Rattle.cet_asm.specs.Program.{label_address, environment, knows, knows_item, knows_uses};
+ghost use Rattle.cet_asm.specs.Views.{name_view, uses_view, item_view};
+ghost use Rattle.cet_asm.specs.Filling.{address_for, found_in, AreSmall};
+ghost use Rattle.cet_asm.specs.Passes.{place_in, with_label, with_labels, has_one};
+ghost use Rattle.cet_asm.specs.Places.{whole_view, IsSmall};
+
+use crate::filling::Found;
+use crate::layout::{TEXT_START, address_of};
+use crate::lines::{Uses, next_label};
+use crate::lists::next_quad;
+use crate::places::Item;
+use crate::sections::Spot;
+use cet_words::NoMemory;
+use std::alloc::Global;
+use std::collections::BTreeMap;
+
+/// The places of all labels of a text, and how many bytes its text section has.
+#[derive(Drop)]
+pub(crate) struct Labels<'a> {
+    pub places: BTreeMap<&'a [u8], Spot>,
+    pub text_size: u64,
+}
+
+/// Gives a label a place where it has none. The answer says whether it has one already.
+fn define<'a>(places: &mut BTreeMap<&'a [u8], Spot>, name: &'a [u8], spot: Spot) -> Result<bool, NoMemory>
+    ensures known { IfOk result (λ known. known ≡ is_some (place_in places.old name.now)) }
+    ensures places { OnOk result (place_in places.new ≡ with_label (place_in places.old) spot name.now) }
+{
+    if places.contains_key(&name) {
+        return Ok(true);
+    }
+    places.insert(name, spot)?;
+    Ok(false)
+}
+
+/// Gives the labels at the front of a line a place. The answer says whether one of them has one already.
+pub(crate) fn define_all<'a>(places: &mut BTreeMap<&'a [u8], Spot>, text: &'a [u8], spot: Spot) -> Result<bool, NoMemory>
+    ensures known { IfOk result (λ known. known ≡ has_one (place_in places.old) spot (labels_of text.now)) }
+    ensures places { OnOk result (place_in places.new ≡ with_labels (place_in places.old) spot (labels_of text.now)) }
+{
+    let mut known = false;
+    let mut rest = text;
+    while let Some((name, after)) = next_label(rest) {
+        known = define(places, name, spot)? || known;
+        rest = after;
+    }
+    Ok(known)
+}
+
+/// The address of a label, where it is defined.
+#[tactic(auto, unfolding(crate::specs::Program::label_address))]
+pub(crate) fn label_address<'a>(labels: &Labels<'a>, name: &'a [u8]) -> Option<u64>
+    requires { IsSmall (whole_view labels.now) }
+    ensures address { result ≡ label_address (whole_view labels.now) name.now }
+    ensures small { IfSome result (λ a. a < 2 ^ 24) }
+{
+    match labels.places.get(&name) {
+        Some(spot) => Some(address_of(labels.text_size, *spot)),
+        None => None,
+    }
+}
+
+/// The address of a label, or where the text starts.
+pub(crate) fn environment<'a>(labels: &Labels<'a>, name: &'a [u8]) -> u64
+    requires { IsSmall (whole_view labels.now) }
+    ensures address { result ≡ environment (whole_view labels.now) name.now }
+    ensures small { result < 2 ^ 24 }
+{
+    label_address(labels, name).unwrap_or(TEXT_START)
+}
+
+fn address_for<'a>(labels: &Labels<'a>, name: Option<&'a [u8]>) -> Option<u64>
+    requires { IsSmall (whole_view labels.now) }
+    ensures address { result ≡ address_for (environment (whole_view labels.now)) (name_view name.entry) }
+    ensures small { IfSome result (λ a. a < 2 ^ 24) }
+{
+    match name {
+        Some(name) => Some(environment(labels, name)),
+        None => None,
+    }
+}
+
+/// The addresses of the labels that an instruction uses.
+pub(crate) fn found_in<'a>(labels: &Labels<'a>, uses: Uses<'a>) -> Found
+    requires { IsSmall (whole_view labels.now) }
+    ensures found { result ≡ found_in (environment (whole_view labels.now)) (uses_view uses.entry) }
+    ensures small { AreSmall result }
+{
+    Found {
+        displacement: address_for(labels, uses.displacement),
+        immediate: address_for(labels, uses.immediate),
+        target: address_for(labels, uses.target),
+    }
+}
+
+fn knows<'a>(labels: &Labels<'a>, name: Option<&'a [u8]>) -> bool
+    requires { IsSmall (whole_view labels.now) }
+    ensures { result ≡ knows (whole_view labels.now) (name_view name.entry) }
+{
+    match name {
+        Some(name) => label_address(labels, name).is_some(),
+        None => true,
+    }
+}
+
+fn knows_item<'a>(labels: &Labels<'a>, item: Item<'a>) -> bool
+    requires { IsSmall (whole_view labels.now) }
+    ensures { result ≡ knows_item (whole_view labels.now) (item_view item.entry) }
+{
+    match item {
+        Item::Known(_) => true,
+        Item::Named(name) => label_address(labels, name).is_some(),
+    }
+}
+
+/// Whether all labels of a list are defined.
+pub(crate) fn knows_items<'a>(labels: &Labels<'a>, text: &'a [u8]) -> bool
+    requires { IsSmall (whole_view labels.now) }
+    ensures { result ≡ list_all (knows_item (whole_view labels.now)) (quads_in (tokens text.now)) }
+{
+    let mut rest = text;
+    while let Some((item, after)) = next_quad(rest) {
+        if !knows_item(labels, item) {
+            return false;
+        }
+        rest = after;
+    }
+    true
+}
+
+/// Whether all labels that an instruction uses are defined.
+pub(crate) fn knows_uses<'a>(labels: &Labels<'a>, uses: Uses<'a>) -> bool
+    requires { IsSmall (whole_view labels.now) }
+    ensures { result ≡ knows_uses (whole_view labels.now) (uses_view uses.entry) }
+{
+    knows(labels, uses.displacement) && knows(labels, uses.immediate) && knows(labels, uses.target) && knows(labels, uses.short)
+}

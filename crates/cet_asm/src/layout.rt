@@ -1,0 +1,134 @@
+//! Where the next bytes stand, and how long a program may get.
+
+ghost use Rattle.std.specs.Prelude.{◌≡◌, ◌<◌, ◌≤◌, ◌^◌, if◌then◌else◌};
+ghost use Rattle.cet_asm.specs.Layout.{round_up, grown, exceeds, after, spot_of, start, address_of, size_of};
+ghost use Rattle.cet_asm.specs.Views.{statement_view};
+ghost use Rattle.cet_asm.specs.Passes.{IsWithin};
+
+use crate::lines::Statement;
+use crate::sections::{Here, Section, Spot};
+
+/// Where the text starts.
+pub(crate) const TEXT_START: u64 = 0x401000;
+
+/// The most bytes that the text, rounded up to whole pages, and the data may have.
+const LIMIT: u64 = 4_190_208;
+
+pub(crate) fn start() -> Here
+    ensures start { result ≡ start }
+    ensures within { IsWithin result }
+{
+    Here {
+        section: Section::Text,
+        text: 0,
+        static_data: 0,
+    }
+}
+
+fn round_up(bytes: u64) -> u64
+    requires { bytes < 2 ^ 32 }
+    ensures { result ≡ round_up bytes }
+{
+    (bytes + 4095) / 4096 * 4096
+}
+
+fn grown(here: Here, size: u64) -> Here
+    requires within { IsWithin here }
+    requires size { size ≤ 4190208 }
+    ensures { result ≡ grown here size }
+{
+    match here.section {
+        Section::Text => Here {
+            section: here.section,
+            text: here.text + size,
+            static_data: here.static_data,
+        },
+        Section::Data => Here {
+            section: here.section,
+            text: here.text,
+            static_data: here.static_data + size,
+        },
+    }
+}
+
+fn exceeds(here: Here) -> bool
+    requires text { here.text < 2 ^ 32 }
+    requires static_data { here.static_data < 2 ^ 32 }
+    ensures { result ≡ exceeds here }
+{
+    round_up(here.text) + here.static_data > LIMIT
+}
+
+/// Whether the program gets too long by so many bytes.
+#[tactic(auto, using(crate::proofs::LayoutLaws::layout_laws))]
+pub(crate) fn is_too_long(here: Here, size: u128) -> bool
+    requires { IsWithin here }
+    ensures { result ≡ exceeds (grown here size) }
+{
+    if size > LIMIT as u128 {
+        return true;
+    }
+    exceeds(grown(here, size as u64))
+}
+
+fn moved(here: Here, size: u128) -> Here
+    requires { IsWithin here }
+    ensures here { result ≡ (if exceeds (grown here size) then here else grown here size) }
+    ensures within { IsWithin result }
+{
+    if is_too_long(here, size) {
+        here
+    } else {
+        grown(here, size as u64)
+    }
+}
+
+/// After a line of so many bytes. One that makes the program too long has none.
+#[tactic(auto, unfolding(crate::specs::Layout::after, crate::specs::Layout::is_too_long))]
+pub(crate) fn after(here: Here, statement: Statement, size: u128) -> Here
+    requires within { IsWithin here }
+    requires size { size ≡ size_of (statement_view statement) }
+    ensures here { result ≡ after here (statement_view statement.entry) }
+    ensures within { IsWithin result }
+{
+    match statement {
+        Statement::TextSection => Here {
+            section: Section::Text,
+            text: here.text,
+            static_data: here.static_data,
+        },
+        Statement::DataSection => Here {
+            section: Section::Data,
+            text: here.text,
+            static_data: here.static_data,
+        },
+        _ => moved(here, size),
+    }
+}
+
+pub(crate) fn spot_of(here: Here) -> Spot
+    ensures { result ≡ spot_of here }
+{
+    let offset = match here.section {
+        Section::Text => here.text,
+        Section::Data => here.static_data,
+    };
+    Spot {
+        section: here.section,
+        offset,
+    }
+}
+
+/// The address of a place, where the text has so many bytes.
+#[tactic(auto, unfolding(crate::specs::Layout::address_of))]
+pub(crate) fn address_of(text: u64, spot: Spot) -> u64
+    requires text { text ≤ 4190208 }
+    requires spot { spot.offset ≤ 4190208 }
+    ensures address { result ≡ address_of text spot }
+    ensures small { result < 2 ^ 24 }
+{
+    match spot.section {
+        Section::Text => TEXT_START + spot.offset,
+        Section::Data => TEXT_START + round_up(text) + spot.offset,
+    }
+}

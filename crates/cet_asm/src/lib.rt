@@ -1,0 +1,25 @@
+//! The assembler: from a text to the bytes of a program.
+#![tactic(auto)]
+
+mod addresses;
+mod checks;
+mod classes;
+mod emission;
+mod filling;
+mod instructions;
+mod labels;
+mod layout;
+mod lines;
+mod lists;
+mod mnemonics;
+mod names;
+mod operands;
+mod places;
+mod program;
+mod rules;
+mod sections;
+mod sizes;
+mod statements;
+mod tokens;
+
+pub use program::{AsmFault, Program};

@@ -1,0 +1,77 @@
+//! One line of a text by itself.
+
+ghost use Rattle.std.specs.Prelude.{◌≡◌, length, ◌<◌, IfSome};
+ghost use Rattle.std.specs.Str.{is_utf8};
+ghost use Rattle.cet_asm.specs.Line.{first_label, after_labels, line_of};
+ghost use Rattle.cet_asm.specs.Views.{label_view, line_view, IsFirstLabel, IsSpelledStatement};
+
+use crate::classes::{Class, skip_class, split_class};
+use crate::names::is_label;
+use crate::rules::Rule;
+use crate::statements::{Statement, statement_of};
+
+/// A line: the text at whose front its labels stand, and what it states.
+#[derive(Clone, Copy)]
+pub(crate) struct Line<'a> {
+    pub labels: &'a [u8],
+    pub statement: Statement<'a>,
+}
+
+/// A label and the colon directly after it, with the text after them.
+#[tactic(auto, using(crate::proofs::LineLaws::shorter_laws), unfolding(crate::specs::Line::first_label))]
+fn first_label(text: &[u8]) -> Option<(&[u8], &[u8])>
+    ensures label { label_view result ≡ first_label text.now }
+    ensures shorter { IfSome result (λ x. length x.1.now < length text.now) }
+{
+    let (name, rest) = split_class(Class::NameByte, skip_class(Class::Blank, text));
+    match rest {
+        [b':', after @ ..] if is_label(name) => Some((name, after)),
+        _ => None,
+    }
+}
+
+/// The first label of a text, and the text after it.
+#[tactic(auto, using(crate::proofs::LineLaws::label_laws))]
+pub(crate) fn next_label(text: &[u8]) -> Option<(&[u8], &[u8])>
+    ensures label { IsFirstLabel text.now result }
+    ensures shorter { IfSome result (λ x. length x.1.now < length text.now) }
+{
+    first_label(text)
+}
+
+#[tactic(auto, using(crate::proofs::LineLaws::label_laws))]
+fn after_labels(text: &[u8]) -> &[u8]
+    ensures { result.now ≡ after_labels text.now }
+{
+    let mut rest = text;
+    while let Some((_, after)) = first_label(rest) {
+        rest = after;
+    }
+    rest
+}
+
+#[tactic(auto, using(crate::proofs::LineLaws::utf8_laws))]
+fn is_utf8(bytes: &[u8]) -> bool
+    ensures { result ≡ is_utf8 bytes.now }
+{
+    std::str::from_utf8(bytes).is_ok()
+}
+
+/// Reads a line, without its newline.
+#[tactic(auto, using(crate::proofs::LineLaws::label_nil), unfolding(crate::specs::Line::line_of))]
+pub(crate) fn read_line(bytes: &[u8]) -> Line<'_>
+    ensures value { line_view result ≡ line_of bytes.now }
+    ensures spelled { IsSpelledStatement result.statement }
+{
+    if !is_utf8(bytes) {
+        return Line {
+            labels: &[],
+            statement: Statement::Broken(Rule::NotUtf8),
+        };
+    }
+    let text = split_class(Class::BeforeComment, bytes).0;
+    Line {
+        labels: text,
+        statement: statement_of(after_labels(text)),
+    }
+}
