@@ -1,9 +1,9 @@
 -- The first faulty word, where each command is one word.
-use Rattle.std.proofs.Common.{ℕ, zero, suc, ◌<◌, ◌≡◌, List, [], ◌∷◌, length, take, refl, ap, inl, inr, codes, arith}
+use Rattle.std.proofs.Common.{ℕ, zero, suc, ◌<◌, ◌≡◌, List, [], ◌∷◌, length, take, refl, sym, ap, ◌∙◌, inl, inr, codes, arith}
 use Rattle.std.specs.Prelude.{slice_index}
 use Rattle.cet_top.specs.Words.{Means, IsCommand, Begins, FaultyWord}
 use Rattle.cet_top.specs.declared.words.Command.{Command}
-use Rattle.cet_top.specs.declared.words.Command.TheVariants.{Run, Dis}
+use Rattle.cet_top.specs.declared.words.Command.TheVariants.{Run, Dis, Asm}
 
 begins_none : Begins IsCommand []
 begins_none = (codes "run" ∷ [], (Run, refl))
@@ -18,15 +18,18 @@ faulty_none = record { refused = refuse; before = before_one []; here = inr refl
     refuse : IsCommand [] → ⊥
     refuse (Run, is) = cc
     refuse (Dis, is) = cc
+    refuse (Asm, is) = cc
 
 -- what is a command is so by its first word
 first_alone : (word : List ℕ) (words : List (List ℕ)) (c : Command) → Means (word ∷ words) c → Means (word ∷ []) c
 first_alone word words Run is = let e : word ≡ codes "run" = cc in ap (λ (w : List ℕ). w ∷ []) e
 first_alone word words Dis is = let e : word ≡ codes "dis" = cc in ap (λ (w : List ℕ). w ∷ []) e
+first_alone word words Asm is = let e : word ≡ codes "asm" = cc in ap (λ (w : List ℕ). w ∷ []) e
 
 one_word : (word next : List ℕ) (words : List (List ℕ)) (c : Command) → Means (word ∷ next ∷ words) c → ⊥
 one_word word next words Run is = cc
 one_word word next words Dis is = cc
+one_word word next words Asm is = cc
 
 pub faulty_first : (word : List ℕ) (words : List (List ℕ)) → ((c : Command) → ¬ Means (word ∷ []) c) → FaultyWord IsCommand (word ∷ words) 1
 faulty_first word words other = record { refused = refuse; before = before_one (word ∷ words); here = inl (omega arith, stop) }
@@ -59,9 +62,30 @@ abbrev first_letter : List (List ℕ) → ℕ
 first_letter [] = 0
 first_letter (word ∷ words) = slice_index word 0
 
-two_letters : (letter : ℕ) → letter ≡ 114 → letter ≡ 100 → ⊥
-two_letters letter r d = omega (arith, r, d)
+letter : Command → ℕ
+letter Run = 114
+letter Dis = 100
+letter Asm = 97
 
--- no list of words is two commands
-pub run_or_dis : (words : List (List ℕ)) → Means words Run → Means words Dis → ⊥
-run_or_dis words run dis = two_letters (first_letter words) (ap first_letter run) (ap first_letter dis)
+means_letter : (words : List (List ℕ)) (c : Command) → Means words c → first_letter words ≡ letter c
+means_letter words Run m = ap first_letter m
+means_letter words Dis m = ap first_letter m
+means_letter words Asm m = ap first_letter m
+
+one_letter : (words : List (List ℕ)) (c d : Command) → Means words c → Means words d → letter c ≡ letter d
+one_letter words c d m n = sym (means_letter words c m) ∙ means_letter words d n
+
+by_letter : (c d : Command) → letter c ≡ letter d → c ≡ d
+by_letter Run Run e = refl
+by_letter Run Dis e = absurd (omega (arith, e))
+by_letter Run Asm e = absurd (omega (arith, e))
+by_letter Dis Run e = absurd (omega (arith, e))
+by_letter Dis Dis e = refl
+by_letter Dis Asm e = absurd (omega (arith, e))
+by_letter Asm Run e = absurd (omega (arith, e))
+by_letter Asm Dis e = absurd (omega (arith, e))
+by_letter Asm Asm e = refl
+
+-- the words mean one command
+pub means_same : (words : List (List ℕ)) (c d : Command) → Means words c → Means words d → c ≡ d
+means_same words c d m n = by_letter c d (one_letter words c d m n)

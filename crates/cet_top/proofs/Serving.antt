@@ -13,7 +13,7 @@ use Rattle.cet_top.specs.declared.status.Status.{Status}
 use Rattle.cet_top.specs.declared.status.Status.TheVariants as status
 use Rattle.cet_top.specs.declared.words.Command.{Command}
 use Rattle.cet_top.specs.declared.words.Command.TheVariants as command
-use Rattle.cet_top.proofs.FirstWord.{run_or_dis}
+use Rattle.cet_top.proofs.FirstWord.{means_same}
 
 -- a faulty word is the only one
 faulty_below : (words : List (List ℕ)) (j k : ℕ) → FaultyWord IsCommand words j → FaultyWord IsCommand words k → j < k → ⊥
@@ -40,6 +40,10 @@ no_usage command.Run bytes output n a = elim a [
   | inr r ↦ run_no_usage r.reported.outcome.process n r.reported.ends
 ]
 no_usage command.Dis bytes output n a = elim a [
+  | inl r ↦ (let e = r.refused in cc)
+  | inr r ↦ (let e = r.done in cc)
+]
+no_usage command.Asm bytes output n a = elim a [
   | inl r ↦ (let e = r.refused in cc)
   | inr r ↦ (let e = r.done in cc)
 ]
@@ -161,13 +165,6 @@ served_completes c src src' sink sink' s h = record {
   gave_short = gave_short c src src' sink sink' s h;
   had_short = had_short c src src' sink sink' s h;
 }
-
--- the words mean one command
-pub means_same : (words : List (List ℕ)) (c d : Command) → Means words c → Means words d → c ≡ d
-means_same words command.Run command.Run m n = refl
-means_same words command.Run command.Dis m n = absurd (run_or_dis words m n)
-means_same words command.Dis command.Run m n = absurd (run_or_dis words n m)
-means_same words command.Dis command.Dis m n = refl
 
 -- what was served is the one command that the words mean
 pub means_serves : (words : List (List ℕ)) (c d : Command) (src src' : SourceState) (sink sink' : SinkState) (s : Status) → Means words c → Means words d → Serves c src src' sink sink' s → Serves d src src' sink sink' s

@@ -1,6 +1,8 @@
 -- What a command answers: its status and its output, by the words and the bytes of the source. Source: own.
 use Rattle.std.specs.Prelude.{◌≡◌, ℕ, ◌⊎◌, List, [], Some, slice_index, map}
 use Rattle.cet_words.specs.Job.{ImageData, JobData}
+use Rattle.cet_asm.specs.Program.{IsProgram, IsFirstFault}
+use Rattle.cet_asm.specs.declared.program.Program.{Program}
 use Rattle.cet_book.specs.Book.{Book, first_book}
 use Rattle.cet_cpu.specs.Gate.{exit_word}
 use Rattle.cet_cpu.specs.Machine.{Machine, Starts, run}
@@ -12,6 +14,7 @@ use Rattle.cet_top.specs.Outcome.{thread_out, process_end}
 use Rattle.cet_top.specs.Report.{report_of}
 use Rattle.cet_top.specs.Schedule.{ByRobin}
 use Rattle.cet_top.specs.Shown.{shown_stacks}
+use Rattle.cet_top.specs.Written.{written}
 use Rattle.cet_top.specs.declared.outcomes.Outcome.{Outcome}
 use Rattle.cet_top.specs.declared.outcomes.ProcessEnd.{ProcessEnd}
 use Rattle.cet_top.specs.declared.outcomes.ProcessEnd.TheVariants as process
@@ -20,7 +23,7 @@ use Rattle.cet_top.specs.declared.outcomes.Style.TheVariants as style
 use Rattle.cet_top.specs.declared.status.Status.{Status}
 use Rattle.cet_top.specs.declared.status.Status.TheVariants as status
 use Rattle.cet_top.specs.declared.words.Command.{Command}
-use Rattle.cet_top.specs.declared.words.Command.TheVariants.{Run, Dis}
+use Rattle.cet_top.specs.declared.words.Command.TheVariants.{Run, Dis, Asm}
 
 -- what a finished run comes to, with its last book
 abbrev pub outcome_of : Machine → Book → Outcome
@@ -78,6 +81,22 @@ pub record Disassembles (bytes : List ℕ) (s : Status) (output : List ℕ) : Ty
   pub done : s ≡ status.Done
   pub listed : IsListing (image_of bytes).segments output
 
+-- a text that breaks a rule is refused at its first faulty line, by the first rule that this breaks
+pub record Faults (bytes : List ℕ) (s : Status) (output : List ℕ) : Type 0 where
+  pub line : ℕ
+  pub rule : ℕ
+  pub broken : IsFirstFault bytes line rule
+  pub refused : s ≡ status.AsmRefused line rule
+  pub nothing : output ≡ []
+
+-- any other text is assembled to the file of its program
+pub record Assembles (bytes : List ℕ) (s : Status) (output : List ℕ) : Type 0 where
+  pub program : Program
+  pub assembled : IsProgram bytes program
+  pub done : s ≡ status.Done
+  pub file : output ≡ written program.text program.static_data program.entry program.mark
+
 abbrev pub Answers : Command → (bytes : List ℕ) → Status → (output : List ℕ) → Type 0
 Answers Run bytes s output = Refuses bytes s output ⊎ Runs bytes s output
 Answers Dis bytes s output = Refuses bytes s output ⊎ Disassembles bytes s output
+Answers Asm bytes s output = Faults bytes s output ⊎ Assembles bytes s output

@@ -1,12 +1,13 @@
 //! What the commands do, between a source and a sink.
 
-ghost use Rattle.std.specs.Prelude.{◌≡◌, ◌≤◌, [], Ok, IfOk};
-ghost use Rattle.cet_top.specs.Answer.{Answers, Disassembles, Reports, Runs, Refuses, job_of, job_with, status_of};
+ghost use Rattle.std.specs.Prelude.{◌≡◌, ◌≤◌, [], length, Ok, IfOk};
+ghost use Rattle.cet_top.specs.Answer.{Answers, Assembles, Disassembles, Faults, Reports, Runs, Refuses, job_of, job_with, status_of};
 ghost use Rattle.cet_top.specs.Accepts.{Accepts, image_of};
 ghost use Rattle.cet_top.specs.Listing.{IsListing};
 ghost use Rattle.cet_top.specs.Schedule.{ByRobin};
 ghost use Rattle.cet_top.specs.Serves.{Serves, sink_state};
 ghost use Rattle.cet_top.specs.Stream.{source_state};
+ghost use Rattle.cet_top.specs.Written.{written};
 
 use crate::listing::listing;
 use crate::loads::{LoadFault, load_form};
@@ -17,6 +18,8 @@ use crate::status::Status;
 use crate::streams::{Sink, Source};
 use crate::transfers::{Unread, read_all, write_all};
 use crate::words::Command;
+use crate::written::write;
+use cet_asm::{AsmFault, Program, assemble};
 use cet_words::{Bytes, Image, Job, NoMemory};
 use std::alloc::Global;
 
@@ -113,13 +116,51 @@ fn list_bytes(alloc: Global, bytes: &[u8]) -> Result<Answer, NoMemory>
     }
 }
 
+/// The file of a program.
+fn program_file(alloc: Global, program: &Program) -> Result<Answer, NoMemory>
+    ensures { IfOk result (λ answer. (answer.status ≡ Status.Done)
+        × (answer.output ≡ written program.now.text program.now.static_data program.now.entry program.now.mark)) }
+{
+    let text = program.text.as_slice();
+    let static_data = program.static_data.as_slice();
+    let output = write(alloc, text, static_data, program.entry, program.mark)?;
+    Ok(Answer {
+        status: Status::Done,
+        output,
+    })
+}
+
+/// The answer to a text that breaks a rule.
+fn faulty(alloc: Global, line: u32, rule: u8) -> Answer
+    ensures { result ≡ record { status = Status.AsmRefused line rule; output = [] } }
+{
+    Answer {
+        status: Status::AsmRefused { line, rule },
+        output: Bytes::new(alloc),
+    }
+}
+
+/// Assembles the text that the bytes are.
+fn assemble_bytes(alloc: Global, bytes: &[u8]) -> Result<Answer, NoMemory>
+    requires short { length bytes.now ≤ 8388608 }
+    ensures { IfOk result (λ answer. Answers Command.Asm bytes.now answer.status answer.output) }
+{
+    match assemble(alloc, bytes) {
+        Ok(program) => program_file(alloc, &program),
+        Err(AsmFault::At { line, rule }) => Ok(faulty(alloc, line, rule)),
+        Err(AsmFault::NoMemory) => Err(NoMemory),
+    }
+}
+
 /// What a command answers to the bytes of the source.
 fn answer_to(alloc: Global, command: Command, bytes: &[u8]) -> Result<Answer, NoMemory>
+    requires short { length bytes.now ≤ 8388608 }
     ensures { IfOk result (λ answer. Answers command bytes.now answer.status answer.output) }
 {
     match command {
         Command::Run => run_bytes(alloc, bytes),
         Command::Dis => list_bytes(alloc, bytes),
+        Command::Asm => assemble_bytes(alloc, bytes),
     }
 }
 

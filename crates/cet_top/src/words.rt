@@ -9,6 +9,8 @@ pub(crate) enum Command {
     Run,
     /// `dis`: lists the code of the image that the source gives.
     Dis,
+    /// `asm`: assembles the text that the source gives.
+    Asm,
 }
 
 fn is_word(word: &String, name: &str) -> bool
@@ -26,6 +28,8 @@ fn command_of(word: &String) -> Option<Command>
         Some(Command::Run)
     } else if is_word(word, "dis") {
         Some(Command::Dis)
+    } else if is_word(word, "asm") {
+        Some(Command::Asm)
     } else {
         None
     }
