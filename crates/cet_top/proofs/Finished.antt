@@ -11,7 +11,7 @@ use Rattle.cet_cpu.specs.Gate.{exit_word}
 use Rattle.cet_cpu.specs.Machine.{Machine, Thread, Starts, machine, run}
 use Rattle.cet_own.specs.Report.{LastBook}
 use Rattle.cet_own.specs.Safe.{KeepsStack, Safe}
-use Rattle.cet_top.specs.Answer.{Ran, outcome_of}
+use Rattle.cet_top.specs.Answer.{SafeRun, outcome_of}
 use Rattle.cet_top.specs.Schedule.{ByRobin}
 use Rattle.cet_top.specs.Turns.{Robined}
 use Rattle.cet_top.specs.FirstStack.{words_from, first_stack, first_stacks, KeepsFirst, KeepsFirsts, read_outcome}
@@ -121,7 +121,7 @@ pub ended_keeps : (job : JobData) (start : Machine) (words : List ℕ) (threads 
 ended_keeps job start words threads last r = keeps job start r.turns words threads (last r.turns) r.ran
 
 -- and what is read is the outcome of the run
-pub ended_ran : (job : JobData) (start : Machine) (words : List ℕ) (threads : List Thread) (outcome : Outcome) → ((turns : List ℕ) → LastBook job start turns) → ((turns : List ℕ) → Safe job start first_book turns) → Starts job start → Robined job start (machine words threads) → outcome ≡ read_outcome words threads → Ran job (ByRobin job) outcome
+pub ended_ran : (job : JobData) (start : Machine) (words : List ℕ) (threads : List Thread) (outcome : Outcome) → ((turns : List ℕ) → LastBook job start turns) → ((turns : List ℕ) → Safe job start first_book turns) → Starts job start → Robined job start (machine words threads) → outcome ≡ read_outcome words threads → SafeRun job (ByRobin job) outcome
 ended_ran job start words threads outcome last safe s r e =
     let l = last r.turns in
     record { start = start; starts = s; turns = r.turns; schedule = r.robin; book = l.book; legal = l.last; is = e ∙ read_is job start r.turns words threads l s r.ran; safe = safe r.turns }

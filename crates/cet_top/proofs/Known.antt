@@ -1,8 +1,10 @@
 -- Known bytes over several calls.
-use Rattle.std.proofs.Common.{ℕ, zero, suc, ◌+◌, ◌-◌, ◌≤◌, ◌≡◌, List, [], ◌∷◌, ◌++◌, length, take, drop, Option, Some, None, sym, ◌∙◌, ap, arith}
-use Rattle.std.proofs.lemmas.List.{append_assoc, append-nil, length-append, length-drop, length-take-le, take_all}
+use Rattle.std.proofs.Common.{ℕ, zero, suc, ◌+◌, ◌-◌, ◌^◌, ◌<◌, ◌≤◌, ◌≡◌, min, inl, inr, List, [], ◌∷◌, ◌++◌, length, take, drop, Option, Some, None, sym, ◌∙◌, ap, arith}
+use Rattle.std.proofs.Math.Nat.{min-eq_left, min-eq_right, min-le_left, min-le_right}
+use Rattle.std.proofs.lemmas.Bool.{cases_lt}
+use Rattle.std.proofs.lemmas.List.{append_assoc, length-drop, take_all}
 use Rattle.std.specs.Io.KnownBytes.{Consumes, Appends}
-use Rattle.cet_top.specs.Stream.{TakesAll, TakesUpTo, AppendsSome}
+use Rattle.cet_top.specs.Stream.{AppendsSome, Rose, RoseAbove, RoseBy, added}
 
 pub Consumes-more : (a b c : Option (List ℕ)) (xs ys : List ℕ) → Consumes a b xs → Consumes b c ys → Consumes a c (xs ++ ys)
 Consumes-more None b c xs ys first second = tt
@@ -11,25 +13,59 @@ Consumes-more (Some p) (Some q) None xs ys first second = absurd second
 Consumes-more (Some p) (Some q) (Some r) xs ys first second =
     first ∙ ap (λ (l : List ℕ). xs ++ l) second ∙ sym (append_assoc xs ys r)
 
--- a call that failed took some bytes more
-pub TakesUpTo-more : (a b c : Option (List ℕ)) (m n most : ℕ) (xs : List ℕ) → length xs ≤ m → n + m ≤ most → Consumes a b xs → TakesUpTo n b c → TakesUpTo most a c
-TakesUpTo-more a b c m n most xs few fits first more = (
-  xs ++ more.0,
-  (let l = more.1 in let e = length-append xs more.0 in omega arith),
-  Consumes-more a b c xs more.0 first more.2,
+-- so many and then so many more, below a last value
+min_more : (last count m n : ℕ) → min (min (count + m) last + n) last ≡ min (count + (m + n)) last
+min_more last count m n = elim (cases_lt (count + m) last) [
+  | inl l ↦ (
+      let e : min (count + m) last ≡ count + m = min-eq_left (omega arith) in
+      let a : count + m + n ≡ count + (m + n) = omega arith in
+      ap (λ (x : ℕ). min (x + n) last) e ∙ ap (λ (x : ℕ). min x last) a
+      )
+  | inr g ↦ (
+      let e : min (count + m) last ≡ last = min-eq_right (omega arith) in
+      let a : min (last + n) last ≡ last = min-eq_right (omega arith) in
+      let b : min (count + (m + n)) last ≡ last = min-eq_right (omega arith) in
+      ap (λ (x : ℕ). min (x + n) last) e ∙ a ∙ sym b
+      )
+]
+
+min_up : (last a b : ℕ) → a ≤ b → min a last ≤ min b last
+min_up last a b l = elim (cases_lt b last) [
+  | inl m ↦ (
+      let e : min b last ≡ b = min-eq_left (omega arith) in
+      let f : min a last ≡ a = min-eq_left (omega arith) in
+      omega arith
+      )
+  | inr g ↦ (
+      let e : min b last ≡ last = min-eq_right (omega arith) in
+      let f = min-le_right a last in
+      omega arith
+      )
+]
+
+-- a count after m, and then n more
+last_more : (last before now m n : ℕ) → min (before + m) last ≤ now → min (before + (m + n)) last ≤ min (now + n) last
+last_more last before now m n low =
+    let e = min_more last before m n in
+    let f = min_up last (min (before + m) last + n) (now + n) (omega arith) in
+    omega arith
+
+pub rose_none : (count : ℕ) → RoseBy 0 count count
+rose_none count = (let l = min-le_left (count + 0) (2 ^ 64 - 1) in omega arith, omega arith)
+
+pub rose_more : (before now m n : ℕ) → RoseBy m before now → RoseBy (m + n) before (added now n)
+rose_more before now m n rose = (
+  last_more (2 ^ 64 - 1) before now m n rose.0,
+  (let l = min-le_left (now + n) (2 ^ 64 - 1) in let h = rose.1 in omega arith),
 )
 
--- what two calls took
-pub TakesUpTo-taken : (a b c : Option (List ℕ)) (m n most k : ℕ) (xs buf : List ℕ) → length xs ≤ m → length buf ≤ n → k ≤ length buf → n + m ≤ most → Consumes a b xs → Consumes b c (take k buf) → TakesUpTo most a c
-TakesUpTo-taken a b c m n most k xs buf few size within fits first second =
-    let e = length-take-le k buf within in
-    TakesUpTo-more a b c m n most xs few fits first (take k buf, omega arith, second)
+-- a count that rose by more than n
+pub rose_above : (before now m n : ℕ) → RoseBy m before now → n < m → RoseAbove n before now
+rose_above before now m n rose l = (let u = min_up (2 ^ 64 - 1) (before + (n + 1)) (before + m) (omega arith) in let h = rose.0 in omega arith)
 
--- all that there was is no more than that
-pub TakesUpTo-all : (a b : Option (List ℕ)) (n : ℕ) (xs : List ℕ) → length xs ≤ n → TakesAll a b xs → TakesUpTo n a b
-TakesUpTo-all None b n xs few all = (xs, few, tt)
-TakesUpTo-all (Some p) None n xs few all = absurd all
-TakesUpTo-all (Some p) (Some q) n xs few all = (xs, few, sym all.0 ∙ sym (append-nil xs) ∙ ap (λ (l : List ℕ). xs ++ l) (sym all.1))
+-- a rise after the count was already there
+pub rose_later : (before mid now : ℕ) → before ≤ mid → Rose mid now → Rose before now
+rose_later before mid now l rose = (let u = min_up (2 ^ 64 - 1) (before + 1) (mid + 1) (omega arith) in omega (arith, rose))
 
 pub take_parts : (m n : ℕ) (xs : List ℕ) → take m xs ++ take n (drop m xs) ≡ take (m + n) xs
 take_parts zero n xs = grind arith

@@ -3,6 +3,7 @@ mod FirstWord
 mod Listed
 mod Front
 mod Known
+mod InputReads
 mod Steps
 mod WordsFrom
 mod Marks

@@ -31,7 +31,7 @@ outcome_of m b = record {
 }
 
 -- A run of the job by this schedule, and its outcome. It is a safe one, as every run is.
-pub record Ran (job : JobData) (Schedule : Machine → List ℕ → Type 0) (outcome : Outcome) : Type 0 where
+pub record SafeRun (job : JobData) (Schedule : Machine → List ℕ → Type 0) (outcome : Outcome) : Type 0 where
   pub start : Machine
   pub starts : Starts job start
   pub turns : List ℕ
@@ -57,7 +57,7 @@ status_of (process.Limit thread) = status.Limit thread
 -- the report of a run of the job by this schedule
 pub record Reports (job : JobData) (Schedule : Machine → List ℕ → Type 0) (style : Style) (s : Status) (output : List ℕ) : Type 0 where
   pub outcome : Outcome
-  pub ran : Ran job Schedule outcome
+  pub ran : SafeRun job Schedule outcome
   pub ends : s ≡ status_of outcome.process
   pub reports : output ≡ report_of outcome style
 

@@ -1,5 +1,6 @@
 pub mod Stream
 pub mod MemSink
+pub mod SureSource
 pub mod Status
 pub mod Words
 pub mod Line

@@ -1,14 +1,53 @@
--- What one call of a source or a sink does to its bytes and to its count of faults. Source: own.
-use Rattle.std.specs.Prelude.{ℕ, ◌+◌, ◌-◌, ◌^◌, ◌<◌, ◌≤◌, ◌≡◌, min, List, [], length, take, Option, Some, None, Result, IfOk, OnErr, ⊤}
+-- What the calls of a source or a sink do to its bytes and its counts. Source: own.
+use Rattle.std.specs.Prelude.{ℕ, ◌+◌, ◌-◌, ◌^◌, ◌<◌, ◌≤◌, ◌≡◌, min, Bool, ◌&&◌, ◌==◌, nat_lt, if◌then◌else◌, List, [], ◌++◌, length, take, Option, Some, None, Result, Ok, Err, IfOk, OnErr, ⊤}
 use Rattle.std.specs.Io.KnownBytes.{Consumes, Appends, IsAtEnd}
 
--- one more, in a count that stands still at its last value
+-- ---- counts
+
+-- n more, in a count that stands still at its last value
+abbrev pub added : ℕ → ℕ → ℕ
+added count n = min (count + n) (2 ^ 64 - 1)
+
+-- one more
 abbrev pub raised : ℕ → ℕ
-raised count = min (count + 1) (2 ^ 64 - 1)
+raised count = added count 1
 
 -- a count has risen; one that stands at its last value counts as risen
 abbrev pub Rose : ℕ → ℕ → Type 0
 Rose before now = raised before ≤ now
+
+-- a count has risen by more than n; one that stands at its last value counts as risen
+abbrev pub RoseAbove : ℕ → ℕ → ℕ → Type 0
+RoseAbove n before now = added before (n + 1) ≤ now
+
+-- a count has risen by n, but for what would pass its last value
+abbrev pub RoseBy : ℕ → ℕ → ℕ → Type 0
+RoseBy n before now = (added before n ≤ now) × (now ≤ before + n)
+
+-- What has come of the reads of a source so far.
+pub record Tally : Type 0 where
+  -- the bytes that they gave
+  pub given : ℕ
+  -- those that failed
+  pub failures : ℕ
+  -- those that found the end
+  pub ends : ℕ
+
+-- a read of a buffer of this room finds the end where it has room and comes to no byte
+abbrev pub is_end : ℕ → ℕ → Bool
+is_end room n = nat_lt 0 room && (n == 0)
+
+-- the tally after a read of a buffer of this room
+abbrev pub counted : {E : Type 0} → Tally → ℕ → Result ℕ E → Tally
+counted t room (Ok n) = record { given = added t.given n; failures = t.failures; ends = if is_end room n then raised t.ends else t.ends }
+counted t room (Err e) = record { given = t.given; failures = raised t.failures; ends = t.ends }
+
+-- the same, where the source keeps a tally
+abbrev pub tallied : {E : Type 0} → Option Tally → ℕ → Result ℕ E → Option Tally
+tallied None room result = None
+tallied (Some t) room result = Some (counted t room result)
+
+-- ---- one call
 
 -- the count never falls, and a call fails only where it rose
 pub record HasCause {T E : Type 0} (before now : ℕ) (result : Result T E) : Type 0 where
@@ -39,12 +78,64 @@ pub record Writes {E : Type 0} (old new : Option (List ℕ)) (piece : List ℕ) 
   pub some : IfOk result (λ n. 0 < length piece → 0 < n)
   pub failed : OnErr result (AppendsSome old new piece)
 
+-- ---- all reads of a command
+
 -- the known bytes were exactly these, and none is left
 abbrev pub TakesAll : Option (List ℕ) → Option (List ℕ) → List ℕ → Type 0
 TakesAll None new bytes = ⊤
 TakesAll (Some xs) None bytes = ⊥
 TakesAll (Some xs) (Some ys) bytes = (bytes ≡ xs) × (ys ≡ [])
 
--- more than n known bytes were taken from the front
-abbrev pub TakesMoreThan : ℕ → Option (List ℕ) → Option (List ℕ) → Type 0
-TakesMoreThan n old new = (bytes : List ℕ) × (n < length bytes) × Consumes old new bytes
+-- a source: the bytes left, where it tells them, its count of faults, and its tally, where it keeps one
+pub record SourceState : Type 0 where
+  pub left : Option (List ℕ)
+  pub faults : ℕ
+  pub tally : Option Tally
+
+abbrev pub source_state : Option (List ℕ) → ℕ → Option Tally → SourceState
+source_state left faults tally = record { left = left; faults = faults; tally = tally }
+
+-- by how much the counts of a tally have risen
+pub record CountsBy (bytes faults stops : ℕ) (before now : Tally) : Type 0 where
+  pub given : RoseBy bytes before.given now.given
+  pub failures : RoseBy faults before.failures now.failures
+  pub ends : RoseBy stops before.ends now.ends
+
+-- the same, where the source keeps a tally
+abbrev pub TalliesBy : ℕ → ℕ → ℕ → Option Tally → Option Tally → Type 0
+TalliesBy given failures ends None new = ⊤
+TalliesBy given failures ends (Some t) None = ⊥
+TalliesBy given failures ends (Some t) (Some u) = CountsBy given failures ends t u
+
+-- The source gave these bytes, at most 8,388,608, and none is left. No read failed, and one found the end.
+pub record ReadToEnd (src src' : SourceState) (bytes : List ℕ) : Type 0 where
+  pub all : TakesAll src.left src'.left bytes
+  pub short : length bytes ≤ 8388608
+  pub reads : TalliesBy (length bytes) 0 1 src.tally src'.tally
+
+-- The source gave these bytes, at most 8,388,608, and lost at most 4,096 more to a read that failed. No read found the end.
+pub record ReadUntilFault (src src' : SourceState) : Type 0 where
+  pub bytes : List ℕ
+  pub lost : List ℕ
+  pub taken : Consumes src.left src'.left (bytes ++ lost)
+  pub short : length bytes ≤ 8388608
+  pub few : length lost ≤ 4096
+  pub reads : TalliesBy (length bytes) 1 0 src.tally src'.tally
+  pub cause : Rose src.faults src'.faults
+
+-- The source gave these bytes, more than 8,388,608 and at most 8,392,704. No read failed or found the end.
+pub record ReadTooMuch (src src' : SourceState) : Type 0 where
+  pub bytes : List ℕ
+  pub taken : Consumes src.left src'.left bytes
+  pub long : 8388608 < length bytes
+  pub few : length bytes ≤ 8392704
+  pub reads : TalliesBy (length bytes) 0 0 src.tally src'.tally
+
+-- The source gave these bytes, and no read failed; at most one found the end.
+pub record ReadSome (src src' : SourceState) : Type 0 where
+  pub bytes : List ℕ
+  pub taken : Consumes src.left src'.left bytes
+  pub few : length bytes ≤ 8392704
+  pub ends : ℕ
+  pub once : ends ≤ 1
+  pub reads : TalliesBy (length bytes) 0 ends src.tally src'.tally

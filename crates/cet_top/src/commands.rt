@@ -5,7 +5,8 @@ ghost use Rattle.cet_top.specs.Answer.{Answers, Disassembles, Reports, Runs, Ref
 ghost use Rattle.cet_top.specs.Accepts.{Accepts, image_of};
 ghost use Rattle.cet_top.specs.Listing.{IsListing};
 ghost use Rattle.cet_top.specs.Schedule.{ByRobin};
-ghost use Rattle.cet_top.specs.Serves.{Serves, streamed};
+ghost use Rattle.cet_top.specs.Serves.{Serves, sink_state};
+ghost use Rattle.cet_top.specs.Stream.{source_state};
 
 use crate::listing::listing;
 use crate::loads::{LoadFault, load_form};
@@ -129,8 +130,8 @@ pub(crate) fn serve<S: Source, K: Sink>(
     src: &mut S,
     sink: &mut K,
 ) -> Status
-    ensures { Serves command (streamed (S.left src.old) (S.faults src.old)) (streamed (S.left src.new) (S.faults src.new))
-        (streamed (K.written sink.old) (K.faults sink.old)) (streamed (K.written sink.new) (K.faults sink.new)) result }
+    ensures { Serves command (source_state (S.left src.old) (S.faults src.old) (S.tally src.old)) (source_state (S.left src.new) (S.faults src.new) (S.tally src.new))
+        (sink_state (K.written sink.old) (K.faults sink.old)) (sink_state (K.written sink.new) (K.faults sink.new)) result }
 {
     let bytes = match read_all(alloc, src) {
         Ok(bytes) => bytes,

@@ -13,14 +13,16 @@ use std::marker::Model;
 pub struct SureSource {
     bytes: Vec<u8>,
     at: usize,
+    ends: u64,
 }
 
 impl Model for SureSource {
-    ghost use Rattle.std.specs.Prelude.{ℕ, ◌≤◌, List, length, drop};
+    ghost use Rattle.std.specs.Prelude.{◌≤◌, length, drop};
+    ghost use Rattle.cet_top.specs.SureSource.{SureSourceState};
 
-    ghost Value = { List ℕ };
+    ghost Value = { SureSourceState };
 
-    ghost view = { λ s. drop s.at s.bytes.items };
+    ghost view = { λ s. record { left = drop s.at s.bytes.items; given = s.at; ends = s.ends } };
 
     ghost invariant = { λ s. s.at ≤ length s.bytes.items };
 }
@@ -28,10 +30,14 @@ impl Model for SureSource {
 impl SureSource {
     /// A source of these bytes.
     pub fn new(alloc: Global, bytes: &[u8]) -> Result<SureSource, NoMemory>
-        ensures { IfOk result (λ s. s ≡ bytes.now) }
+        ensures { IfOk result (λ s. s ≡ record { left = bytes.now; given = 0; ends = 0 }) }
     {
         let bytes = Vec::from_slice(alloc, bytes)?;
-        Ok(SureSource { bytes, at: 0 })
+        Ok(SureSource {
+            bytes,
+            at: 0,
+            ends: 0,
+        })
     }
 }
 
@@ -46,13 +52,18 @@ fn copy_front(from: &[u8], to: &mut [u8]) -> usize
 }
 
 impl Source for SureSource {
-    ghost left = { λ s. Some s };
+    ghost left = { λ s. Some s.left };
 
     ghost faults = { λ _. 0 };
+
+    ghost tally = { λ s. Some (record { given = s.given; failures = 0; ends = s.ends }) };
 
     fn read(&mut self, buf: &mut [u8]) -> Result<usize, Failed> {
         let count = copy_front(&self.bytes[self.at..], buf);
         self.at += count;
+        if count == 0 && !buf.is_empty() {
+            self.ends = self.ends.saturating_add(1);
+        }
         Ok(count)
     }
 }

@@ -192,6 +192,38 @@ fn a_byte_over_the_most_is_too_long(rt: HostRuntime) -> Result<(), Fail> {
     reports(&rt, rt.alloc(), &bytes, Status::TooLong, "")
 }
 
+/// A source of one byte more than the most, whose reads fail after so many of at most 4,096 bytes.
+fn breaks_late(rt: &impl Abort, alloc: Global, reads: u64, status: Status) -> Result<(), Fail> {
+    let mut bytes = Vec::new(alloc);
+    bytes.resize(8_388_609, 0_u8)?;
+    let mut src = Breaks {
+        source: SureSource::new(alloc, &bytes)?,
+        reads,
+        faults: 0,
+    };
+    let mut sink = MemSink::new(alloc, ROOM, ROOM, &[])?;
+    assert_eq!(rt; run(alloc, &mut src, &mut sink)?, status);
+    assert!(rt; sink.bytes().is_empty());
+    Ok(())
+}
+
+#[test]
+fn the_first_of_fault_and_length_decides(rt: HostRuntime) -> Result<(), Fail> {
+    breaks_late(&rt, rt.alloc(), 2048, Status::ReadFault)?;
+    breaks_late(&rt, rt.alloc(), 2049, Status::TooLong)
+}
+
+#[test]
+fn a_refusal_writes_to_no_sink(rt: HostRuntime) -> Result<(), Fail> {
+    let alloc = rt.alloc();
+    let mut src = SureSource::new(alloc, &file(alloc, &[0x90])?)?;
+    let mut sink = MemSink::new(alloc, ROOM, ROOM, &[1])?;
+    let refused = Status::Refused { rule: 0, offset: 0 };
+    assert_eq!(rt; run(alloc, &mut src, &mut sink)?, refused);
+    assert_eq!(rt; sink.faults(), 0);
+    Ok(())
+}
+
 fn is_usage(rt: &impl Abort, alloc: Global, text: &str, number: u32) -> Result<(), Fail> {
     let words = words(alloc, text)?;
     let mut src = SureSource::new(alloc, &EXIT_SEVEN_TEXT)?;

@@ -1,7 +1,8 @@
 //! The program, over a source of bytes and a sink of bytes.
 
 ghost use Rattle.std.specs.Prelude.{◌≡◌, ◌↔◌, ℕ, map, string_bytes};
-ghost use Rattle.cet_top.specs.Serves.{Completes, IsUntouched, Serves, streamed};
+ghost use Rattle.cet_top.specs.Serves.{Completes, IsUntouched, Serves, sink_state};
+ghost use Rattle.cet_top.specs.Stream.{source_state};
 ghost use Rattle.cet_top.specs.Words.{FaultyWord, IsCommand, Means};
 ghost use Rattle.cet_top.specs.declared.words.Command.{Command};
 
@@ -23,18 +24,18 @@ pub fn plain<S: Source, K: Sink>(
     // The words are no command exactly where that is the answer. Then nothing is read or written.
     ensures usage { (number : ℕ) → (result ≡ Status.Usage number) ↔ FaultyWord IsCommand (map string_bytes words.now) number }
     ensures unread { (number : ℕ) → result ≡ Status.Usage number →
-        IsUntouched (streamed (S.left src.old) (S.faults src.old)) (streamed (S.left src.new) (S.faults src.new))
-        (streamed (K.written sink.old) (K.faults sink.old)) (streamed (K.written sink.new) (K.faults sink.new)) }
+        IsUntouched (source_state (S.left src.old) (S.faults src.old) (S.tally src.old)) (source_state (S.left src.new) (S.faults src.new) (S.tally src.new))
+        (sink_state (K.written sink.old) (K.faults sink.old)) (sink_state (K.written sink.new) (K.faults sink.new)) }
 
     // Each other answer has its cause, and what was written is the answer to what was read, or its first part.
     ensures serves { (command : Command) → Means (map string_bytes words.now) command →
-        Serves command (streamed (S.left src.old) (S.faults src.old)) (streamed (S.left src.new) (S.faults src.new))
-        (streamed (K.written sink.old) (K.faults sink.old)) (streamed (K.written sink.new) (K.faults sink.new)) result }
+        Serves command (source_state (S.left src.old) (S.faults src.old) (S.tally src.old)) (source_state (S.left src.new) (S.faults src.new) (S.tally src.new))
+        (sink_state (K.written sink.old) (K.faults sink.old)) (sink_state (K.written sink.new) (K.faults sink.new)) result }
 
-    // Where nothing fails, the whole answer is written.
+    // Where the input isn't too long and nothing fails, the whole answer is written.
     ensures completes { (command : Command) → Means (map string_bytes words.now) command →
-        Completes command (streamed (S.left src.old) (S.faults src.old)) (streamed (S.left src.new) (S.faults src.new))
-        (streamed (K.written sink.old) (K.faults sink.old)) (streamed (K.written sink.new) (K.faults sink.new)) result }
+        Completes command (source_state (S.left src.old) (S.faults src.old) (S.tally src.old)) (source_state (S.left src.new) (S.faults src.new) (S.tally src.new))
+        (sink_state (K.written sink.old) (K.faults sink.old)) (sink_state (K.written sink.new) (K.faults sink.new)) result }
 {
     let status = match read_words(words) {
         Ok(command) => serve(alloc, command, src, sink),

@@ -2,7 +2,7 @@
 
 ghost use Rattle.std.specs.Prelude.{◌≡◌, ◌≤◌, length, IfOk};
 ghost use Rattle.cet_cpu.specs.Machine.{Starts, machine};
-ghost use Rattle.cet_top.specs.Answer.{Ran};
+ghost use Rattle.cet_top.specs.Answer.{SafeRun};
 ghost use Rattle.cet_top.specs.FirstStack.{KeepsFirsts, first_stacks, read_outcome};
 ghost use Rattle.cet_top.specs.Schedule.{ByRobin};
 ghost use Rattle.cet_top.specs.Turns.{AllCores};
@@ -79,7 +79,7 @@ fn finish(
 ) -> Result<Outcome, NoMemory>
     requires starts { Starts job.now (machine words guests.items) }
     requires cores { AllCores job.now guests.items }
-    ensures { IfOk result (Ran job.now (ByRobin job.now)) }
+    ensures { IfOk result (SafeRun job.now (ByRobin job.now)) }
 {
     let _limit = job.limit;
     robin(alloc, job, &mut words, &mut guests)?;
@@ -88,7 +88,7 @@ fn finish(
 
 /// Runs a job by Robin from its start until every thread has ended.
 pub(crate) fn run(alloc: Global, job: &Job) -> Result<Outcome, NoMemory>
-    ensures { IfOk result (Ran job.now (ByRobin job.now)) }
+    ensures { IfOk result (SafeRun job.now (ByRobin job.now)) }
 {
     let (words, guests) = start(alloc, job)?;
     finish(alloc, job, words, guests)

@@ -1,41 +1,65 @@
-ghost use Rattle.std.specs.Prelude.{◌≡◌, ◌<◌, ◌≤◌, length, IfSome, None};
+ghost use Rattle.std.specs.Prelude.{◌≡◌, ◌<◌, ◌≤◌, length, IfSome, None, Some, Ok};
+ghost use Rattle.cet_top.specs.Stream.{counted};
 
 use crate::streams::{Failed, Sink, Source};
 use std::io::{Read, Write};
 use std::marker::Model;
 
-/// A source over a reader of std. It tells nothing of content, and counts each fault, up to 2^64 - 1.
+/// A source over a reader of std. It tells nothing of content, and counts each fault, the bytes given
+/// and the ends found, each up to 2^64 - 1.
 #[derive(Drop)]
 pub struct StdSource<R: Read> {
     inner: R,
     faults: u64,
+    given: u64,
+    ends: u64,
 }
 
 impl<R: Read> Model for StdSource<R> {
-    ghost use Rattle.std.specs.Prelude.{ℕ};
+    ghost use Rattle.cet_top.specs.Stream.{Tally};
 
-    ghost Value = { ℕ };
+    ghost Value = { Tally };
 
-    ghost view = { λ s. s.faults };
+    ghost view = { λ s. record { given = s.given; failures = s.faults; ends = s.ends } };
 }
 
 impl<R: Read> StdSource<R> {
     /// A source over this reader, with no fault so far.
     pub fn new(inner: R) -> StdSource<R>
-        ensures { result ≡ 0 }
+        ensures { result ≡ record { given = 0; failures = 0; ends = 0 } }
     {
-        StdSource { inner, faults: 0 }
+        StdSource {
+            inner,
+            faults: 0,
+            given: 0,
+            ends: 0,
+        }
+    }
+
+    /// Counts a read of a buffer of this room that gave so many bytes.
+    fn count_read(&mut self, room: usize, count: usize)
+        ensures { self.new ≡ counted {E = ⊥} self.old room (Ok count) }
+    {
+        self.given = self.given.saturating_add(count as u64);
+        if room > 0 && count == 0 {
+            self.ends = self.ends.saturating_add(1);
+        }
     }
 }
 
 impl<R: Read> Source for StdSource<R> {
     ghost left = { λ _. None };
 
-    ghost faults = { λ s. s };
+    ghost faults = { λ s. s.failures };
+
+    ghost tally = { λ s. Some s };
 
     fn read(&mut self, buf: &mut [u8]) -> Result<usize, Failed> {
         match self.inner.read(buf) {
-            Ok(count) => Ok(count),
+            Ok(count) => {
+                self.count_read(buf.len(), count);
+                Ok(count)
+            }
             Err(_error) => {
                 self.faults = self.faults.saturating_add(1);
                 Err(Failed)

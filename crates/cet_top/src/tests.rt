@@ -1,4 +1,4 @@
-ghost use Rattle.std.specs.Prelude.{None};
+ghost use Rattle.std.specs.Prelude.{Some};
 
 use crate::loads::{LoadFault, load_form};
 use crate::outcomes::{
@@ -25,7 +25,7 @@ pub(crate) struct Breaks {
 }
 
 impl Source for Breaks {
-    ghost left = { λ _. None };
+    ghost left = { λ s. Some s.source.left };
 
     ghost faults = { λ s. s.faults };
 

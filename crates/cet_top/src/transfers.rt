@@ -1,6 +1,6 @@
-ghost use Rattle.std.specs.Prelude.{◌≡◌, ◌≤◌, length, IfOk, OnOk, OnErr, IsErrOf};
+ghost use Rattle.std.specs.Prelude.{◌≡◌, ◌<◌, ◌≤◌, length, IfOk, OnOk, OnErr, IsErrOf};
 ghost use Rattle.std.specs.Io.KnownBytes.{Appends};
-ghost use Rattle.cet_top.specs.Stream.{Rose, HasCause, TakesAll, TakesUpTo, TakesMoreThan, AppendsSome};
+ghost use Rattle.cet_top.specs.Stream.{HasCause, AppendsSome, ReadSome, ReadToEnd, ReadTooMuch, ReadUntilFault, source_state};
 
 use crate::streams::{Failed, Sink, Source};
 use cet_words::{Bytes, NoMemory};
@@ -39,14 +39,13 @@ impl From<Failed> for Unread {
 
 /// Reads a source to its end, or up to the read that passes 8,388,608 bytes.
 pub(crate) fn read_all<S: Source>(alloc: Global, src: &mut S) -> Result<Bytes, Unread>
-    ensures all { IfOk result (TakesAll (S.left src.old) (S.left src.new)) }
-    ensures short { IfOk result (λ bytes. length bytes ≤ 8388608) }
-
-    // Each error has its cause, and none says that nothing was read.
+    ensures all { IfOk result (ReadToEnd (source_state (S.left src.old) (S.faults src.old) (S.tally src.old)) (source_state (S.left src.new) (S.faults src.new) (S.tally src.new))) }
     ensures later { S.faults src.old ≤ S.faults src.new }
-    ensures failed { IsErrOf result Unread.Failed → Rose (S.faults src.old) (S.faults src.new) }
-    ensures long { IsErrOf result Unread.TooLong → TakesMoreThan 8388608 (S.left src.old) (S.left src.new) }
-    ensures err { OnErr result (TakesUpTo 8392704 (S.left src.old) (S.left src.new)) }
+
+    // What was read before each error, and its cause, but for want of memory.
+    ensures failed { IsErrOf result Unread.Failed → ReadUntilFault (source_state (S.left src.old) (S.faults src.old) (S.tally src.old)) (source_state (S.left src.new) (S.faults src.new) (S.tally src.new)) }
+    ensures long { IsErrOf result Unread.TooLong → ReadTooMuch (source_state (S.left src.old) (S.faults src.old) (S.tally src.old)) (source_state (S.left src.new) (S.faults src.new) (S.tally src.new)) }
+    ensures memory { IsErrOf result Unread.NoMemory → ReadSome (source_state (S.left src.old) (S.faults src.old) (S.tally src.old)) (source_state (S.left src.new) (S.faults src.new) (S.tally src.new)) }
 {
     let mut bytes = Bytes::new(alloc);
     let mut buf = [0; 4096];
@@ -64,6 +63,7 @@ pub(crate) fn read_all<S: Source>(alloc: Global, src: &mut S) -> Result<Bytes, U
 pub(crate) fn write_all<K: Sink>(sink: &mut K, bytes: &[u8]) -> Result<(), Failed>
     ensures written { OnOk result (Appends (K.written sink.old) (K.written sink.new) bytes.now) }
     ensures part { OnErr result (AppendsSome (K.written sink.old) (K.written sink.new) bytes.now) }
+    ensures some { OnErr result (0 < length bytes.now) }
     ensures cause { HasCause (K.faults sink.old) (K.faults sink.new) result }
 {
     let mut at = 0;

@@ -1,5 +1,6 @@
 use Rattle.std.proofs.Common.{length, ◌≡◌, ◌-◌, ◌≤◌}
-use Rattle.std.specs.Io.KnownBytes.{Consumes}
+use Rattle.cet_top.proofs.InputReads.{Reading}
+use Rattle.cet_top.specs.Stream.{source_state}
 use Rattle.cet_top.proofs.transfers.read_all.Given as goal
 
 abbrev pub invariant-reads : goal.invariant-reads
@@ -7,7 +8,8 @@ invariant-reads g l = record {
   later : g.S.Source.faults l.initial.src ≤ g.S.Source.faults l.src;
   size : length l.buf ≡ 4096;
   few : length l.bytes ≤ 8392704;
-  taken : Consumes (g.S.Source.left l.initial.src) (g.S.Source.left l.src) l.bytes;
+  reading : Reading (source_state (g.S.Source.left l.initial.src) (g.S.Source.faults l.initial.src) (g.S.Source.tally l.initial.src))
+      (source_state (g.S.Source.left l.src) (g.S.Source.faults l.src) (g.S.Source.tally l.src)) l.bytes;
 }
 
 abbrev pub decreases-reads : goal.decreases-reads
