@@ -24,6 +24,15 @@ macro_rules! opcode {
 
 pub(crate) use opcode;
 
+// An encoding with ModRM: prefixes, escape bytes and opcode; size, number in the reg field, operand.
+macro_rules! put_row {
+    ($alloc:ident $out:ident $prefixes:tt $escapes:tt $byte:expr; $size:expr, $reg:expr, $rm:expr) => {
+        put_rm($alloc, $out, opcode!($prefixes $escapes $byte), $size, $reg, $rm)
+    };
+}
+
+pub(crate) use put_row;
+
 /// REX.W for a size.
 fn w_bit(size: Size) -> u8
     ensures value { result ≡ w_bit size }

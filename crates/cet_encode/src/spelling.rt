@@ -3,7 +3,7 @@ ghost use Rattle.cet_isa.specs.Canonical.{four_bytes, alu_spelling, test_spellin
 ghost use Rattle.cet_encode.specs.Bytes.{rm_bytes, alu_number_bytes, shift_bytes};
 ghost use Rattle.cet_isa.specs.Code.{reg_number, op_number, cond_number};
 
-use crate::bytes::{Opcode, opcode, put_reg, put_rm};
+use crate::bytes::{Opcode, opcode, put_reg, put_rm, put_row};
 use crate::coding::put_four;
 use cet_base::put_bytes;
 use cet_isa::{AluOp, Cond, Count, Instr, Mem, Operand, Reg, Size};
@@ -80,38 +80,18 @@ pub(crate) fn put_alu(
 ) -> Result<(), NoMemory>
     ensures { OnOk result (out.new ≡ out.old ++ alu_spelling op size dst src) }
 {
+    use Operand::{Imm, Mem, Reg};
+
     let number = op_number(op);
     match (dst, src) {
-        (Operand::Reg(_), Operand::Reg(reg)) => {
-            put_rm(
-                alloc,
-                out,
-                opcode!([] [] 0x01 + 8 * number),
-                size,
-                reg_number(reg),
-                dst,
-            )
-        }
-        (Operand::Mem(_), Operand::Reg(reg)) => {
-            put_rm(alloc, out, opcode!([] [] 0x39), size, reg_number(reg), dst)
-        }
-        (Operand::Reg(reg), Operand::Mem(_)) => {
-            put_rm(
-                alloc,
-                out,
-                opcode!([] [] 0x03 + 8 * number),
-                size,
-                reg_number(reg),
-                src,
-            )
-        }
-        (Operand::Reg(_), Operand::Imm(value)) => {
-            put_alu_number(alloc, out, number, size, dst, value)
-        }
-        (Operand::Mem(mem), Operand::Imm(value)) => {
-            put_cmp_number(alloc, out, op, size, mem, value)
-        }
-        (Operand::Mem(_), Operand::Mem(_)) | (Operand::Imm(_), _) => Ok(()),
+        (Reg(_), Reg(reg)) =>
+            put_row!(alloc out [] [] 0x01 + 8 * number; size, reg_number(reg), dst),
+        (Mem(_), Reg(reg)) => put_row!(alloc out [] [] 0x39; size, reg_number(reg), dst),
+        (Reg(reg), Mem(_)) =>
+            put_row!(alloc out [] [] 0x03 + 8 * number; size, reg_number(reg), src),
+        (Reg(_), Imm(value)) => put_alu_number(alloc, out, number, size, dst, value),
+        (Mem(mem), Imm(value)) => put_cmp_number(alloc, out, op, size, mem, value),
+        (Mem(_), Mem(_)) | (Imm(_), _) => Ok(()),
     }
 }
 

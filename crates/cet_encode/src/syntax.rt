@@ -1,4 +1,5 @@
 ghost use Rattle.std.specs.Prelude.{◌≡◌, ℕ, [], ◌∷◌, ◌++◌, OnOk, OnErr, codes};
+ghost use Rattle.cet_encode.specs.Groups.{IsFixed, IsMoving, IsShadow};
 ghost use Rattle.cet_encode.specs.Names.{condition_name, operation_name};
 ghost use Rattle.cet_encode.specs.Text.{Word, Sign, Space, onto, named, pair, register, operand, size_word, amount, one, two, locked, shift, relative, indirect, pieces, text_of};
 
@@ -233,104 +234,122 @@ fn put_return(alloc: Global, out: &mut Bytes, bytes: u16) -> Result<(), NoMemory
     put_number(alloc, out, u64::from(bytes))
 }
 
+/// The text of an instruction without operands.
 #[tactic(auto, unfolding(crate::specs::Text::pieces))]
-fn put_instr(alloc: Global, out: &mut Bytes, instr: &Instr) -> Result<(), NoMemory>
-    ensures { OnOk result (out.new ≡ onto out.old (pieces instr.now)) }
+fn fixed_name(instr: Instr) -> &'static [u8]
+    requires { IsFixed instr }
+    ensures { pieces instr ≡ Word result.now ∷ [] }
 {
-    match *instr {
-        Instr::Alu { op, size, dst, src } => put_two(
-            alloc,
-            out,
-            operation_name(op),
-            size,
-            dst,
-            src,
-        ),
-        Instr::Test { size, dst, src } => put_two(alloc, out, b"test", size, dst, src),
-        Instr::Mov { size, dst, src } => put_two(alloc, out, b"mov", size, dst, src),
-        Instr::MovWide { dst, value } => put_wide_move(alloc, out, dst, value),
+    match instr {
+        Instr::Leave => b"leave",
+        Instr::Ret => b"ret",
+        Instr::Nop => b"nop",
+        Instr::Pause => b"pause",
+        Instr::Endbr64 => b"endbr64",
+        Instr::Ud2 => b"ud2",
+        Instr::Syscall => b"syscall",
+        Instr::Stc => b"stc",
+        Instr::Clc => b"clc",
+        Instr::Saveprevssp => b"saveprevssp",
+        Instr::Setssbsy => b"setssbsy",
+        _ => unreachable!(),
+    }
+}
+
+/// Appends an instruction that has a register and an operand.
+#[tactic(auto, unfolding(crate::specs::Text::pieces))]
+fn put_moving(alloc: Global, out: &mut Bytes, instr: Instr) -> Result<(), NoMemory>
+    requires { IsMoving instr }
+    ensures { OnOk result (out.new ≡ onto out.old (pieces instr)) }
+{
+    use Operand::Mem;
+    use Size::Qword;
+
+    match instr {
         Instr::MovZero8 { dst, src } => put_byte_move(alloc, out, dst, src),
         Instr::MovSign32 { dst, src } => put_sign_move(alloc, out, dst, src),
         Instr::Lea { size, dst, src } => {
-            put_two(
-                alloc,
-                out,
-                b"lea",
-                size,
-                Operand::Reg(dst),
-                Operand::Mem(src),
-            )
+            put_two(alloc, out, b"lea", size, Operand::Reg(dst), Mem(src))
         }
-        Instr::Xchg { dst, reg } => {
-            put_two(alloc, out, b"xchg", Size::Qword, dst, Operand::Reg(reg))
-        }
+        Instr::Xchg { dst, reg } => put_two(alloc, out, b"xchg", Qword, dst, Operand::Reg(reg)),
         Instr::LockXadd { mem, reg } => put_locked(alloc, out, b"xadd", mem, reg),
         Instr::LockCmpxchg { mem, reg } => put_locked(alloc, out, b"cmpxchg", mem, reg),
-        Instr::Inc { size, reg } => put_one(alloc, out, b"inc", size, Operand::Reg(reg)),
-        Instr::Dec { size, reg } => put_one(alloc, out, b"dec", size, Operand::Reg(reg)),
-        Instr::Not { size, reg } => put_one(alloc, out, b"not", size, Operand::Reg(reg)),
-        Instr::Neg { size, reg } => put_one(alloc, out, b"neg", size, Operand::Reg(reg)),
         Instr::Imul { size, dst, src } => {
             put_two(alloc, out, b"imul", size, Operand::Reg(dst), src)
         }
-        Instr::Shl { size, reg, count } => put_shift(alloc, out, b"shl", size, reg, count),
-        Instr::Shr { size, reg, count } => put_shift(alloc, out, b"shr", size, reg, count),
-        Instr::Sar { size, reg, count } => put_shift(alloc, out, b"sar", size, reg, count),
         Instr::Cmov {
             cond,
             size,
             dst,
             src,
         } => { put_conditional_move(alloc, out, cond, size, dst, src) }
-        Instr::Push { src } => put_one(alloc, out, b"push", Size::Qword, src),
-        Instr::Pop { dst } => put_one(alloc, out, b"pop", Size::Qword, Operand::Reg(dst)),
-        Instr::Leave => put_bytes(alloc, out, b"leave"),
+        _ => unreachable!(),
+    }
+}
+
+/// Appends an instruction of shadow stacks that has an operand.
+#[tactic(auto, unfolding(crate::specs::Text::pieces))]
+fn put_shadow(alloc: Global, out: &mut Bytes, instr: Instr) -> Result<(), NoMemory>
+    requires { IsShadow instr }
+    ensures { OnOk result (out.new ≡ onto out.old (pieces instr)) }
+{
+    use Operand::{Mem, Reg};
+    use Size::Qword;
+
+    match instr {
+        Instr::Incsspq { reg } => put_one(alloc, out, b"incsspq", Qword, Reg(reg)),
+        Instr::Rdsspq { reg } => put_one(alloc, out, b"rdsspq", Qword, Reg(reg)),
+        Instr::Rstorssp { mem } => put_one(alloc, out, b"rstorssp", Qword, Mem(mem)),
+        Instr::Clrssbsy { mem } => put_one(alloc, out, b"clrssbsy", Qword, Mem(mem)),
+        Instr::Wrssq { mem, reg } => put_two(alloc, out, b"wrssq", Qword, Mem(mem), Reg(reg)),
+        Instr::Wrussq { mem, reg } => put_two(alloc, out, b"wrussq", Qword, Mem(mem), Reg(reg)),
+        _ => unreachable!(),
+    }
+}
+
+#[tactic(auto, unfolding(crate::specs::Text::pieces))]
+fn put_instr(alloc: Global, out: &mut Bytes, instr: Instr) -> Result<(), NoMemory>
+    ensures { OnOk result (out.new ≡ onto out.old (pieces instr)) }
+{
+    use Size::Qword;
+
+    match instr {
+        Instr::Alu { op, size, dst, src } => {
+            put_two(alloc, out, operation_name(op), size, dst, src)
+        }
+        Instr::Test { size, dst, src } => put_two(alloc, out, b"test", size, dst, src),
+        Instr::Mov { size, dst, src } => put_two(alloc, out, b"mov", size, dst, src),
+        Instr::MovWide { dst, value } => put_wide_move(alloc, out, dst, value),
+        Instr::Inc { size, reg } => put_one(alloc, out, b"inc", size, Operand::Reg(reg)),
+        Instr::Dec { size, reg } => put_one(alloc, out, b"dec", size, Operand::Reg(reg)),
+        Instr::Not { size, reg } => put_one(alloc, out, b"not", size, Operand::Reg(reg)),
+        Instr::Neg { size, reg } => put_one(alloc, out, b"neg", size, Operand::Reg(reg)),
+        Instr::Shl { size, reg, count } => put_shift(alloc, out, b"shl", size, reg, count),
+        Instr::Shr { size, reg, count } => put_shift(alloc, out, b"shr", size, reg, count),
+        Instr::Sar { size, reg, count } => put_shift(alloc, out, b"sar", size, reg, count),
+        Instr::Push { src } => put_one(alloc, out, b"push", Qword, src),
+        Instr::Pop { dst } => put_one(alloc, out, b"pop", Qword, Operand::Reg(dst)),
         Instr::CallRel { disp } => put_relative(alloc, out, b"call", disp),
         Instr::CallInd { target, notrack } => put_indirect(alloc, out, b"call", target, notrack),
         Instr::JmpRel { disp } => put_relative(alloc, out, b"jmp", disp),
         Instr::JmpInd { target, notrack } => put_indirect(alloc, out, b"jmp", target, notrack),
         Instr::Jcc { cond, disp } => put_conditional_jump(alloc, out, cond, disp),
-        Instr::Ret => put_bytes(alloc, out, b"ret"),
         Instr::RetImm { bytes } => put_return(alloc, out, bytes),
-        Instr::Nop => put_bytes(alloc, out, b"nop"),
-        Instr::Pause => put_bytes(alloc, out, b"pause"),
-        Instr::Endbr64 => put_bytes(alloc, out, b"endbr64"),
-        Instr::Ud2 => put_bytes(alloc, out, b"ud2"),
-        Instr::Syscall => put_bytes(alloc, out, b"syscall"),
-        Instr::Stc => put_bytes(alloc, out, b"stc"),
-        Instr::Clc => put_bytes(alloc, out, b"clc"),
-        Instr::Incsspq { reg } => {
-            put_one(alloc, out, b"incsspq", Size::Qword, Operand::Reg(reg))
-        }
-        Instr::Rdsspq { reg } => put_one(alloc, out, b"rdsspq", Size::Qword, Operand::Reg(reg)),
-        Instr::Rstorssp { mem } => {
-            put_one(alloc, out, b"rstorssp", Size::Qword, Operand::Mem(mem))
-        }
-        Instr::Saveprevssp => put_bytes(alloc, out, b"saveprevssp"),
-        Instr::Setssbsy => put_bytes(alloc, out, b"setssbsy"),
-        Instr::Clrssbsy { mem } => {
-            put_one(alloc, out, b"clrssbsy", Size::Qword, Operand::Mem(mem))
-        }
-        Instr::Wrssq { mem, reg } => {
-            put_two(
-                alloc,
-                out,
-                b"wrssq",
-                Size::Qword,
-                Operand::Mem(mem),
-                Operand::Reg(reg),
-            )
-        }
-        Instr::Wrussq { mem, reg } => {
-            put_two(
-                alloc,
-                out,
-                b"wrussq",
-                Size::Qword,
-                Operand::Mem(mem),
-                Operand::Reg(reg),
-            )
-        }
+        Instr::MovZero8 { .. }
+        | Instr::MovSign32 { .. }
+        | Instr::Lea { .. }
+        | Instr::Xchg { .. }
+        | Instr::LockXadd { .. }
+        | Instr::LockCmpxchg { .. }
+        | Instr::Imul { .. }
+        | Instr::Cmov { .. } => put_moving(alloc, out, instr),
+        Instr::Incsspq { .. }
+        | Instr::Rdsspq { .. }
+        | Instr::Rstorssp { .. }
+        | Instr::Clrssbsy { .. }
+        | Instr::Wrssq { .. }
+        | Instr::Wrussq { .. } => put_shadow(alloc, out, instr),
+        _ => put_bytes(alloc, out, fixed_name(instr)),
     }
 }
 
@@ -340,6 +359,6 @@ pub fn text(alloc: Global, instr: &Instr, out: &mut Bytes) -> Result<(), NoMemor
     ensures err { OnErr result (out.new ≡ out.old) }
 {
     let mut line = Bytes::new(alloc);
-    put_instr(alloc, &mut line, instr)?;
+    put_instr(alloc, &mut line, *instr)?;
     put_bytes(alloc, out, line.as_slice())
 }

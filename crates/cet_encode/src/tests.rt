@@ -1,11 +1,16 @@
 use super::*;
 use cet_isa::{AluOp, Base, Cond, Count, Instr, Mem, Operand, Reg, Size, is_spelled};
 use cet_words::{Bytes, NoMemory};
+use std::alloc::Global;
+use std::process::Abort;
+
+/// An instruction, its bytes and its text.
+type Row = (Instr, &'static [u8], &'static [u8]);
 
 // The bytes are those of GNU as 2.40, with 81 in place of the row for rax alone. The texts are those of GNU objdump 2.40
 // in its Intel syntax, with numbers as signed ones, relative targets by their distance, and no words for a size that a
 // register tells.
-const ROWS: [(Instr, &[u8], &[u8]); 81] = [
+const ARITHMETIC: [Row; 19] = [
     (
         Instr::Alu {
             op: AluOp::Add,
@@ -171,6 +176,63 @@ const ROWS: [(Instr, &[u8], &[u8]); 81] = [
         b"test esi, -0x2",
     ),
     (
+        Instr::Inc {
+            size: Size::Dword,
+            reg: Reg::R13,
+        },
+        &[0x41, 0xff, 0xc5],
+        b"inc r13d",
+    ),
+    (
+        Instr::Dec {
+            size: Size::Dword,
+            reg: Reg::R13,
+        },
+        &[0x41, 0xff, 0xcd],
+        b"dec r13d",
+    ),
+    (
+        Instr::Not {
+            size: Size::Dword,
+            reg: Reg::R13,
+        },
+        &[0x41, 0xf7, 0xd5],
+        b"not r13d",
+    ),
+    (
+        Instr::Neg {
+            size: Size::Dword,
+            reg: Reg::R13,
+        },
+        &[0x41, 0xf7, 0xdd],
+        b"neg r13d",
+    ),
+    (
+        Instr::Neg {
+            size: Size::Qword,
+            reg: Reg::Rbp,
+        },
+        &[0x48, 0xf7, 0xdd],
+        b"neg rbp",
+    ),
+    (
+        Instr::Imul {
+            size: Size::Dword,
+            dst: Reg::Rsi,
+            src: Operand::Mem(Mem {
+                base: Base::Reg(Reg::Rdi),
+                index: None,
+                scale: 1,
+                disp: 0,
+            }),
+        },
+        &[0x0f, 0xaf, 0x37],
+        b"imul esi, [rdi]",
+    ),
+];
+
+const SHIFTS_AND_MOVES: [Row; 12] = [
+    (
         Instr::Mov {
             size: Size::Qword,
             dst: Operand::Mem(Mem {
@@ -273,6 +335,36 @@ const ROWS: [(Instr, &[u8], &[u8]); 81] = [
         b"movsxd rax, [rsi+r9*2+0x7f]",
     ),
     (
+        Instr::Shl {
+            size: Size::Qword,
+            reg: Reg::Rax,
+            count: Count::Number(63),
+        },
+        &[0x48, 0xc1, 0xe0, 0x3f],
+        b"shl rax, 0x3f",
+    ),
+    (
+        Instr::Shr {
+            size: Size::Dword,
+            reg: Reg::R10,
+            count: Count::Number(2),
+        },
+        &[0x41, 0xc1, 0xea, 0x02],
+        b"shr r10d, 0x2",
+    ),
+    (
+        Instr::Sar {
+            size: Size::Qword,
+            reg: Reg::Rcx,
+            count: Count::Cl,
+        },
+        &[0x48, 0xd3, 0xf9],
+        b"sar rcx, cl",
+    ),
+];
+
+const EXCHANGES: [Row; 18] = [
+    (
         Instr::Lea {
             size: Size::Qword,
             dst: Reg::Rax,
@@ -348,87 +440,6 @@ const ROWS: [(Instr, &[u8], &[u8]); 81] = [
         b"lock cmpxchg [r15+r14*4+0x100], r15",
     ),
     (
-        Instr::Inc {
-            size: Size::Dword,
-            reg: Reg::R13,
-        },
-        &[0x41, 0xff, 0xc5],
-        b"inc r13d",
-    ),
-    (
-        Instr::Dec {
-            size: Size::Dword,
-            reg: Reg::R13,
-        },
-        &[0x41, 0xff, 0xcd],
-        b"dec r13d",
-    ),
-    (
-        Instr::Not {
-            size: Size::Dword,
-            reg: Reg::R13,
-        },
-        &[0x41, 0xf7, 0xd5],
-        b"not r13d",
-    ),
-    (
-        Instr::Neg {
-            size: Size::Dword,
-            reg: Reg::R13,
-        },
-        &[0x41, 0xf7, 0xdd],
-        b"neg r13d",
-    ),
-    (
-        Instr::Neg {
-            size: Size::Qword,
-            reg: Reg::Rbp,
-        },
-        &[0x48, 0xf7, 0xdd],
-        b"neg rbp",
-    ),
-    (
-        Instr::Imul {
-            size: Size::Dword,
-            dst: Reg::Rsi,
-            src: Operand::Mem(Mem {
-                base: Base::Reg(Reg::Rdi),
-                index: None,
-                scale: 1,
-                disp: 0,
-            }),
-        },
-        &[0x0f, 0xaf, 0x37],
-        b"imul esi, [rdi]",
-    ),
-    (
-        Instr::Shl {
-            size: Size::Qword,
-            reg: Reg::Rax,
-            count: Count::Number(63),
-        },
-        &[0x48, 0xc1, 0xe0, 0x3f],
-        b"shl rax, 0x3f",
-    ),
-    (
-        Instr::Shr {
-            size: Size::Dword,
-            reg: Reg::R10,
-            count: Count::Number(2),
-        },
-        &[0x41, 0xc1, 0xea, 0x02],
-        b"shr r10d, 0x2",
-    ),
-    (
-        Instr::Sar {
-            size: Size::Qword,
-            reg: Reg::Rcx,
-            count: Count::Cl,
-        },
-        &[0x48, 0xd3, 0xf9],
-        b"sar rcx, cl",
-    ),
-    (
         Instr::Cmov {
             cond: Cond::O,
             size: Size::Qword,
@@ -437,14 +448,6 @@ const ROWS: [(Instr, &[u8], &[u8]); 81] = [
         },
         &[0x48, 0x0f, 0x40, 0xd1],
         b"cmovo rdx, rcx",
-    ),
-    (
-        Instr::Jcc {
-            cond: Cond::No,
-            disp: 1000,
-        },
-        &[0x0f, 0x81, 0xe8, 0x03, 0x00, 0x00],
-        b"jno rel 0x3e8",
     ),
     (
         Instr::Cmov {
@@ -457,14 +460,6 @@ const ROWS: [(Instr, &[u8], &[u8]); 81] = [
         b"cmovb rdx, rcx",
     ),
     (
-        Instr::Jcc {
-            cond: Cond::Ae,
-            disp: 3000,
-        },
-        &[0x0f, 0x83, 0xb8, 0x0b, 0x00, 0x00],
-        b"jae rel 0xbb8",
-    ),
-    (
         Instr::Cmov {
             cond: Cond::E,
             size: Size::Qword,
@@ -473,14 +468,6 @@ const ROWS: [(Instr, &[u8], &[u8]); 81] = [
         },
         &[0x48, 0x0f, 0x44, 0xd1],
         b"cmove rdx, rcx",
-    ),
-    (
-        Instr::Jcc {
-            cond: Cond::Ne,
-            disp: 5000,
-        },
-        &[0x0f, 0x85, 0x88, 0x13, 0x00, 0x00],
-        b"jne rel 0x1388",
     ),
     (
         Instr::Cmov {
@@ -493,14 +480,6 @@ const ROWS: [(Instr, &[u8], &[u8]); 81] = [
         b"cmovbe rdx, rcx",
     ),
     (
-        Instr::Jcc {
-            cond: Cond::A,
-            disp: 7000,
-        },
-        &[0x0f, 0x87, 0x58, 0x1b, 0x00, 0x00],
-        b"ja rel 0x1b58",
-    ),
-    (
         Instr::Cmov {
             cond: Cond::S,
             size: Size::Qword,
@@ -509,14 +488,6 @@ const ROWS: [(Instr, &[u8], &[u8]); 81] = [
         },
         &[0x48, 0x0f, 0x48, 0xd1],
         b"cmovs rdx, rcx",
-    ),
-    (
-        Instr::Jcc {
-            cond: Cond::Ns,
-            disp: 9000,
-        },
-        &[0x0f, 0x89, 0x28, 0x23, 0x00, 0x00],
-        b"jns rel 0x2328",
     ),
     (
         Instr::Cmov {
@@ -529,14 +500,6 @@ const ROWS: [(Instr, &[u8], &[u8]); 81] = [
         b"cmovp rdx, rcx",
     ),
     (
-        Instr::Jcc {
-            cond: Cond::Np,
-            disp: 11000,
-        },
-        &[0x0f, 0x8b, 0xf8, 0x2a, 0x00, 0x00],
-        b"jnp rel 0x2af8",
-    ),
-    (
         Instr::Cmov {
             cond: Cond::L,
             size: Size::Qword,
@@ -547,14 +510,6 @@ const ROWS: [(Instr, &[u8], &[u8]); 81] = [
         b"cmovl rdx, rcx",
     ),
     (
-        Instr::Jcc {
-            cond: Cond::Ge,
-            disp: 13000,
-        },
-        &[0x0f, 0x8d, 0xc8, 0x32, 0x00, 0x00],
-        b"jge rel 0x32c8",
-    ),
-    (
         Instr::Cmov {
             cond: Cond::Le,
             size: Size::Qword,
@@ -563,14 +518,6 @@ const ROWS: [(Instr, &[u8], &[u8]); 81] = [
         },
         &[0x48, 0x0f, 0x4e, 0xd1],
         b"cmovle rdx, rcx",
-    ),
-    (
-        Instr::Jcc {
-            cond: Cond::G,
-            disp: 15000,
-        },
-        &[0x0f, 0x8f, 0x98, 0x3a, 0x00, 0x00],
-        b"jg rel 0x3a98",
     ),
     (
         Instr::Push {
@@ -599,6 +546,73 @@ const ROWS: [(Instr, &[u8], &[u8]); 81] = [
         b"push [rax+0x10]",
     ),
     (Instr::Pop { dst: Reg::Rbp }, &[0x5d], b"pop rbp"),
+];
+
+const TRANSFERS: [Row; 24] = [
+    (
+        Instr::Jcc {
+            cond: Cond::No,
+            disp: 1000,
+        },
+        &[0x0f, 0x81, 0xe8, 0x03, 0x00, 0x00],
+        b"jno rel 0x3e8",
+    ),
+    (
+        Instr::Jcc {
+            cond: Cond::Ae,
+            disp: 3000,
+        },
+        &[0x0f, 0x83, 0xb8, 0x0b, 0x00, 0x00],
+        b"jae rel 0xbb8",
+    ),
+    (
+        Instr::Jcc {
+            cond: Cond::Ne,
+            disp: 5000,
+        },
+        &[0x0f, 0x85, 0x88, 0x13, 0x00, 0x00],
+        b"jne rel 0x1388",
+    ),
+    (
+        Instr::Jcc {
+            cond: Cond::A,
+            disp: 7000,
+        },
+        &[0x0f, 0x87, 0x58, 0x1b, 0x00, 0x00],
+        b"ja rel 0x1b58",
+    ),
+    (
+        Instr::Jcc {
+            cond: Cond::Ns,
+            disp: 9000,
+        },
+        &[0x0f, 0x89, 0x28, 0x23, 0x00, 0x00],
+        b"jns rel 0x2328",
+    ),
+    (
+        Instr::Jcc {
+            cond: Cond::Np,
+            disp: 11000,
+        },
+        &[0x0f, 0x8b, 0xf8, 0x2a, 0x00, 0x00],
+        b"jnp rel 0x2af8",
+    ),
+    (
+        Instr::Jcc {
+            cond: Cond::Ge,
+            disp: 13000,
+        },
+        &[0x0f, 0x8d, 0xc8, 0x32, 0x00, 0x00],
+        b"jge rel 0x32c8",
+    ),
+    (
+        Instr::Jcc {
+            cond: Cond::G,
+            disp: 15000,
+        },
+        &[0x0f, 0x8f, 0x98, 0x3a, 0x00, 0x00],
+        b"jg rel 0x3a98",
+    ),
     (Instr::Leave, &[0xc9], b"leave"),
     (
         Instr::CallRel { disp: -5 },
@@ -665,6 +679,9 @@ const ROWS: [(Instr, &[u8], &[u8]); 81] = [
     (Instr::Syscall, &[0x0f, 0x05], b"syscall"),
     (Instr::Stc, &[0xf9], b"stc"),
     (Instr::Clc, &[0xf8], b"clc"),
+];
+
+const SHADOW: [Row; 8] = [
     (
         Instr::Incsspq { reg: Reg::R8 },
         &[0xf3, 0x49, 0x0f, 0xae, 0xe8],
@@ -733,10 +750,9 @@ const ROWS: [(Instr, &[u8], &[u8]); 81] = [
     ),
 ];
 
-#[test]
-fn instructions_have_their_bytes_and_texts(rt: HostRuntime) -> Result<(), NoMemory> {
-    let alloc = rt.alloc();
-    for (instr, bytes, want) in &ROWS {
+/// Each instruction has its text and its bytes.
+fn are_written(rt: &impl Abort, alloc: Global, rows: &[Row]) -> Result<(), NoMemory> {
+    for (instr, bytes, want) in rows {
         let mut out = Bytes::new(alloc);
         text(alloc, instr, &mut out)?;
         assert_eq!(rt; out.as_slice(), *want);
@@ -746,4 +762,29 @@ fn instructions_have_their_bytes_and_texts(rt: HostRuntime) -> Result<(), NoMemo
         assert_eq!(rt; spelling.as_slice(), *bytes);
     }
     Ok(())
+}
+
+#[test]
+fn arithmetic_is_written(rt: HostRuntime) -> Result<(), NoMemory> {
+    are_written(&rt, rt.alloc(), &ARITHMETIC)
+}
+
+#[test]
+fn shifts_and_moves_are_written(rt: HostRuntime) -> Result<(), NoMemory> {
+    are_written(&rt, rt.alloc(), &SHIFTS_AND_MOVES)
+}
+
+#[test]
+fn addresses_exchanges_and_the_stack_are_written(rt: HostRuntime) -> Result<(), NoMemory> {
+    are_written(&rt, rt.alloc(), &EXCHANGES)
+}
+
+#[test]
+fn transfers_and_others_are_written(rt: HostRuntime) -> Result<(), NoMemory> {
+    are_written(&rt, rt.alloc(), &TRANSFERS)
+}
+
+#[test]
+fn instructions_of_shadow_stacks_are_written(rt: HostRuntime) -> Result<(), NoMemory> {
+    are_written(&rt, rt.alloc(), &SHADOW)
 }

@@ -8,6 +8,7 @@ ghost use Rattle.cet_base.specs.Digits.{hex16};
 ghost use Rattle.cet_top.specs.Line.{line, spaced};
 ghost use Rattle.cet_top.specs.Listing.{hex2, Instruction, IsFirst, IsListing, Lists, ListsIf, Lone, Piece, piece_bytes, piece_line, piece_text, segment_code};
 
+use crate::written::put_zeros;
 use cet_base::{hex16, put_bytes};
 use cet_decode::{Decoded, decode};
 use cet_encode::text;
@@ -126,8 +127,8 @@ fn segment_code(alloc: Global, segment: &Segment) -> Result<Bytes, NoMemory>
 {
     let mut code = Bytes::new(alloc);
     put_bytes(alloc, &mut code, segment.bytes.as_slice())?;
-    let zeros = vec![in alloc; 0; segment.size as usize - segment.bytes.len()]?;
-    put_bytes(alloc, &mut code, &zeros)?;
+    let zeros = segment.size as usize - segment.bytes.len();
+    put_zeros(alloc, &mut code, zeros)?;
     Ok(code)
 }
 
