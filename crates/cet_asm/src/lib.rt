@@ -9,6 +9,8 @@ mod filling;
 mod instructions;
 mod labels;
 mod layout;
+#[cfg(test)]
+mod line_tests;
 mod lines;
 mod lists;
 mod mnemonics;
