@@ -19,6 +19,7 @@ mod program;
 mod rules;
 mod sections;
 mod sizes;
+mod splitting;
 mod statements;
 mod tokens;
 
