@@ -12,3 +12,4 @@ pub mod Filling
 pub mod Parts
 pub mod Passes
 pub mod Places
+pub mod Second

@@ -6,6 +6,7 @@ mod checks;
 mod classes;
 mod emission;
 mod filling;
+mod first_pass;
 mod instructions;
 mod labels;
 mod layout;
