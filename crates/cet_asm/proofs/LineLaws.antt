@@ -1,5 +1,5 @@
 -- Labels read one by one, and two tests.
-use Rattle.std.proofs.Common.{◌≡◌, ℕ, zero, suc, ◌+◌, ◌≤◌, ◌<◌, Bool, true, false, ◌&&◌, cond, eqb, List, [], ◌∷◌, length, Option, Some, None, refl, ap, sym, ◌∙◌, arith}
+use Rattle.std.proofs.Common.{◌≡◌, ℕ, zero, suc, ◌≤◌, ◌<◌, Bool, true, false, ◌&&◌, cond, eqb, List, [], ◌∷◌, length, Option, Some, None, refl, ap, subst, sym, ◌∙◌, arith}
 use Rattle.std.specs.Prelude.{IsTrue, ◌↔◌}
 use Rattle.std.specs.Str.{IsUtf8, is_utf8}
 use Rattle.std.proofs.lemmas.Str.{IsUtf8-from_is_utf8, is_utf8-from_IsUtf8}
@@ -17,7 +17,7 @@ use Rattle.cet_asm.proofs.TokenLaws.{behind_shorter}
 
 -- ---- spellings and UTF-8
 
-pub spelled_test : (i : Instr) (r : Bool) → InstrFits i → (IsTrue r ↔ ((bytes : List ℕ) × Spells bytes i)) → r ≡ has_spelling i
+spelled_test : (i : Instr) (r : Bool) → InstrFits i → (IsTrue r ↔ ((bytes : List ℕ) × Spells bytes i)) → r ≡ has_spelling i
 spelled_test i r fits h = go r (has_spelling i) refl h
   where
     go : (r t : Bool) → has_spelling i ≡ t → (IsTrue r ↔ ((bytes : List ℕ) × Spells bytes i)) → r ≡ t
@@ -25,6 +25,9 @@ spelled_test i r fits h = go r (has_spelling i) refl h
     go false false e h = refl
     go true false e h = let s = h.0 refl in absurd (let f : true ≡ false = sym (spelled_has s.0 i s.1) ∙ e in cc)
     go false true e h = absurd (let f : false ≡ true = h.1 (canonical_spelling i, canonical_spells i fits e) in cc)
+
+pub spelled_as : (i j : Instr) (r : Bool) → j ≡ i → InstrFits i → (IsTrue r ↔ ((bytes : List ℕ) × Spells bytes j)) → r ≡ has_spelling i
+spelled_as i j r e fits h = spelled_test i r fits (subst (λ (k : Instr). IsTrue r ↔ ((bytes : List ℕ) × Spells bytes k)) e h)
 
 pub not_utf8 : (bs : List ℕ) → ¬ IsUtf8 bs → is_utf8 bs ≡ false
 not_utf8 bs h = go (is_utf8 bs) refl
@@ -50,8 +53,6 @@ shorter_at name (b ∷ bytes) x e = go (eqb b 58 && is_label name) e
     go : (t : Bool) → cond t (Some (name, bytes)) None ≡ Some x → length x.1 < length (b ∷ bytes)
     go true f = let same : bytes ≡ x.1 = cc in omega (arith, ap length same)
     go false f = absurd cc
-
-pub ruleset shorter_laws = (behind_shorter, shorter_at)
 
 shorter : (text : List ℕ) (x : List ℕ × List ℕ) → first_label text ≡ Some x → length x.1 < length text
 unfolding first_label

@@ -1,10 +1,9 @@
 -- Lists read item by item.
 use Rattle.std.proofs.Common.{◌≡◌, ℕ, Bool, true, false, ◌&&◌, cond, eqb, List, [], ◌∷◌, Option, Some, None, refl, ap, sym, ◌∙◌}
 use Rattle.std.specs.Prelude.{is_some}
-use Rattle.std.specs.List.{list_all}
 use Rattle.cet_asm.specs.Tokens.{Token, Word, Sign, Minus, ◌>>=◌, tokens}
 use Rattle.cet_asm.specs.Words.{Place, word_place, number_place}
-use Rattle.cet_asm.specs.Operands.{is_list, before, items, listed, separated, negative_item, item_first}
+use Rattle.cet_asm.specs.Operands.{is_list, before, items, listed, separated, item_first}
 use Rattle.cet_asm.specs.Line.{Item, byte_of, quad_of, bytes_in, quads_in}
 
 Found : Type 0
@@ -178,4 +177,5 @@ unfolding quads_in
 more_quads ts more p w e n = more_items quad_of ts more p e ∙ ap (λ x. before x (items quad_of more)) (sym n)
 
 pub ruleset byte_laws = (no_bytes, byte_none, last_byte, more_bytes)
+
 pub ruleset quad_laws = (no_quads, quad_none, last_quad, more_quads)

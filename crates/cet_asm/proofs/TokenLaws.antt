@@ -1,8 +1,8 @@
 -- The first token of a text.
-use Rattle.std.proofs.Common.{◌≡◌, ℕ, suc, ◌+◌, ◌≤◌, ◌<◌, Bool, true, false, not, ◌&&◌, ◌||◌, cond, List, [], ◌∷◌, length, refl, ap, arith}
+use Rattle.std.proofs.Common.{◌≡◌, ℕ, ◌≤◌, ◌<◌, Bool, true, false, not, ◌||◌, cond, List, [], ◌∷◌, length, refl, ap, arith}
 use Rattle.cet_asm.specs.declared.classes.Class.{Class}
 use Rattle.cet_asm.specs.declared.classes.Class.TheVariants.{Letter}
-use Rattle.cet_asm.specs.Tokens.{Token, Word, Sign, Minus, is_blank, is_sign, in_class, front, behind, begins_word, sign_token, onto_word, tokens}
+use Rattle.cet_asm.specs.Tokens.{Word, is_blank, is_sign, in_class, front, behind, begins_word, sign_token, onto_word, tokens}
 
 letter_is : (b : ℕ) → in_class Letter b ≡ true → (is_sign b ≡ false) × (is_blank b ≡ false)
 letter_is b h = go (is_sign b) (is_blank b) h

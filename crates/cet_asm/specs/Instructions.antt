@@ -1,6 +1,5 @@
 -- The instruction that a mnemonic and its operands make. Source: Intel SDM volume 2; which operands are taken is own.
-use Rattle.std.specs.Prelude.{ℕ, ℤ, pos, ◌^◌, Bool, true, false, not, ◌&&◌, ◌==◌, if◌then◌else◌, List, [], ◌∷◌, Option, Some, None, is_some, unwrap_or}
-use Rattle.cet_isa.specs.Spelled.{has_spelling}
+use Rattle.std.specs.Prelude.{ℕ, ℤ, pos, ◌^◌, Bool, true, false, not, ◌&&◌, if◌then◌else◌, List, Option, Some, None, is_some, unwrap_or}
 use Rattle.cet_isa.specs.declared.instructions.Count.{Count}
 use Rattle.cet_isa.specs.declared.instructions.Count.TheVariants as counts
 use Rattle.cet_isa.specs.declared.instructions.Instr.{Instr}

@@ -1,6 +1,6 @@
 -- One line of the assembler by itself: its labels, and what it states. Source: own.
-use Rattle.std.specs.Prelude.{ℕ, ◌^◌, zero, suc, ℤ, pos, negsuc, Bool, true, false, not, ◌&&◌, ◌==◌, nat_lt, if◌then◌else◌, List, [], ◌∷◌, length, map, Option, Some, None, is_some, codes}
-use Rattle.std.specs.List.{list_all, filter_map}
+use Rattle.std.specs.Prelude.{ℕ, ◌^◌, zero, suc, ℤ, Bool, true, false, not, ◌&&◌, ◌==◌, if◌then◌else◌, List, [], ◌∷◌, length, Option, Some, None, is_some, codes}
+use Rattle.std.specs.List.{list_all}
 use Rattle.std.specs.Str.{bytes_eq, is_utf8}
 use Rattle.cet_isa.specs.Spelled.{has_spelling}
 use Rattle.cet_isa.specs.declared.instructions.Instr.{Instr}
@@ -10,7 +10,7 @@ use Rattle.cet_asm.specs.declared.rules.Rule.{Rule}
 use Rattle.cet_asm.specs.declared.rules.Rule.TheVariants as rules
 use Rattle.cet_asm.specs.Tokens.{front, behind, Token, tokens, ◌>>=◌}
 use Rattle.cet_asm.specs.Words.{Place, Number, Label, is_label, unsigned_field, byte_field, quad_field}
-use Rattle.cet_asm.specs.Operands.{Operands, Absent, One, Two, Value, operands, is_list, items, listed}
+use Rattle.cet_asm.specs.Operands.{Operands, One, Value, operands, is_list, items, listed}
 use Rattle.cet_asm.specs.Mnemonics.{mnemonic_of, locked_mnemonic, untracked_mnemonic}
 use Rattle.cet_asm.specs.Instructions.{Uses, Built, built}
 

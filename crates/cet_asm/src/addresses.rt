@@ -126,7 +126,11 @@ fn starred(text: &[u8]) -> Option<(&[u8], &[u8])>
 
 /// A part of the operand that begins by the word, with the text after it.
 #[tactic(auto, unfolding(crate::specs::Operands::word_part))]
-fn word_part<'a>(address: Address<'a>, word: &'a [u8], text: &'a [u8]) -> Option<(Address<'a>, &'a [u8])>
+fn word_part<'a>(
+    address: Address<'a>,
+    word: &'a [u8],
+    text: &'a [u8],
+) -> Option<(Address<'a>, &'a [u8])>
     ensures { part_view result ≡ word_part (address_view address.entry) word.now (tokens text.now) }
 {
     match starred(text) {
@@ -136,7 +140,11 @@ fn word_part<'a>(address: Address<'a>, word: &'a [u8], text: &'a [u8]) -> Option
 }
 
 /// A number after `-`, with the text after it.
-fn minus_part<'a>(address: Address<'a>, minus: bool, text: &'a [u8]) -> Option<(Address<'a>, &'a [u8])>
+fn minus_part<'a>(
+    address: Address<'a>,
+    minus: bool,
+    text: &'a [u8],
+) -> Option<(Address<'a>, &'a [u8])>
     ensures { part_view result ≡ minus_part (address_view address.entry) minus (tokens text.now) }
 {
     let (word, rest) = first_word(text)?;

@@ -169,7 +169,10 @@ fn make_argument(size: Size, given: Given) -> Option<Argument>
 fn same_size(first: Size, second: Size) -> bool
     ensures { result ≡ same_size first second }
 {
-    matches!((first, second), (Size::Dword, Size::Dword) | (Size::Qword, Size::Qword))
+    matches!(
+        (first, second),
+        (Size::Dword, Size::Dword) | (Size::Qword, Size::Qword)
+    )
 }
 
 /// The size of two operands: that of the registers, else 32 bits after `dword`, else 64 bits.

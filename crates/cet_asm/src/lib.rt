@@ -10,6 +10,8 @@ mod first_pass;
 mod instructions;
 mod labels;
 mod layout;
+#[cfg(test)]
+mod line_tests;
 mod lines;
 mod lists;
 mod mnemonics;

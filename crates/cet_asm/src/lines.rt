@@ -2,7 +2,7 @@
 
 ghost use Rattle.std.specs.Prelude.{◌≡◌, length, ◌<◌, IfSome};
 ghost use Rattle.std.specs.Str.{is_utf8};
-ghost use Rattle.cet_asm.specs.Line.{first_label, after_labels, line_of};
+ghost use Rattle.cet_asm.specs.Line.{after_colon, first_label, after_labels, line_of};
 ghost use Rattle.cet_asm.specs.Views.{label_view, line_view, IsFirstLabel, IsSpelledStatement};
 
 use crate::classes::{Class, skip_class, split_class};
@@ -17,17 +17,32 @@ pub(crate) struct Line<'a> {
     pub statement: Statement<'a>,
 }
 
-/// A label and the colon directly after it, with the text after them.
-#[tactic(auto, using(crate::proofs::LineLaws::shorter_laws), unfolding(crate::specs::Line::first_label))]
+/// A label and the text after its colon, where a colon stands directly after the name.
+fn after_colon<'a>(name: &'a [u8], rest: &'a [u8]) -> Option<(&'a [u8], &'a [u8])>
+    ensures label { label_view result ≡ after_colon name.now rest.now }
+    ensures shorter { IfSome result (λ x. length x.1.now < length rest.now) }
+{
+    match rest {
+        [] => None,
+        [byte, after @ ..] => {
+            if *byte == b':' && is_label(name) {
+                Some((name, after))
+            } else {
+                None
+            }
+        }
+    }
+}
+
+/// The first label of a text, and the text after its colon.
+#[tactic(auto, using(crate::proofs::TokenLaws::behind_shorter), unfolding(crate::specs::Line::first_label))]
 fn first_label(text: &[u8]) -> Option<(&[u8], &[u8])>
     ensures label { label_view result ≡ first_label text.now }
     ensures shorter { IfSome result (λ x. length x.1.now < length text.now) }
 {
-    let (name, rest) = split_class(Class::NameByte, skip_class(Class::Blank, text));
-    match rest {
-        [b':', after @ ..] if is_label(name) => Some((name, after)),
-        _ => None,
-    }
+    let start = skip_class(Class::Blank, text);
+    let (name, rest) = split_class(Class::NameByte, start);
+    after_colon(name, rest)
 }
 
 /// The first label of a text, and the text after it.

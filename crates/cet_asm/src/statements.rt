@@ -42,7 +42,6 @@ fn ranged(instr: Instr) -> Instr
     instr
 }
 
-#[tactic(auto, using(crate::proofs::LineLaws::spelled_test))]
 fn has_spelling(instr: Instr) -> bool
     ensures test { result ≡ has_spelling instr }
     ensures fits { InstrFits instr }
