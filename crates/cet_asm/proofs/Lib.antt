@@ -5,3 +5,5 @@ pub mod FillingLaws
 pub mod ListLaws
 pub mod LineLaws
 pub mod SizeLaws
+pub mod ZeroLaws
+pub mod PartLaws

@@ -18,7 +18,7 @@ tokens_length [] = omega arith
 tokens_length (b ∷ bytes) = go (is_sign b) (is_blank b) (tokens_length bytes)
   where
     go : (s t : Bool) → length (tokens bytes) ≤ length bytes
-        → length (cond s (sign_token b (begins_word bytes) ∷ tokens bytes) (cond t (tokens bytes) (onto_word b (begins_word bytes) (tokens bytes)))) ≤ 1 + length bytes
+        → length (cond s (sign_token b (begins_word bytes) ∷ tokens bytes) (cond t (tokens bytes) (onto_word b (begins_word bytes) (tokens bytes)))) ≤ length (b ∷ bytes)
     go true t h = omega (arith, h)
     go false true h = omega (arith, h)
     go false false h = omega (arith, h, onto_length b (begins_word bytes) (tokens bytes))
@@ -34,7 +34,7 @@ items_length f (Sign s ∷ ts) = omega arith
 items_length f (Word w ∷ []) = before_length (word_place w >>= f) []
 items_length {A} f (Word w ∷ Sign s ∷ ts) = go (eqb s 44) (items_length f ts)
   where
-    go : (t : Bool) → length (items f ts) ≤ length ts → length {X = A} (cond t (before (word_place w >>= f) (items f ts)) []) ≤ 2 + length ts
+    go : (t : Bool) → length (items f ts) ≤ length ts → length {A = A} (cond t (before (word_place w >>= f) (items f ts)) []) ≤ length (Word w ∷ Sign s ∷ ts)
     go true h = omega (arith, h, before_length (word_place w >>= f) (items f ts))
     go false h = omega arith
 items_length f (Word w ∷ Word v ∷ ts) = omega arith
@@ -45,7 +45,7 @@ items_length f (Minus ∷ Minus ∷ ts) = omega arith
 items_length f (Minus ∷ Word w ∷ []) = omega (arith, before_length (number_place true w >>= f) [])
 items_length {A} f (Minus ∷ Word w ∷ Sign s ∷ ts) = go (eqb s 44) (items_length f ts)
   where
-    go : (t : Bool) → length (items f ts) ≤ length ts → length {X = A} (cond t (before (number_place true w >>= f) (items f ts)) []) ≤ 3 + length ts
+    go : (t : Bool) → length (items f ts) ≤ length ts → length {A = A} (cond t (before (number_place true w >>= f) (items f ts)) []) ≤ length (Minus ∷ Word w ∷ Sign s ∷ ts)
     go true h = omega (arith, h, before_length (number_place true w >>= f) (items f ts))
     go false h = omega arith
 items_length f (Minus ∷ Word w ∷ Word v ∷ ts) = omega arith

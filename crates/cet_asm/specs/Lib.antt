@@ -9,5 +9,7 @@ pub mod Layout
 pub mod Program
 pub mod Answer
 pub mod Filling
+pub mod Parts
 pub mod Passes
 pub mod Places
+pub mod Second

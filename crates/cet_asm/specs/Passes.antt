@@ -1,11 +1,14 @@
 -- What the two passes over a text keep. Source: own.
-use Rattle.std.specs.Prelude.{◌≡◌, ℕ, ◌+◌, ◌≤◌, Bool, true, false, not, ◌||◌, if◌then◌else◌, List, [], ◌∷◌, Option, Some, None, is_some}
+use Rattle.std.specs.Prelude.{◌≡◌, ℕ, ◌+◌, ◌≤◌, Bool, true, false, not, ◌||◌, ◌==◌, if◌then◌else◌, List, [], ◌∷◌, Option, Some, None, is_some}
 use Rattle.std.specs.Borrow.{Bor}
 use Rattle.std.specs.BTreeMap.{BTreeMap, get_by}
 use Rattle.std.specs.Cmp.Lexicographic.{slice_cmp}
 use Rattle.std.specs.Ordering.{nat_cmp}
 use Rattle.std.specs.Str.{bytes_eq}
 use Rattle.cet_asm.specs.Words.{either}
+use Rattle.cet_asm.specs.Line.{Line}
+use Rattle.cet_asm.specs.Layout.{after, spot_of}
+use Rattle.cet_asm.specs.Program.{Whole, Fault, fault_at, or_next, broken_at}
 use Rattle.cet_asm.specs.declared.sections.Here.{Here}
 use Rattle.cet_asm.specs.declared.sections.Spot.{Spot}
 
@@ -33,3 +36,31 @@ has_one places spot (name ∷ names) = is_some (places name) || has_one (with_la
 -- neither section is longer than a program may be
 abbrev pub IsWithin : Here → Type 0
 IsWithin h = (h.text ≤ 4190208) × (h.static_data ≤ 4190208)
+
+-- the places of labels, those of these lines after those that are there
+abbrev pub places_from : (List ℕ → Option Spot) → Here → List Line → List ℕ → Option Spot
+places_from places h [] = places
+places_from places h (l ∷ ls) = places_from (with_labels places (spot_of h) l.labels) (after h l.statement) ls
+
+-- the first of these lines, which begin by this number, with a label that has a place before it
+abbrev pub twice_from : ℕ → (List ℕ → Option Spot) → Here → List Line → Option ℕ
+twice_from number places h [] = None
+twice_from number places h (l ∷ ls) =
+    if has_one places (spot_of h) l.labels then Some number
+    else twice_from (number + 1) (with_labels places (spot_of h) l.labels) (after h l.statement) ls
+
+abbrev pub number_if : Bool → ℕ → Option ℕ
+number_if t number = if t then Some number else None
+
+abbrev pub no_places : List ℕ → Option Spot
+no_places name = None
+
+abbrev pub is_number : ℕ → Option ℕ → Bool
+is_number number None = false
+is_number number (Some n) = n == number
+
+-- the first faulty line of these, by the first line with a label that is defined before
+abbrev pub fault_by : Whole → Option ℕ → ℕ → Here → List Line → Option Fault
+fault_by w twice number h [] = None
+fault_by w twice number h (l ∷ ls) =
+    or_next (fault_at number (broken_at w (is_number number twice) h l.statement)) (fault_by w twice (number + 1) (after h l.statement) ls)

@@ -12,7 +12,8 @@ ghost use Rattle.cet_asm.specs.Places.{whole_view, IsSmall};
 
 use crate::filling::Found;
 use crate::layout::{TEXT_START, address_of};
-use crate::lines::{Uses, next_label};
+use crate::instructions::Uses;
+use crate::lines::next_label;
 use crate::lists::next_quad;
 use crate::places::Item;
 use crate::sections::Spot;

@@ -5,7 +5,7 @@ ghost use Rattle.cet_asm.specs.Layout.{round_up, grown, exceeds, after, spot_of,
 ghost use Rattle.cet_asm.specs.Views.{statement_view};
 ghost use Rattle.cet_asm.specs.Passes.{IsWithin};
 
-use crate::lines::Statement;
+use crate::statements::Statement;
 use crate::sections::{Here, Section, Spot};
 
 /// Where the text starts.

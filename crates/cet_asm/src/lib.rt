@@ -6,6 +6,7 @@ mod checks;
 mod classes;
 mod emission;
 mod filling;
+mod first_pass;
 mod instructions;
 mod labels;
 mod layout;
@@ -21,6 +22,7 @@ mod program;
 mod rules;
 mod sections;
 mod sizes;
+mod splitting;
 mod statements;
 mod tokens;
 

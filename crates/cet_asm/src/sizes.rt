@@ -11,7 +11,8 @@ ghost use Rattle.cet_asm.specs.Filling.{address_for, found_in, AreSmall};
 
 use crate::filling::{Found, filled};
 use crate::layout::TEXT_START;
-use crate::lines::{Statement, Uses};
+use crate::instructions::Uses;
+use crate::statements::Statement;
 use crate::lists::{next_byte, next_quad};
 use cet_encode::encode;
 use cet_isa::Instr;

@@ -1,0 +1,23 @@
+-- What the second pass answers. Source: own.
+use Rattle.std.specs.Prelude.{◌≡◌, ℕ, List, Option, Some, None, Result, Ok, Err, codes}
+use Rattle.cet_asm.specs.Line.{Line}
+use Rattle.cet_asm.specs.Layout.{start}
+use Rattle.cet_asm.specs.Program.{Whole, Fault, section_from, environment, mark_from}
+use Rattle.cet_asm.specs.Passes.{fault_by}
+use Rattle.cet_asm.specs.declared.program.Program.{Program}
+use Rattle.cet_asm.specs.declared.program.AsmFault.{AsmFault}
+use Rattle.cet_asm.specs.declared.program.AsmFault.TheVariants.{At, NoMemory}
+use Rattle.cet_asm.specs.declared.sections.Section.TheVariants as sections
+
+-- the program of these lines, where no line breaks a rule
+pub record IsOutput (w : Whole) (twice : Option ℕ) (lines : List Line) (program : Program) : Type 0 where
+  pub sound : fault_by w twice 1 start lines ≡ None
+  pub text : program.text ≡ section_from w sections.Text start lines
+  pub static_data : program.static_data ≡ section_from w sections.Data start lines
+  pub entry : program.entry ≡ environment w (codes "_start")
+  pub mark : program.mark ≡ mark_from 2 lines
+
+abbrev pub IsSecond : Whole → Option ℕ → List Line → Result Program AsmFault → Type 0
+IsSecond w twice lines (Ok program) = IsOutput w twice lines program
+IsSecond w twice lines (Err (At line rule)) = fault_by w twice 1 start lines ≡ Some (record { line = line; rule = rule })
+IsSecond w twice lines (Err NoMemory) = Unit {0}
