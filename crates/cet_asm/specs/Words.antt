@@ -1,5 +1,5 @@
 -- Names and numbers of the assembler. Source: own; register names are those of the Intel SDM (volume 1, chapter 3).
-use Rattle.std.specs.Prelude.{ℕ, ℤ, pos, negsuc, neg_ℤ, ◌^◌, Bool, false, not, ◌&&◌, ◌||◌, nat_lt, if◌then◌else◌, List, [], ◌∷◌, Option, Some, None, is_some, codes}
+use Rattle.std.specs.Prelude.{ℕ, ℤ, pos, negsuc, neg_ℤ, ◌^◌, Bool, false, not, ◌&&◌, ◌||◌, nat_lt, if◌then◌else◌, List, [], ◌∷◌, Option, Some, None, is_some, codes, ◌==◌}
 use Rattle.std.specs.List.{find, list_all}
 use Rattle.std.specs.Str.{bytes_eq}
 use Rattle.std.specs.Int.{w8, w32, w64, cast_signed, cast_unsigned}
@@ -61,9 +61,13 @@ abbrev pub signed : Bool → Option ℕ → Option ℤ
 signed minus None = None
 signed minus (Some n) = if minus then Some (neg_ℤ (pos n)) else Some (pos n)
 
--- a number begins by a digit
+-- a byte of ASCII, but for NUL and the carriage return
+abbrev pub is_plain : ℕ → Bool
+is_plain b = not ((b == 0) || (b == 13)) && nat_lt b 128
+
+-- a number begins by a digit; a word with other bytes than plain ones is none, and no ill-formed one either
 unfoldable pub number_place : Bool → List ℕ → Option Place
-number_place minus w = if begins_decimal w then Some (Number (signed minus (number_of w))) else None
+number_place minus w = if begins_decimal w && list_all is_plain w then Some (Number (signed minus (number_of w))) else None
 
 unfoldable pub word_place : List ℕ → Option Place
 word_place w = if begins_decimal w then number_place false w else if is_label w then Some (Label w) else None

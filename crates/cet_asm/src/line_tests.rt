@@ -18,7 +18,7 @@ fn broken(line: &[u8]) -> Option<Rule> {
 
 #[test]
 fn first_rule_of_a_line_by_itself(rt: HostRuntime) {
-    let rows: [(&[u8], Rule); 86] = [
+    let rows: [(&[u8], Rule); 89] = [
         (b"frob rax", Rule::Mnemonic),
         (b"jz a", Rule::Mnemonic),
         (b"sal rax, 1", Rule::Mnemonic),
@@ -42,6 +42,9 @@ fn first_rule_of_a_line_by_itself(rt: HostRuntime) {
         (b"add rax, ebx", Rule::Operand),
         (b"add [rax], rbx", Rule::Operand),
         (b"mov rax, - 5", Rule::Operand),
+        (b"mov edi, 7\r", Rule::Operand),
+        (b".byte 5\r", Rule::Operand),
+        (b"mov rax, [rbx+8\xc3\xa9]", Rule::Operand),
         (b"mov rax, 5x, 3", Rule::Operand),
         (b"mov rax, 5 5", Rule::Operand),
         (b"mov rax, -x", Rule::Operand),

@@ -1,7 +1,8 @@
 //! Numbers and labels, in operands and in lists.
 
 ghost use Rattle.std.specs.Prelude.{◌≡◌, ◌*◌, ◌^◌, ◌+◌, ◌<◌, ◌≤◌};
-ghost use Rattle.cet_asm.specs.Words.{signed, number_place, word_place, signed_dword, unsigned_dword, immediate_field, unsigned_field, byte_field, quad_field};
+ghost use Rattle.std.specs.List.{list_all};
+ghost use Rattle.cet_asm.specs.Words.{signed, is_plain, number_place, word_place, signed_dword, unsigned_dword, immediate_field, unsigned_field, byte_field, quad_field};
 ghost use Rattle.cet_asm.specs.Views.{disp_view};
 
 use crate::names::{begins_decimal, is_label};
@@ -33,12 +34,20 @@ fn signed(minus: bool, number: Option<u64>) -> Option<i128>
     }
 }
 
+/// Whether all bytes are of ASCII, and none is NUL or a carriage return.
+fn is_plain(word: &[u8]) -> bool
+    ensures { result ≡ list_all is_plain word.now }
+{
+    word.iter()
+        .all(|byte| *byte != 0 && *byte != b'\r' && *byte < 128)
+}
+
 /// A word that begins by a digit, as a number.
 #[tactic(auto, unfolding(crate::specs::Words::number_place))]
 pub(crate) fn number_place(minus: bool, word: &[u8]) -> Option<Place<'_>>
     ensures { disp_view result ≡ number_place minus word.now }
 {
-    if begins_decimal(word) {
+    if begins_decimal(word) && is_plain(word) {
         Some(Place::Number(signed(minus, read_u64(word))))
     } else {
         None
