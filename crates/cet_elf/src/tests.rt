@@ -105,7 +105,7 @@ const CHANGES: [(usize, &[u8], u8, u64); 30] = [
 ];
 
 #[test]
-fn refuses_the_first_broken_rule(rt: HostRuntime) -> Result<(), Fail> {
+fn damaged_images(rt: HostRuntime) -> Result<(), Fail> {
     let alloc = rt.alloc();
     for (at, bytes, rule, offset) in CHANGES {
         expect_refusal(&rt, alloc, &changed(alloc, at, bytes)?, rule, offset);

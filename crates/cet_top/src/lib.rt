@@ -1,6 +1,8 @@
 //! What the program `cetvm` does, over a source of bytes and a sink of bytes.
 #![tactic(auto)]
 
+#[cfg(test)]
+mod asm_tests;
 mod commands;
 mod ends;
 mod guests;

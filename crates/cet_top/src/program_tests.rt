@@ -10,7 +10,7 @@ use std::test::Fail;
 const ROOM: u32 = 400_000;
 
 /// The words of a command, parted by blanks.
-fn words(alloc: Global, text: &str) -> Result<Vec<String>, AllocError> {
+pub(crate) fn words(alloc: Global, text: &str) -> Result<Vec<String>, AllocError> {
     let mut words = Vec::new(alloc);
     for word in text.split_whitespace() {
         words.push(String::from_str(alloc, word)?)?;
@@ -91,7 +91,7 @@ fn reports(
 }
 
 #[test]
-fn exit_seven_is_reported(rt: HostRuntime) -> Result<(), Fail> {
+fn exit_seven(rt: HostRuntime) -> Result<(), Fail> {
     let bytes = file(rt.alloc(), &EXIT_SEVEN_TEXT)?;
     reports(&rt, rt.alloc(), &bytes, Status::Done, EXIT_SEVEN)
 }
@@ -235,7 +235,7 @@ fn is_usage(rt: &impl Abort, alloc: Global, text: &str, number: u32) -> Result<(
 }
 
 #[test]
-fn words_that_are_no_command_are_usage(rt: HostRuntime) -> Result<(), Fail> {
+fn faulty_words(rt: HostRuntime) -> Result<(), Fail> {
     is_usage(&rt, rt.alloc(), "", 1)?;
     is_usage(&rt, rt.alloc(), "walk", 1)?;
     is_usage(&rt, rt.alloc(), "run x", 2)?;
