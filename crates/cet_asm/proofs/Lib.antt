@@ -7,3 +7,4 @@ pub mod LineLaws
 pub mod SizeLaws
 pub mod ZeroLaws
 pub mod PartLaws
+pub mod PassLaws
