@@ -11,3 +11,6 @@ pub long_exceeds : (h : Here) (n : ℕ) → 4190208 < n → exceeds (grown h n) 
 long_exceeds h n l = grind (arith, round_up_least)
 
 pub ruleset layout_laws = (long_exceeds)
+
+pub within_size : (h : Here) (n : ℕ) → exceeds (grown h n) ≡ false → n ≤ 4190208
+within_size h n e = grind (arith, long_exceeds h n)

@@ -8,3 +8,4 @@ pub mod SizeLaws
 pub mod ZeroLaws
 pub mod PartLaws
 pub mod PassLaws
+pub mod CheckLaws
