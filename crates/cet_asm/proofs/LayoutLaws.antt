@@ -4,7 +4,7 @@ use Rattle.cet_asm.specs.Layout.{round_up, grown, exceeds}
 use Rattle.cet_asm.specs.declared.sections.Section.TheVariants as sections
 use Rattle.cet_asm.specs.declared.sections.Here.{Here}
 
-round_up_least : (n : ℕ) → n ≤ round_up n
+pub round_up_least : (n : ℕ) → n ≤ round_up n
 round_up_least n = omega arith
 
 pub long_exceeds : (h : Here) (n : ℕ) → 4190208 < n → exceeds (grown h n) ≡ true

@@ -9,3 +9,5 @@ pub mod ZeroLaws
 pub mod PartLaws
 pub mod PassLaws
 pub mod CheckLaws
+pub mod SmallLaws
+pub mod AnswerLaws

@@ -36,7 +36,7 @@ place_one spot name es q = go (bytes_eq name q)
     go true = refl
     go false = refl
 
-place_append : (es fs : List Entry) (q : List ℕ) → place_of (es ++ fs) q ≡ either (place_of es q) (place_of fs q)
+pub place_append : (es fs : List Entry) (q : List ℕ) → place_of (es ++ fs) q ≡ either (place_of es q) (place_of fs q)
 place_append [] fs q = refl
 place_append (e ∷ es) fs q = go (bytes_eq e.name q) (place_append es fs q)
   where
