@@ -4,10 +4,13 @@ use Rattle.cet_asm.specs.Layout.{round_up, grown, exceeds}
 use Rattle.cet_asm.specs.declared.sections.Section.TheVariants as sections
 use Rattle.cet_asm.specs.declared.sections.Here.{Here}
 
-round_up_least : (n : ℕ) → n ≤ round_up n
+pub round_up_least : (n : ℕ) → n ≤ round_up n
 round_up_least n = omega arith
 
 pub long_exceeds : (h : Here) (n : ℕ) → 4190208 < n → exceeds (grown h n) ≡ true
 long_exceeds h n l = grind (arith, round_up_least)
 
 pub ruleset layout_laws = (long_exceeds)
+
+pub within_size : (h : Here) (n : ℕ) → exceeds (grown h n) ≡ false → n ≤ 4190208
+within_size h n e = grind (arith, long_exceeds h n)

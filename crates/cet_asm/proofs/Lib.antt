@@ -7,3 +7,7 @@ pub mod LineLaws
 pub mod SizeLaws
 pub mod ZeroLaws
 pub mod PartLaws
+pub mod PassLaws
+pub mod CheckLaws
+pub mod SmallLaws
+pub mod AnswerLaws

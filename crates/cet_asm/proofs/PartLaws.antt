@@ -1,10 +1,12 @@
 -- The first line of a text.
-use Rattle.std.proofs.Common.{◌≡◌, ℕ, zero, suc, ◌+◌, ◌-◌, ◌<◌, ◌≤◌, Bool, true, false, not, nat_lt, cond, ◌==◌, List, [], ◌∷◌, ◌++◌, take, drop, length, Option, Some, None, refl, ap, sym, ◌∙◌, subst, arith}
+use Rattle.std.proofs.Common.{◌≡◌, ℕ, zero, suc, ◌+◌, ◌-◌, ◌<◌, ◌≤◌, ◌^◌, Bool, true, false, not, nat_lt, cond, ◌==◌, List, [], ◌∷◌, ◌++◌, take, drop, length, Option, Some, None, refl, ap, sym, ◌∙◌, subst, arith}
 use Rattle.std.proofs.Math.Seq.{take-length}
 use Rattle.std.proofs.lemmas.List.{length-drop}
 use Rattle.std.proofs.lemmas.List.Sums.{count_by-le-length}
 use Rattle.std.proofs.lemmas.List.Splits.{slice_split_first, length-slice_split}
+use Rattle.std.specs.Borrow.{Bor}
 use Rattle.std.specs.List.{slice_split, position, position_or_len, onto_first}
+use Rattle.cet_asm.specs.Parts.{parts_left}
 
 -- the text from a place to the end
 rest_of : (at : ℕ) (xs : List ℕ) → take (length xs - at) (drop at xs) ≡ drop at xs
@@ -47,3 +49,10 @@ pub lines_fit : (xs : List ℕ) → length (slice_split (λ b. b == 10) xs) ≤ 
 lines_fit xs = omega (arith, length-slice_split (λ b. b == 10) xs, count_by-le-length (λ b. b == 10) xs)
 
 pub ruleset part_laws = (split_found, split_none)
+
+-- the lines above another one are fewer than 2^32 - 1
+pub one_more_line : (above : ℕ) (left : Option (Bor (List ℕ))) (text : Bor (List ℕ)) (rest : Option (Bor (List ℕ))) (source line : List ℕ)
+    → above + length (parts_left left) ≡ length (slice_split (λ b. b == 10) source) → left ≡ Some text
+    → slice_split (λ b. b == 10) text.now ≡ line ∷ parts_left rest → length source < 2 ^ 32 - 1 → above + 1 < 2 ^ 32
+one_more_line above left text rest source line count is first small =
+    omega (arith, lines_fit source, count, ap (λ o. length (parts_left o)) is, ap length first, small)

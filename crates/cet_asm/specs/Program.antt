@@ -206,14 +206,15 @@ abbrev pub section_from : Whole → Section → Here → List Line → List ℕ
 section_from w s h [] = []
 section_from w s h (l ∷ ls) = in_section s h.section (bytes_of w h l.statement) ++ section_from w s (after h l.statement) ls
 
--- the mark so far, after these lines
+-- the mark so far, after a line
+abbrev pub mark_after : ℕ → Statement → ℕ
+mark_after m (Mark n) = n
+mark_after m s = m
+
+-- after these lines
 abbrev pub mark_from : ℕ → List Line → ℕ
 mark_from m [] = m
-mark_from m (l ∷ ls) = mark_from (go l.statement) ls
-  where
-    go : Statement → ℕ
-    go (Mark n) = n
-    go s = m
+mark_from m (l ∷ ls) = mark_from (mark_after m l.statement) ls
 
 -- ---- the language
 

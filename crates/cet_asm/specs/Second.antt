@@ -1,12 +1,13 @@
 -- What the second pass answers. Source: own.
-use Rattle.std.specs.Prelude.{◌≡◌, ℕ, List, Option, Some, None, Result, Ok, Err, codes}
-use Rattle.cet_asm.specs.Line.{Line}
-use Rattle.cet_asm.specs.Layout.{start}
-use Rattle.cet_asm.specs.Program.{Whole, Fault, section_from, environment, mark_from}
-use Rattle.cet_asm.specs.Passes.{fault_by}
+use Rattle.std.specs.Prelude.{◌≡◌, ℕ, Bool, List, Option, Some, None, Result, Ok, Err, codes}
+use Rattle.cet_asm.specs.Line.{Line, Statement}
+use Rattle.cet_asm.specs.Layout.{start, after}
+use Rattle.cet_asm.specs.Program.{Whole, Fault, fault_at, broken_at, section_from, environment, mark_from}
+use Rattle.cet_asm.specs.Passes.{fault_by, IsWithin}
 use Rattle.cet_asm.specs.declared.program.Program.{Program}
 use Rattle.cet_asm.specs.declared.program.AsmFault.{AsmFault}
 use Rattle.cet_asm.specs.declared.program.AsmFault.TheVariants.{At, NoMemory}
+use Rattle.cet_asm.specs.declared.sections.Here.{Here}
 use Rattle.cet_asm.specs.declared.sections.Section.TheVariants as sections
 
 -- the program of these lines, where no line breaks a rule
@@ -21,3 +22,9 @@ abbrev pub IsSecond : Whole → Option ℕ → List Line → Result Program AsmF
 IsSecond w twice lines (Ok program) = IsOutput w twice lines program
 IsSecond w twice lines (Err (At line rule)) = fault_by w twice 1 start lines ≡ Some (record { line = line; rule = rule })
 IsSecond w twice lines (Err NoMemory) = Unit {0}
+
+-- a line that breaks no rule, and where the next one stands; or the rule that it breaks
+abbrev pub IsLineAnswer : Whole → Bool → ℕ → Here → Statement → Result Here AsmFault → Type 0
+IsLineAnswer w twice number h s (Ok next) = (broken_at w twice h s ≡ None) × ((next ≡ after h s) × IsWithin next)
+IsLineAnswer w twice number h s (Err (At line rule)) = fault_at number (broken_at w twice h s) ≡ Some (record { line = line; rule = rule })
+IsLineAnswer w twice number h s (Err NoMemory) = Unit {0}

@@ -1,7 +1,25 @@
 //! Memory operands.
 
 ghost use Rattle.std.specs.Prelude.{◌≡◌, None};
-ghost use Rattle.cet_asm.specs.Operands.{nowhere, with_index, with_pointer, with_register, with_place, with_word, scale_of, with_scaled, starred, after, word_part, minus_part, part, taken_part, joined, more, memory};
+ghost use Rattle.cet_asm.specs.Operands.{
+  nowhere,
+  with_index,
+  with_pointer,
+  with_register,
+  with_place,
+  with_word,
+  scale_of,
+  with_scaled,
+  starred,
+  after,
+  word_part,
+  minus_part,
+  part,
+  taken_part,
+  joined,
+  more,
+  memory,
+};
 ghost use Rattle.cet_asm.specs.Tokens.{tokens, sign_first};
 ghost use Rattle.cet_asm.specs.Views.{address_view, disp_view, address_option_view, part_view, word_view};
 

@@ -2,9 +2,65 @@
 
 ghost use Rattle.std.specs.Prelude.{◌≡◌, ◌^◌};
 ghost use Rattle.cet_isa.specs.Spelled.{has_spelling, InstrFits};
-ghost use Rattle.cet_asm.specs.Instructions.{no_uses, number_field, value_field, place_field, disp_field, mem_of, memory_argument, register_argument, value_argument, argument, same_size, common_size, plain, with_argument, pair_instr, both, pair, wide_number, wide_built, wide_move, is_wide, any_move, zero_move, sign_move, shift_instr, small_number, with_fit, shift, two_operands, indirect_instr, qword_instr, register_instr, memory_instr, relative_instr, short_instr, with_uses, with_field, label_target, value_built, one_operand, alone, built};
+ghost use Rattle.cet_asm.specs.Instructions.{
+  no_uses,
+  number_field,
+  value_field,
+  place_field,
+  disp_field,
+  mem_of,
+  memory_argument,
+  register_argument,
+  value_argument,
+  argument,
+  same_size,
+  common_size,
+  plain,
+  with_argument,
+  pair_instr,
+  both,
+  pair,
+  wide_number,
+  wide_built,
+  wide_move,
+  is_wide,
+  any_move,
+  zero_move,
+  sign_move,
+  shift_instr,
+  small_number,
+  with_fit,
+  shift,
+  two_operands,
+  indirect_instr,
+  qword_instr,
+  register_instr,
+  memory_instr,
+  relative_instr,
+  short_instr,
+  with_uses,
+  with_field,
+  label_target,
+  value_built,
+  one_operand,
+  alone,
+  built,
+};
 ghost use Rattle.cet_asm.specs.Words.{either};
-ghost use Rattle.cet_asm.specs.Views.{name_view, place_view, disp_view, address_view, given_view, operands_view, uses_view, field_view, argument_view, argument_option_view, built_view, built_option_view};
+ghost use Rattle.cet_asm.specs.Views.{
+  name_view,
+  place_view,
+  disp_view,
+  address_view,
+  given_view,
+  operands_view,
+  uses_view,
+  field_view,
+  argument_view,
+  argument_option_view,
+  built_view,
+  built_option_view,
+};
 
 use crate::addresses::Address;
 use crate::mnemonics::Mnemonic;

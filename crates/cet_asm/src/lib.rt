@@ -2,6 +2,7 @@
 #![tactic(auto)]
 
 mod addresses;
+mod assembler;
 mod checks;
 mod classes;
 mod emission;
@@ -20,10 +21,12 @@ mod operands;
 mod places;
 mod program;
 mod rules;
+mod second_pass;
 mod sections;
 mod sizes;
 mod splitting;
 mod statements;
 mod tokens;
 
+pub use assembler::assemble;
 pub use program::{AsmFault, Program};

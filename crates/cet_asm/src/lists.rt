@@ -4,7 +4,16 @@ ghost use Rattle.std.specs.Prelude.{◌≡◌, length, ◌<◌};
 ghost use Rattle.cet_asm.specs.Line.{byte_of, quad_of, is_byte, is_quad, list_fits};
 ghost use Rattle.cet_asm.specs.Operands.{separated, negative_item, item_first};
 ghost use Rattle.cet_asm.specs.Tokens.{tokens};
-ghost use Rattle.cet_asm.specs.Views.{place_view, disp_view, item_option_view, list_item_view, fits_kind, IsFirstByte, IsFirstQuad, IsShorter};
+ghost use Rattle.cet_asm.specs.Views.{
+  place_view,
+  disp_view,
+  item_option_view,
+  list_item_view,
+  fits_kind,
+  IsFirstByte,
+  IsFirstQuad,
+  IsShorter,
+};
 
 use crate::places::{Item, Place, byte_field, number_place, quad_field, word_place};
 use crate::tokens::{Token, first_word, next};

@@ -4,7 +4,16 @@ ghost use Rattle.std.specs.Prelude.{◌≡◌, codes, map};
 ghost use Rattle.std.specs.List.{find};
 ghost use Rattle.std.specs.Str.{bytes_eq};
 ghost use Rattle.cet_asm.specs.Views.{named_view};
-ghost use Rattle.cet_asm.specs.Mnemonics.{mnemonic_in, plain_mnemonic, operation_of, condition_of, condition_after, mnemonic_of, locked_mnemonic, untracked_mnemonic};
+ghost use Rattle.cet_asm.specs.Mnemonics.{
+  mnemonic_in,
+  plain_mnemonic,
+  operation_of,
+  condition_of,
+  condition_after,
+  mnemonic_of,
+  locked_mnemonic,
+  untracked_mnemonic,
+};
 
 use crate::names::is_word;
 use cet_isa::{AluOp, Cond, Instr};

@@ -5,7 +5,16 @@ ghost use Rattle.std.specs.List.{list_all};
 ghost use Rattle.std.specs.Str.{bytes_eq};
 ghost use Rattle.cet_asm.specs.Tokens.{is_name_byte};
 ghost use Rattle.cet_isa.specs.declared.instructions.Size.TheVariants.{Dword, Qword};
-ghost use Rattle.cet_asm.specs.Words.{register_in, register_of, is_counter, is_pointer, begins_decimal, is_reserved, is_word_of_name, is_label};
+ghost use Rattle.cet_asm.specs.Words.{
+  register_in,
+  register_of,
+  is_counter,
+  is_pointer,
+  begins_decimal,
+  is_reserved,
+  is_word_of_name,
+  is_label,
+};
 
 use crate::classes::{Class, in_class, is_decimal};
 use cet_isa::{Reg, Size};

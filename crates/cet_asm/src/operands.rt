@@ -1,7 +1,22 @@
 //! The operands of a line.
 
 ghost use Rattle.std.specs.Prelude.{◌≡◌};
-ghost use Rattle.cet_asm.specs.Operands.{value_given, word_given, sized_given, relative_given, second_given, minus_given, minus_worded, worded, negative_given, given, ended, second, after_first, operands};
+ghost use Rattle.cet_asm.specs.Operands.{
+  value_given,
+  word_given,
+  sized_given,
+  relative_given,
+  second_given,
+  minus_given,
+  minus_worded,
+  worded,
+  negative_given,
+  given,
+  ended,
+  second,
+  after_first,
+  operands,
+};
 ghost use Rattle.cet_asm.specs.Tokens.{tokens};
 ghost use Rattle.cet_asm.specs.Views.{disp_view, given_view, given_option_view, operand_view, operands_option_view};
 

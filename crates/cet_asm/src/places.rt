@@ -2,7 +2,18 @@
 
 ghost use Rattle.std.specs.Prelude.{◌≡◌, ◌*◌, ◌^◌, ◌+◌, ◌<◌, ◌≤◌};
 ghost use Rattle.std.specs.List.{list_all};
-ghost use Rattle.cet_asm.specs.Words.{signed, is_plain, number_place, word_place, signed_dword, unsigned_dword, immediate_field, unsigned_field, byte_field, quad_field};
+ghost use Rattle.cet_asm.specs.Words.{
+  signed,
+  is_plain,
+  number_place,
+  word_place,
+  signed_dword,
+  unsigned_dword,
+  immediate_field,
+  unsigned_field,
+  byte_field,
+  quad_field,
+};
 ghost use Rattle.cet_asm.specs.Views.{disp_view};
 
 use crate::names::{begins_decimal, is_label};

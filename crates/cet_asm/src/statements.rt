@@ -2,7 +2,21 @@
 
 ghost use Rattle.std.specs.Prelude.{◌≡◌};
 ghost use Rattle.cet_isa.specs.Spelled.{has_spelling, InstrFits};
-ghost use Rattle.cet_asm.specs.Line.{judged, stated, instruction, section_stated, number_alone, mark_stated, zero_stated, bytes_stated, quads_stated, directive, prefixed, begun, statement_of};
+ghost use Rattle.cet_asm.specs.Line.{
+  judged,
+  stated,
+  instruction,
+  section_stated,
+  number_alone,
+  mark_stated,
+  zero_stated,
+  bytes_stated,
+  quads_stated,
+  directive,
+  prefixed,
+  begun,
+  statement_of,
+};
 ghost use Rattle.cet_asm.specs.Operands.{operands};
 ghost use Rattle.cet_asm.specs.Tokens.{tokens};
 ghost use Rattle.cet_asm.specs.Views.{built_view, built_option_view, statement_view, IsSpelledStatement};
