@@ -29,7 +29,7 @@ xword_here bytes at n small inside is =
     ap (λ o. unwrap_or o 0) (field_here w64 bytes (to_le_bytes w64 n) at inside is) ∙ from_le_bytes-to_le_bytes_8 n small
 
 -- a part of what stands behind other bytes
-behind : (front back : List ℕ) (at k n : ℕ) → length front + k ≡ at → slice_range (front ++ back) at (at + n) ≡ slice_range back k (k + n)
+pub behind : (front back : List ℕ) (at k n : ℕ) → length front + k ≡ at → slice_range (front ++ back) at (at + n) ≡ slice_range back k (k + n)
 behind front back at k n is =
     let size : at + n - at ≡ n = omega arith in
     let same : k + n - k ≡ n = omega arith in

@@ -5,5 +5,6 @@ pub mod NoteLemmas
 pub mod RuleLemmas
 pub mod WriterLemmas
 pub mod WrittenHeaders
+pub mod WrittenImage
 pub mod WrittenLoads
 pub mod WrittenRules

@@ -1,16 +1,18 @@
 -- The file of a program that fits the image range is accepted.
-use Rattle.std.proofs.Common.{◌≡◌, ℕ, ◌+◌, ◌-◌, ◌/◌, ◌<◌, ◌≤◌, ◌^◌, Bool, true, false, eqb, List, [], ◌++◌, length, Some, refl, ap, sym, ◌∙◌, subst, arith, length-append, append_assoc, lit<}
+use Rattle.std.proofs.Common.{◌≡◌, ℕ, ◌+◌, ◌-◌, ◌/◌, ◌<◌, ◌≤◌, ◌^◌, Bool, true, false, eqb, List, [], ◌∷◌, ◌++◌, length, Some, refl, ap, sym, ◌∙◌, subst, arith, length-append, append_assoc, lit<}
 use Rattle.std.proofs.lemmas.List.{length-replicate}
 use Rattle.std.specs.Prelude.{Result, IfOk}
 use Rattle.std.proofs.lemmas.Result.{IfOk-weaker}
 use Rattle.cet_words.specs.declared.lists.NoMemory.{NoMemory}
-use Rattle.cet_elf.specs.Headers.{header_at}
-use Rattle.cet_elf.specs.Notes.{has_stacks, note_feature}
+use Rattle.cet_elf.specs.Headers.{xword, headers, header_at}
+use Rattle.cet_elf.specs.Notes.{has_stacks, note_feature, features}
 use Rattle.cet_elf.specs.Accepts.{Accepts}
-use Rattle.cet_elf.specs.Written.{zeros, text_address, rounded, file_header, text_header, data_header, note_header, property_note, front, data_part, written_of, IsLoadable}
+use Rattle.cet_elf.specs.Written.{zeros, text_address, rounded, file_header, text_header, data_header, note_header, property_note, front, data_part, written_of, IsLoadable, LoadsAs, text_segment}
+use Rattle.cet_elf.specs.declared.headers.ProgramHeader.{ProgramHeader}
 use Rattle.cet_elf.proofs.FieldLemmas.{header_size}
 use Rattle.cet_elf.proofs.WrittenHeaders.{heads, file_size, note_size, text_read, data_read, note_read, text_behind, data_behind, note_behind, two_headers, three_headers, note_feature_read}
-use Rattle.cet_elf.proofs.WrittenRules.{one_accepted, two_accepted}
+use Rattle.cet_elf.proofs.WrittenRules.{one_accepted, two_accepted, one_features, two_features, features_read}
+use Rattle.cet_elf.proofs.WrittenImage.{seventh, ninth, image_read, one_segment, two_segments, program_none, program_some}
 
 text_size : (size : ℕ) → length (text_header size) ≡ 56
 unfolding text_header
@@ -24,8 +26,15 @@ note_header_size : length note_header ≡ 56
 unfolding note_header
 note_header_size = header_size 0x6474e553 4 232 0 32 8
 
+-- what is read of a file
+record Reads (count entry mark : ℕ) (hs : List ProgramHeader) (bytes : List ℕ) : Type 0 where
+  pub accepts : Accepts bytes
+  pub entered : xword bytes 24 ≡ entry
+  pub headers : headers bytes ≡ hs
+  pub features : features bytes ≡ mark
+
 -- without data: file header, text header, note header, 56 bytes, note, tail
-one_file : (entry s mark : ℕ) (pad tail : List ℕ) → length pad ≡ 56 → mark < 2 ^ 32 → 3832 + s ≤ length tail → text_address + s ≤ 0x800000 → text_address ≤ entry → entry < text_address + s → has_stacks mark ≡ true → Accepts (file_header entry 2 ++ (text_header s ++ (note_header ++ (pad ++ (property_note mark ++ tail)))))
+one_file : (entry s mark : ℕ) (pad tail : List ℕ) → length pad ≡ 56 → mark < 2 ^ 32 → 3832 + s ≤ length tail → text_address + s ≤ 0x800000 → text_address ≤ entry → entry < text_address + s → has_stacks mark ≡ true → Reads 2 entry mark (text_read s ∷ note_read 120 ∷ []) (file_header entry 2 ++ (text_header s ++ (note_header ++ (pad ++ (property_note mark ++ tail)))))
 one_file entry s mark pad tail size small room fits low high marked =
     let file = file_header entry 2 in
     let noted = property_note mark ++ tail in
@@ -49,10 +58,17 @@ one_file entry s mark pad tail size small room fits low high marked =
     = ap (λ l. note_feature l (note_read 120)) all_is ∙ note_feature_read all tail 120 mark long small in
     let total : 4096 + s ≤ length bytes
     = omega (arith, ap length all_is, length-append all noted, length-append (property_note mark) tail) in
-    one_accepted bytes s entry mark h (two_headers bytes (text_read s) (note_read 120) h.table h.number one two) note total fits low high marked
+    let hs = text_read s ∷ note_read 120 ∷ [] in
+    let table = two_headers bytes (text_read s) (note_read 120) h.table h.number one two in
+    record {
+      accepts = one_accepted bytes s entry mark h table note total fits low high marked;
+      entered = h.entered;
+      headers = table;
+      features = features_read bytes hs mark table (one_features bytes s 120 mark note);
+    }
 
 -- with data: file header, text header, data header, note header, note, tail
-two_file : (entry s d mark : ℕ) (tail : List ℕ) → mark < 2 ^ 32 → 1 ≤ s → 3832 + rounded s + d ≤ length tail → text_address + rounded s + d ≤ 0x800000 → text_address ≤ entry → entry < text_address + s → has_stacks mark ≡ true → Accepts (file_header entry 3 ++ (text_header s ++ (data_header s d ++ (note_header ++ (property_note mark ++ tail)))))
+two_file : (entry s d mark : ℕ) (tail : List ℕ) → mark < 2 ^ 32 → 1 ≤ s → 3832 + rounded s + d ≤ length tail → text_address + rounded s + d ≤ 0x800000 → text_address ≤ entry → entry < text_address + s → has_stacks mark ≡ true → Reads 3 entry mark (text_read s ∷ data_read (rounded s) d ∷ note_read 176 ∷ []) (file_header entry 3 ++ (text_header s ++ (data_header s d ++ (note_header ++ (property_note mark ++ tail)))))
 two_file entry s d mark tail small some room fits low high marked =
     let file = file_header entry 3 in
     let noted = property_note mark ++ tail in
@@ -82,9 +98,14 @@ two_file entry s d mark tail small some room fits low high marked =
     = ap (λ l. note_feature l (note_read 176)) all_is ∙ note_feature_read all tail 176 mark long small in
     let total : 4096 + rounded s + d ≤ length bytes
     = omega (arith, ap length all_is, length-append all noted, length-append (property_note mark) tail) in
-    two_accepted bytes s (rounded s) d ((s + 4095) / 4096) entry mark h
-    (three_headers bytes (text_read s) (data_read (rounded s) d) (note_read 176) h.table h.number one two three)
-    note refl some up total fits low high marked
+    let hs = text_read s ∷ data_read (rounded s) d ∷ note_read 176 ∷ [] in
+    let table = three_headers bytes (text_read s) (data_read (rounded s) d) (note_read 176) h.table h.number one two three in
+    record {
+      accepts = two_accepted bytes s (rounded s) d ((s + 4095) / 4096) entry mark h table note refl some up total fits low high marked;
+      entered = h.entered;
+      headers = table;
+      features = features_read bytes hs mark table (two_features bytes s (rounded s) d 176 mark note);
+    }
 
 front_none : (s d entry : ℕ) → eqb d 0 ≡ true → front s d entry ≡ file_header entry 2 ++ text_header s ++ note_header ++ zeros 56
 unfolding front
@@ -122,36 +143,68 @@ written_some text static_data entry mark e =
     ∙ regrouped (file_header entry 3) (text_header s) (data_header s d) note_header (property_note mark) (zeros 3832) text (zeros (rounded s - s) ++ static_data)
 
 -- by whether there is data
-by_data : (text static_data : List ℕ) (entry mark : ℕ) (b : Bool) → eqb (length static_data) 0 ≡ b → mark < 2 ^ 32 → has_stacks mark ≡ true → IsLoadable text static_data entry mark → Accepts (written_of text static_data entry mark)
-by_data text static_data entry mark true e small marked h =
+loaded_none : (text static_data : List ℕ) (entry mark : ℕ) → eqb (length static_data) 0 ≡ true → mark < 2 ^ 32 → IsLoadable text static_data entry mark → LoadsAs text static_data entry mark (file_header entry 2 ++ (text_header (length text) ++ (note_header ++ (zeros 56 ++ (property_note mark ++ (zeros 3832 ++ (text ++ [])))))))
+loaded_none text static_data entry mark e small h =
     let s = length text in
     let tail = zeros 3832 ++ (text ++ []) in
+    let bytes = file_header entry 2 ++ (text_header s ++ (note_header ++ (zeros 56 ++ (property_note mark ++ tail)))) in
     let up : s ≤ rounded s = omega arith in
     let low = h.low in
     let high = h.high in
     let fits = h.fits in
-    subst (λ (l : List ℕ). Accepts l) (sym (written_none text static_data entry mark e))
-    (one_file entry s mark (zeros 56) tail (length-replicate {A = ℕ} 56 0) small
-    (omega (arith, length-append (zeros 3832) (text ++ []), length-append text [], length-replicate {A = ℕ} 3832 0)) (omega arith) low high marked)
-by_data text static_data entry mark false e small marked h =
+    let hs = text_read s ∷ note_read 120 ∷ [] in
+    let pad : length (zeros 56) ≡ 56 = length-replicate {A = ℕ} 56 0 in
+    let gap : length (zeros 3832) ≡ 3832 = length-replicate {A = ℕ} 3832 0 in
+    let reads = one_file entry s mark (zeros 56) tail pad small
+    (omega (arith, length-append (zeros 3832) (text ++ []), length-append text [])) (omega arith) low high h.marked in
+    let text_is = seventh (file_header entry 2) (text_header s) note_header (zeros 56) (property_note mark) (zeros 3832) text [] 4096
+    (omega (arith, file_size entry 2, text_size s, note_header_size, note_size mark)) in
+    record {
+      accepts = reads.accepts;
+      image = image_read bytes hs entry mark (text_segment text ∷ []) reads.entered reads.features reads.headers (one_segment bytes text 120 text_is)
+          ∙ program_none text static_data entry mark e;
+    }
+
+loaded_some : (text static_data : List ℕ) (entry mark : ℕ) → eqb (length static_data) 0 ≡ false → mark < 2 ^ 32 → IsLoadable text static_data entry mark → LoadsAs text static_data entry mark (file_header entry 3 ++ (text_header (length text) ++ (data_header (length text) (length static_data) ++ (note_header ++ (property_note mark ++ (zeros 3832 ++ (text ++ (zeros (rounded (length text) - length text) ++ static_data))))))))
+loaded_some text static_data entry mark e small h =
     let s = length text in
     let d = length static_data in
     let gap = zeros (rounded s - s) in
     let tail = zeros 3832 ++ (text ++ (gap ++ static_data)) in
+    let bytes = file_header entry 3 ++ (text_header s ++ (data_header s d ++ (note_header ++ (property_note mark ++ tail)))) in
     let up : s ≤ rounded s = omega arith in
     let low = h.low in
     let high = h.high in
     let fits = h.fits in
-    subst (λ (l : List ℕ). Accepts l) (sym (written_some text static_data entry mark e))
-    (two_file entry s d mark tail small h.some
-    (omega (arith, length-append (zeros 3832) (text ++ (gap ++ static_data)), length-append text (gap ++ static_data), length-append gap static_data, length-replicate {A = ℕ} 3832 0, length-replicate {A = ℕ} (rounded s - s) 0)) (omega arith) low high marked)
+    let hs = text_read s ∷ data_read (rounded s) d ∷ note_read 176 ∷ [] in
+    let pad : length (zeros 3832) ≡ 3832 = length-replicate {A = ℕ} 3832 0 in
+    let room : length gap ≡ rounded s - s = length-replicate {A = ℕ} (rounded s - s) 0 in
+    let a = file_size entry 3 in
+    let b = text_size s in
+    let c = data_size s d in
+    let f = note_size mark in
+    let reads = two_file entry s d mark tail small h.some
+    (omega (arith, length-append (zeros 3832) (text ++ (gap ++ static_data)), length-append text (gap ++ static_data), length-append gap static_data)) (omega arith) low high h.marked in
+    let text_is = seventh (file_header entry 3) (text_header s) (data_header s d) note_header (property_note mark) (zeros 3832) text (gap ++ static_data) 4096
+    (omega (arith, note_header_size)) in
+    let data_is = ninth (file_header entry 3) (text_header s) (data_header s d) note_header (property_note mark) (zeros 3832) text gap static_data (4096 + rounded s)
+    (omega (arith, note_header_size)) in
+    record {
+      accepts = reads.accepts;
+      image = image_read bytes hs entry mark _ reads.entered reads.features reads.headers (two_segments bytes text static_data (rounded s) 176 text_is data_is)
+          ∙ program_some text static_data entry mark e;
+    }
 
-pub accepted : (text static_data : List ℕ) (entry mark : ℕ) → mark < 2 ^ 32 → IsLoadable text static_data entry mark → Accepts (written_of text static_data entry mark)
-accepted text static_data entry mark small h = by_data text static_data entry mark (eqb (length static_data) 0) refl small h.marked h
+by_data : (text static_data : List ℕ) (entry mark : ℕ) (b : Bool) → eqb (length static_data) 0 ≡ b → mark < 2 ^ 32 → IsLoadable text static_data entry mark → LoadsAs text static_data entry mark (written_of text static_data entry mark)
+by_data text static_data entry mark true e small h =
+    subst (λ (l : List ℕ). LoadsAs text static_data entry mark l) (sym (written_none text static_data entry mark e)) (loaded_none text static_data entry mark e small h)
+by_data text static_data entry mark false e small h =
+    subst (λ (l : List ℕ). LoadsAs text static_data entry mark l) (sym (written_some text static_data entry mark e)) (loaded_some text static_data entry mark e small h)
 
-pub all_accepted : (text static_data x y : List ℕ) (entry mark : ℕ) (r : Result (List ℕ) NoMemory) → x ≡ text → y ≡ static_data → IfOk r (λ bytes. bytes ≡ written_of x y entry mark) → mark < 2 ^ 32 → IsLoadable text static_data entry mark → IfOk r Accepts
-all_accepted text static_data x y entry mark r text_is data_is is small h =
+pub all_loaded : (text static_data x y : List ℕ) (entry mark : ℕ) (r : Result (List ℕ) NoMemory) → x ≡ text → y ≡ static_data → IfOk r (λ bytes. bytes ≡ written_of x y entry mark) → mark < 2 ^ 32 → IsLoadable text static_data entry mark → IfOk r (LoadsAs text static_data entry mark)
+all_loaded text static_data x y entry mark r text_is data_is is small h =
     let same : written_of x y entry mark ≡ written_of text static_data entry mark
     = ap (λ l. written_of l y entry mark) text_is ∙ ap (λ l. written_of text l entry mark) data_is in
-    IfOk-weaker r (λ bytes. bytes ≡ written_of x y entry mark) Accepts
-    (λ bytes e. subst (λ (l : List ℕ). Accepts l) (sym (e ∙ same)) (accepted text static_data entry mark small h)) is
+    let loads = by_data text static_data entry mark (eqb (length static_data) 0) refl small h in
+    IfOk-weaker r (λ bytes. bytes ≡ written_of x y entry mark) (LoadsAs text static_data entry mark)
+    (λ bytes e. subst (λ (l : List ℕ). LoadsAs text static_data entry mark l) (sym (e ∙ same)) loads) is

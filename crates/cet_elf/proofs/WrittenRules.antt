@@ -159,7 +159,7 @@ two_later bytes s r d q place entry mark enter multiple some behind inside fits 
     )
 
 -- the feature bits of the note
-features_read : (bytes : List ℕ) (hs : List ProgramHeader) (mark : ℕ) → headers bytes ≡ hs → features_of bytes hs ≡ mark → features bytes ≡ mark
+pub features_read : (bytes : List ℕ) (hs : List ProgramHeader) (mark : ℕ) → headers bytes ≡ hs → features_of bytes hs ≡ mark → features bytes ≡ mark
 features_read bytes hs mark table marked = ap (features_of bytes) table ∙ marked
 
 pub one_features : (bytes : List ℕ) (s place mark : ℕ) → note_feature bytes (note_read place) ≡ Some mark → features_of bytes (text_read s ∷ note_read place ∷ []) ≡ mark

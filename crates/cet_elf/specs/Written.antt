@@ -1,9 +1,12 @@
 -- The file of a program: a file header, the program headers, a property note, and at multiples of 4096 the text and the
 -- data. Source: System V ABI, ELF-64 object files; for the property note the x86-64 supplement. The choice of fields and
 -- places is own.
-use Rattle.std.specs.Prelude.{ℕ, ◌+◌, ◌≤◌, ◌<◌, IsTrue, ◌-◌, ◌*◌, ◌/◌, ◌==◌, if◌then◌else◌, List, [], ◌∷◌, ◌++◌, length, replicate}
+use Rattle.std.specs.Prelude.{ℕ, ◌≡◌, true, false, ◌+◌, ◌≤◌, ◌<◌, IsTrue, ◌-◌, ◌*◌, ◌/◌, ◌==◌, if◌then◌else◌, List, [], ◌∷◌, ◌++◌, length, replicate}
 use Rattle.std.specs.Int.{w16, w32, w64, to_le_bytes}
-use Rattle.cet_elf.specs.Notes.{has_stacks}
+use Rattle.cet_words.specs.Job.{ImageData}
+use Rattle.cet_words.specs.declared.images.Segment.{Segment}
+use Rattle.cet_elf.specs.Accepts.{Accepts, image_of}
+use Rattle.cet_elf.specs.Notes.{has_stacks, has_tracking}
 use Rattle.cet_elf.specs.declared.program.Program.{Program}
 use Rattle.cet_elf.specs.declared.written.Field.{Field}
 use Rattle.cet_elf.specs.declared.written.Field.TheVariants.{Byte, Half, Word, Xword}
@@ -87,3 +90,32 @@ pub record IsLoadable (text static_data : List ℕ) (entry mark : ℕ) : Type 0 
   pub high : entry < text_address + length text
   pub marked : IsTrue (has_stacks mark)
   pub fits : rounded (length text) + length static_data ≤ 4190208
+
+-- the segments of data of this size behind a text of that size: one, or none for no data
+abbrev pub data_segments : ℕ → List ℕ → List Segment
+data_segments text static_data =
+    if length static_data == 0 then []
+    else record {
+      start = text_address + rounded text;
+      bytes = static_data;
+      size = length static_data;
+      write = true;
+      exec = false;
+    } ∷ []
+
+abbrev pub text_segment : List ℕ → Segment
+text_segment text = record { start = text_address; bytes = text; size = length text; write = false; exec = true }
+
+-- the image of a program: its text, executable, and its data, writable
+unfoldable pub program_image : List ℕ → List ℕ → ℕ → ℕ → ImageData
+program_image text static_data entry mark = record {
+  entry = entry;
+  marked = has_stacks mark;
+  tracked = has_tracking mark;
+  segments = text_segment text ∷ data_segments (length text) static_data;
+}
+
+-- the file is accepted, and its image is the program's
+pub record LoadsAs (text static_data : List ℕ) (entry mark : ℕ) (bytes : List ℕ) : Type 0 where
+  pub accepts : Accepts bytes
+  pub image : image_of bytes ≡ program_image text static_data entry mark

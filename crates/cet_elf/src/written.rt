@@ -1,7 +1,6 @@
 ghost use Rattle.std.specs.Prelude.{◌≡◌, ◌++◌, ◌^◌, ◌<◌, OnOk, IfOk};
 ghost use Rattle.std.specs.List.{flat_map};
-ghost use Rattle.cet_elf.specs.Written.{field_bytes, zeros, rounded, file_header, program_header, property_note, text_header, data_header, note_header, front, data_part, written_of, written, IsLoadable};
-ghost use Rattle.cet_elf.specs.Accepts.{Accepts};
+ghost use Rattle.cet_elf.specs.Written.{field_bytes, zeros, rounded, file_header, program_header, property_note, text_header, data_header, note_header, front, data_part, written_of, written, IsLoadable, LoadsAs};
 
 use crate::program::Program;
 use cet_base::put_bytes;
@@ -275,8 +274,9 @@ fn write_parts(
 /// it has any, at the next multiple of 4096.
 pub fn write(alloc: Global, program: &Program) -> Result<Bytes, NoMemory>
     ensures bytes { IfOk result (λ bytes. bytes ≡ written program.now) }
-    ensures accepted { let p = program.now in
-        IsLoadable p.text p.static_data p.entry p.mark → IfOk result Accepts }
+    ensures loaded { let p = program.now in
+        IsLoadable p.text p.static_data p.entry p.mark
+        → IfOk result (LoadsAs p.text p.static_data p.entry p.mark) }
 {
     write_parts(
         alloc,
