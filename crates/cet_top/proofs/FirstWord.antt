@@ -62,7 +62,7 @@ abbrev first_letter : List (List ℕ) → ℕ
 first_letter [] = 0
 first_letter (word ∷ words) = slice_index word 0
 
-letter : Command → ℕ
+abbrev letter : Command → ℕ
 letter Run = 114
 letter Dis = 100
 letter Asm = 97

@@ -20,7 +20,10 @@ fn assembles(
 ) -> Result<(), Fail> {
     let mut src = SureSource::new(alloc, source)?;
     let mut sink = MemSink::new(alloc, ROOM, ROOM, &[])?;
-    assert_eq!(rt; plain(alloc, &words(alloc, "asm")?, &mut src, &mut sink), status);
+    assert_eq!(rt;
+        plain(alloc, &words(alloc, "asm")?, &mut src, &mut sink),
+        status
+    );
     if status == Status::Done {
         assert_eq!(rt; sink.bytes(), file(alloc, text)?.as_slice());
     } else {
