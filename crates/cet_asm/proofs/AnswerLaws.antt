@@ -27,6 +27,7 @@ exact source twice result e h = go result h
   where
     faults : fault_by (whole_of (lines_of source)) twice 1 start (lines_of source) ≡ fault_from (whole_of (lines_of source)) 1 [] start (lines_of source)
     faults = ap (λ o. fault_by (whole_of (lines_of source)) o 1 start (lines_of source)) e ∙ all_faults (whole_of (lines_of source)) (lines_of source)
+
     go : (r : Result Program AsmFault) → IsSecond (whole_of (lines_of source)) twice (lines_of source) r → IsAnswer source r
     go (Ok program) k = record { sound = sym faults ∙ k.sound; text = k.text; static_data = k.static_data; entry = k.entry; mark = k.mark }
     go (Err (At line rule)) k = sym faults ∙ k

@@ -32,6 +32,7 @@ one_more name m n spot absent h = fun_ext (λ q. btree_map_updates_str name m n 
     keeps : (o : Option Spot) → o ≡ either o None
     keeps None = refl
     keeps (Some x) = refl
+
     go : (q : List ℕ) (t : Bool) → bytes_eq name q ≡ t → cond t (Some spot) (place_in m q) ≡ either (place_in m q) (only_at spot t)
     go q true e = let none = none_there (place_in m q) (ap (λ w. is_some (place_in m w)) (sym (same_bytes name q e)) ∙ absent) in rw none refl
     go q false e = keeps (place_in m q)

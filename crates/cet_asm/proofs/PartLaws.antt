@@ -18,6 +18,7 @@ split_found xs at e = go (nat_lt (position_or_len (λ b. b == 10) xs) (length xs
   where
     first : ℕ
     first = position_or_len (λ b. b == 10) xs
+
     go : (t : Bool) → nat_lt first (length xs) ≡ t → cond t (Some first) None ≡ Some at
         → slice_split (λ b. b == 10) xs ≡ take at xs ∷ slice_split (λ b. b == 10) (take (length xs - (at + 1)) (drop (at + 1) xs))
     go true l f =
@@ -34,6 +35,7 @@ split_none xs e = whole xs (go (nat_lt (position_or_len (λ b. b == 10) xs) (len
     go : (t : Bool) → nat_lt (position_or_len (λ b. b == 10) xs) (length xs) ≡ t → cond t (Some (position_or_len (λ b. b == 10) xs)) None ≡ None → length xs ≤ position_or_len (λ b. b == 10) xs
     go true l f = absurd cc
     go false l f = grind arith
+
     whole : (ys : List ℕ) → length ys ≤ position_or_len (λ b. b == 10) ys → slice_split (λ b. b == 10) ys ≡ ys ∷ []
     whole [] h = refl
     whole (y ∷ ys) h = step (y == 10) refl h (whole ys)

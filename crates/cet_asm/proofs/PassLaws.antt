@@ -16,9 +16,6 @@ use Rattle.cet_asm.specs.declared.rules.Rule.TheVariants as rules
 use Rattle.cet_asm.specs.declared.sections.Here.{Here}
 use Rattle.cet_asm.specs.declared.sections.Spot.{Spot}
 
-
-
-
 -- ---- places
 
 either_assoc : {A : Type 0} (x y z : Option A) → either (either x y) z ≡ either x (either y z)
@@ -103,7 +100,7 @@ agrees_all places spot [] above h = subst (Agrees places) (sym (append_nil above
     append_nil (x ∷ xs) = ap (λ ys. x ∷ ys) (append_nil xs)
 agrees_all places spot (name ∷ names) above h =
     subst (Agrees (with_labels (with_label places spot name) spot names)) (append_assoc above (name ∷ []) names)
-        (agrees_all (with_label places spot name) spot names (above ++ name ∷ []) (agrees_more places spot name above h))
+    (agrees_all (with_label places spot name) spot names (above ++ name ∷ []) (agrees_more places spot name above h))
 
 one_is_twice : (places : List ℕ → Option Spot) (spot : Spot) (names above : List (List ℕ)) → Agrees places above → has_one places spot names ≡ is_twice above names
 one_is_twice places spot [] above h = refl
@@ -147,10 +144,11 @@ pub faults_are : (w : Whole) (number : ℕ) (places : List ℕ → Option Spot) 
 faults_are w number places above h [] a = refl
 faults_are w number places above h (l ∷ ls) a =
     go (has_one places (spot_of h) l.labels) (one_is_twice places (spot_of h) l.labels above a)
-        (faults_are w (number + 1) (with_labels places (spot_of h) l.labels) (above ++ l.labels) (after h l.statement) ls (agrees_all places (spot_of h) l.labels above a))
+    (faults_are w (number + 1) (with_labels places (spot_of h) l.labels) (above ++ l.labels) (after h l.statement) ls (agrees_all places (spot_of h) l.labels above a))
   where
     next : Option ℕ
     next = twice_from (number + 1) (with_labels places (spot_of h) l.labels) (after h l.statement) ls
+
     go : (t : Bool) → t ≡ is_twice above l.labels
         → fault_by w next (number + 1) (after h l.statement) ls ≡ fault_from w (number + 1) (above ++ l.labels) (after h l.statement) ls
         → fault_by w (cond t (Some number) next) number h (l ∷ ls) ≡ fault_from w number above h (l ∷ ls)
@@ -160,7 +158,7 @@ faults_are w number places above h (l ∷ ls) a =
         ∙ ap (λ t. or_next (fault_at number (broken_at w t h l.statement)) (fault_from w (number + 1) (above ++ l.labels) (after h l.statement) ls)) e)
     go false e ih =
         ap (λ t. or_next (fault_at number (broken_at w t h l.statement)) (fault_by w next (number + 1) (after h l.statement) ls))
-            (not_now number next (later (number + 1) (number + 1) (with_labels places (spot_of h) l.labels) (after h l.statement) ls (omega arith)) ∙ e)
+        (not_now number next (later (number + 1) (number + 1) (with_labels places (spot_of h) l.labels) (after h l.statement) ls (omega arith)) ∙ e)
         ∙ ap (or_next (fault_at number (broken_at w (is_twice above l.labels) h l.statement))) ih
 
 pub all_faults : (w : Whole) (ls : List Line) → fault_by w (twice_from 1 no_places start ls) 1 start ls ≡ fault_from w 1 [] start ls

@@ -67,9 +67,9 @@ entries_low : (h : Here) (ls : List Line) (q : List ℕ) → IsWithin h → Low 
 entries_low h [] q k = tt
 entries_low h (l ∷ ls) q k =
     subst Low (sym (place_append (entries_of (spot_of h) l.labels) (entries_from (after h l.statement) ls) q))
-        (either_low (place_of (entries_of (spot_of h) l.labels) q) (place_of (entries_from (after h l.statement) ls) q)
-            (labels_low (spot_of h) l.labels q (spot_low h k))
-            (entries_low (after h l.statement) ls q (after_within h l.statement k)))
+    (either_low (place_of (entries_of (spot_of h) l.labels) q) (place_of (entries_from (after h l.statement) ls) q)
+    (labels_low (spot_of h) l.labels q (spot_low h k))
+    (entries_low (after h l.statement) ls q (after_within h l.statement k)))
 
 start_within : IsWithin start
 start_within = (omega arith, omega arith)

@@ -11,9 +11,9 @@ ghost use Rattle.cet_asm.specs.Places.{whole_view, IsSmall};
 use crate::filling::distance;
 use crate::labels::{Labels, environment, knows_items, knows_uses};
 use crate::layout::{address_of, is_too_long, spot_of};
-use crate::statements::Statement;
 use crate::rules::Rule;
 use crate::sections::Here;
+use crate::statements::Statement;
 
 #[tactic(auto, unfolding(crate::specs::Program::knows_all))]
 fn knows_all<'a>(labels: &Labels<'a>, statement: Statement<'a>) -> bool

@@ -15,14 +15,14 @@ ghost use Rattle.cet_asm.specs.Places.{whole_view, IsSmall};
 
 use crate::checks::short_distance;
 use crate::filling::filled;
+use crate::instructions::Uses;
 use crate::labels::{Labels, environment, found_in};
 use crate::layout::{address_of, spot_of};
-use crate::instructions::Uses;
-use crate::statements::Statement;
 use crate::lists::{next_byte, next_quad};
 use crate::places::Item;
 use crate::sections::Here;
 use crate::sizes::spell;
+use crate::statements::Statement;
 use cet_isa::Instr;
 use cet_words::{Bytes, NoMemory};
 use std::alloc::Global;
@@ -57,7 +57,12 @@ fn item_word<'a>(labels: &Labels<'a>, item: Item<'a>) -> u64
     }
 }
 
-fn put_quads<'a>(alloc: Global, out: &mut Bytes, labels: &Labels<'a>, text: &'a [u8]) -> Result<(), NoMemory>
+fn put_quads<'a>(
+    alloc: Global,
+    out: &mut Bytes,
+    labels: &Labels<'a>,
+    text: &'a [u8],
+) -> Result<(), NoMemory>
     requires { IsSmall (whole_view labels.now) }
     ensures { OnOk result (out.new ≡ out.old ++ flat_map (item_bytes (whole_view labels.now)) (quads_in (tokens text.now))) }
 {

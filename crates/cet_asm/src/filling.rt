@@ -56,24 +56,88 @@ fn with_memory(aim: Aim, instr: Instr) -> Instr
     ensures { result ≡ with_memory (placed_mem aim.next aim.address) instr }
 {
     match instr {
-        Instr::Alu { op, size, dst, src } => Instr::Alu { op, size, dst: placed_operand(aim, dst), src: placed_operand(aim, src) },
-        Instr::Test { size, src, dst } => Instr::Test { size, src, dst: placed_operand(aim, dst) },
-        Instr::Mov { size, dst, src } => Instr::Mov { size, dst: placed_operand(aim, dst), src: placed_operand(aim, src) },
-        Instr::MovSign32 { dst, src } => Instr::MovSign32 { dst, src: placed_operand(aim, src) },
-        Instr::Xchg { reg, dst } => Instr::Xchg { reg, dst: placed_operand(aim, dst) },
-        Instr::Imul { size, dst, src } => Instr::Imul { size, dst, src: placed_operand(aim, src) },
-        Instr::Cmov { cond, size, dst, src } => Instr::Cmov { cond, size, dst, src: placed_operand(aim, src) },
-        Instr::Push { src } => Instr::Push { src: placed_operand(aim, src) },
-        Instr::CallInd { notrack, target } => Instr::CallInd { notrack, target: placed_operand(aim, target) },
-        Instr::JmpInd { notrack, target } => Instr::JmpInd { notrack, target: placed_operand(aim, target) },
-        Instr::MovZero8 { dst, src } => Instr::MovZero8 { dst, src: placed_mem(aim, src) },
-        Instr::Lea { size, dst, src } => Instr::Lea { size, dst, src: placed_mem(aim, src) },
-        Instr::LockXadd { reg, mem } => Instr::LockXadd { reg, mem: placed_mem(aim, mem) },
-        Instr::LockCmpxchg { reg, mem } => Instr::LockCmpxchg { reg, mem: placed_mem(aim, mem) },
-        Instr::Rstorssp { mem } => Instr::Rstorssp { mem: placed_mem(aim, mem) },
-        Instr::Clrssbsy { mem } => Instr::Clrssbsy { mem: placed_mem(aim, mem) },
-        Instr::Wrssq { reg, mem } => Instr::Wrssq { reg, mem: placed_mem(aim, mem) },
-        Instr::Wrussq { reg, mem } => Instr::Wrussq { reg, mem: placed_mem(aim, mem) },
+        Instr::Alu { op, size, dst, src } => Instr::Alu {
+            op,
+            size,
+            dst: placed_operand(aim, dst),
+            src: placed_operand(aim, src),
+        },
+        Instr::Test { size, src, dst } => Instr::Test {
+            size,
+            src,
+            dst: placed_operand(aim, dst),
+        },
+        Instr::Mov { size, dst, src } => Instr::Mov {
+            size,
+            dst: placed_operand(aim, dst),
+            src: placed_operand(aim, src),
+        },
+        Instr::MovSign32 { dst, src } => Instr::MovSign32 {
+            dst,
+            src: placed_operand(aim, src),
+        },
+        Instr::Xchg { reg, dst } => Instr::Xchg {
+            reg,
+            dst: placed_operand(aim, dst),
+        },
+        Instr::Imul { size, dst, src } => Instr::Imul {
+            size,
+            dst,
+            src: placed_operand(aim, src),
+        },
+        Instr::Cmov {
+            cond,
+            size,
+            dst,
+            src,
+        } => Instr::Cmov {
+            cond,
+            size,
+            dst,
+            src: placed_operand(aim, src),
+        },
+        Instr::Push { src } => Instr::Push {
+            src: placed_operand(aim, src),
+        },
+        Instr::CallInd { notrack, target } => Instr::CallInd {
+            notrack,
+            target: placed_operand(aim, target),
+        },
+        Instr::JmpInd { notrack, target } => Instr::JmpInd {
+            notrack,
+            target: placed_operand(aim, target),
+        },
+        Instr::MovZero8 { dst, src } => Instr::MovZero8 {
+            dst,
+            src: placed_mem(aim, src),
+        },
+        Instr::Lea { size, dst, src } => Instr::Lea {
+            size,
+            dst,
+            src: placed_mem(aim, src),
+        },
+        Instr::LockXadd { reg, mem } => Instr::LockXadd {
+            reg,
+            mem: placed_mem(aim, mem),
+        },
+        Instr::LockCmpxchg { reg, mem } => Instr::LockCmpxchg {
+            reg,
+            mem: placed_mem(aim, mem),
+        },
+        Instr::Rstorssp { mem } => Instr::Rstorssp {
+            mem: placed_mem(aim, mem),
+        },
+        Instr::Clrssbsy { mem } => Instr::Clrssbsy {
+            mem: placed_mem(aim, mem),
+        },
+        Instr::Wrssq { reg, mem } => Instr::Wrssq {
+            reg,
+            mem: placed_mem(aim, mem),
+        },
+        Instr::Wrussq { reg, mem } => Instr::Wrussq {
+            reg,
+            mem: placed_mem(aim, mem),
+        },
         other => other,
     }
 }

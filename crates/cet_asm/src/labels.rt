@@ -11,8 +11,8 @@ ghost use Rattle.cet_asm.specs.Passes.{place_in, with_label, with_labels, has_on
 ghost use Rattle.cet_asm.specs.Places.{whole_view, IsSmall};
 
 use crate::filling::Found;
-use crate::layout::{TEXT_START, address_of};
 use crate::instructions::Uses;
+use crate::layout::{TEXT_START, address_of};
 use crate::lines::next_label;
 use crate::lists::next_quad;
 use crate::places::Item;
@@ -29,7 +29,11 @@ pub(crate) struct Labels<'a> {
 }
 
 /// Gives a label a place where it has none. The answer says whether it has one already.
-fn define<'a>(places: &mut BTreeMap<&'a [u8], Spot>, name: &'a [u8], spot: Spot) -> Result<bool, NoMemory>
+fn define<'a>(
+    places: &mut BTreeMap<&'a [u8], Spot>,
+    name: &'a [u8],
+    spot: Spot,
+) -> Result<bool, NoMemory>
     ensures known { IfOk result (λ known. known ≡ is_some (place_in places.old name.now)) }
     ensures places { OnOk result (place_in places.new ≡ with_label (place_in places.old) spot name.now) }
 {
@@ -41,7 +45,11 @@ fn define<'a>(places: &mut BTreeMap<&'a [u8], Spot>, name: &'a [u8], spot: Spot)
 }
 
 /// Gives the labels at the front of a line a place. The answer says whether one of them has one already.
-pub(crate) fn define_all<'a>(places: &mut BTreeMap<&'a [u8], Spot>, text: &'a [u8], spot: Spot) -> Result<bool, NoMemory>
+pub(crate) fn define_all<'a>(
+    places: &mut BTreeMap<&'a [u8], Spot>,
+    text: &'a [u8],
+    spot: Spot,
+) -> Result<bool, NoMemory>
     ensures known { IfOk result (λ known. known ≡ has_one (place_in places.old) spot (labels_of text.now)) }
     ensures places { OnOk result (place_in places.new ≡ with_labels (place_in places.old) spot (labels_of text.now)) }
 {
@@ -140,5 +148,8 @@ pub(crate) fn knows_uses<'a>(labels: &Labels<'a>, uses: Uses<'a>) -> bool
     requires { IsSmall (whole_view labels.now) }
     ensures { result ≡ knows_uses (whole_view labels.now) (uses_view uses.entry) }
 {
-    knows(labels, uses.displacement) && knows(labels, uses.immediate) && knows(labels, uses.target) && knows(labels, uses.short)
+    knows(labels, uses.displacement)
+        && knows(labels, uses.immediate)
+        && knows(labels, uses.target)
+        && knows(labels, uses.short)
 }

@@ -5,8 +5,8 @@ ghost use Rattle.cet_asm.specs.Layout.{round_up, grown, exceeds, after, spot_of,
 ghost use Rattle.cet_asm.specs.Views.{statement_view};
 ghost use Rattle.cet_asm.specs.Passes.{IsWithin};
 
-use crate::statements::Statement;
 use crate::sections::{Here, Section, Spot};
+use crate::statements::Statement;
 
 /// Where the text starts.
 pub(crate) const TEXT_START: u64 = 0x401000;

@@ -3,6 +3,8 @@
 
 mod addresses;
 mod assembler;
+#[cfg(test)]
+mod assembler_tests;
 mod checks;
 mod classes;
 mod emission;

@@ -124,7 +124,15 @@ pub(crate) fn second_pass<'a>(
         let (bytes, rest) = first_line(text);
         let line = read_line(bytes);
         let number = above + 1;
-        here = second_line(alloc, &mut out, labels, is_number(number, twice), number, here, line.statement)?;
+        here = second_line(
+            alloc,
+            &mut out,
+            labels,
+            is_number(number, twice),
+            number,
+            here,
+            line.statement,
+        )?;
         mark = mark_after(mark, line.statement);
         above = number;
         left = rest;

@@ -10,10 +10,10 @@ ghost use Rattle.cet_asm.specs.Views.{name_view, uses_view, statement_view, IsSp
 ghost use Rattle.cet_asm.specs.Filling.{address_for, found_in, AreSmall};
 
 use crate::filling::{Found, filled};
-use crate::layout::TEXT_START;
 use crate::instructions::Uses;
-use crate::statements::Statement;
+use crate::layout::TEXT_START;
 use crate::lists::{next_byte, next_quad};
+use crate::statements::Statement;
 use cet_encode::encode;
 use cet_isa::Instr;
 use cet_words::{Bytes, NoMemory};

@@ -7,4 +7,4 @@ pub returns : goal.returns
 returns c =
     c.on_target.ensures
     ∙ ap (on_address c.args.found.target (λ a. with_target (distance c.args.next a)))
-        (c.on_immediate.ensures ∙ ap (on_address c.args.found.immediate with_immediate) c.on_displacement-placed.ensures)
+    (c.on_immediate.ensures ∙ ap (on_address c.args.found.immediate with_immediate) c.on_displacement-placed.ensures)
