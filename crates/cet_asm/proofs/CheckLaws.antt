@@ -1,7 +1,7 @@
 -- A line that breaks no rule.
-use Rattle.std.proofs.Common.{◌≡◌, ℕ, ◌≤◌, ◌<◌, Bool, true, false, not, Option, Some, None, refl, ap, sym, ◌∙◌, ⊎_elim, arith}
+use Rattle.std.proofs.Common.{◌≡◌, ℕ, ◌≤◌, Bool, true, false, not, Option, Some, None, refl}
 use Rattle.cet_asm.specs.Line.{Statement}
-use Rattle.cet_asm.specs.Layout.{exceeds, grown, is_too_long, size_of, round_up}
+use Rattle.cet_asm.specs.Layout.{is_too_long, size_of}
 use Rattle.cet_asm.specs.Program.{Whole, broken_at, or_rule, rule_unless, own_fault, directive_fault, knows_all, is_in_reach}
 use Rattle.cet_asm.specs.declared.rules.Rule.{Rule}
 use Rattle.cet_asm.specs.declared.rules.Rule.TheVariants as rules

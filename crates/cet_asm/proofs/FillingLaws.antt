@@ -1,5 +1,5 @@
 -- An instruction has a spelling whatever the addresses of its labels are.
-use Rattle.std.proofs.Common.{◌≡◌, ℕ, ℤ, pos, Bool, true, false, List, Option, Some, None, refl, sym, ap, ◌∙◌}
+use Rattle.std.proofs.Common.{◌≡◌, ℕ, ℤ, List, Option, Some, None, refl, ◌∙◌}
 use Rattle.cet_isa.specs.declared.instructions.AluOp.{AluOp}
 use Rattle.cet_isa.specs.declared.instructions.Base.{Base}
 use Rattle.cet_isa.specs.declared.instructions.Base.TheVariants as bases
@@ -10,8 +10,7 @@ use Rattle.cet_isa.specs.declared.instructions.Operand.{Operand}
 use Rattle.cet_isa.specs.declared.instructions.Operand.TheVariants as operands
 use Rattle.cet_isa.specs.declared.instructions.Reg.{Reg}
 use Rattle.cet_isa.specs.declared.instructions.Size.{Size}
-use Rattle.cet_isa.specs.declared.instructions.Size.TheVariants as sizes
-use Rattle.cet_isa.specs.Spelled.{mem_ok, address_ok, place_ok, alu_ok, test_ok, mov_ok, push_ok, has_spelling}
+use Rattle.cet_isa.specs.Spelled.{mem_ok, place_ok, alu_ok, test_ok, mov_ok, push_ok, has_spelling}
 use Rattle.cet_asm.specs.Instructions.{Uses}
 use Rattle.cet_asm.specs.Layout.{operand_memory, operand_immediate, with_memory, with_immediate, with_target, placed_mem, distance, filled}
 use Rattle.cet_asm.specs.Filling.{on_address, filled_at, address_for, found_in}

@@ -1,5 +1,5 @@
 -- What the two passes keep is what the definitions say.
-use Rattle.std.proofs.Common.{◌≡◌, ℕ, suc, ◌+◌, ◌≤◌, ◌<◌, Bool, true, false, not, ◌||◌, ◌==◌, cond, List, [], ◌∷◌, ◌++◌, length, map, Option, Some, None, is_some, IfSome, refl, ap, sym, ◌∙◌, subst, arith}
+use Rattle.std.proofs.Common.{◌≡◌, ℕ, ◌+◌, ◌≤◌, Bool, true, false, not, ◌||◌, ◌==◌, cond, List, [], ◌∷◌, ◌++◌, Option, Some, None, is_some, IfSome, refl, ap, sym, ◌∙◌, subst, arith}
 use Rattle.std.proofs.Math.Path.{fun_ext}
 use Rattle.std.proofs.lemmas.List.{append_assoc}
 use Rattle.std.proofs.lemmas.Slice.Eq.{bytes_eq-Decides}
@@ -8,9 +8,9 @@ use Rattle.std.specs.List.{find, list_any}
 use Rattle.std.specs.Str.{bytes_eq}
 use Rattle.cet_asm.specs.Line.{Line, Statement}
 use Rattle.cet_asm.specs.Words.{either}
-use Rattle.cet_asm.specs.Layout.{after, spot_of, start, exceeds, grown, is_too_long, size_of, round_up}
-use Rattle.cet_asm.specs.Program.{Entry, entries_of, entries_from, end_from, spot_in, place_of, Whole, whole_of, is_twice, broken_at, Fault, fault_at, or_next, fault_from, or_rule, rule_unless, own_fault, directive_fault, knows_all, is_in_reach}
-use Rattle.cet_asm.specs.Passes.{only_at, with_label, with_labels, has_one, places_from, twice_from, number_if, no_places, is_number, fault_by, IsWithin}
+use Rattle.cet_asm.specs.Layout.{after, spot_of, start, is_too_long}
+use Rattle.cet_asm.specs.Program.{Entry, entries_of, entries_from, spot_in, place_of, Whole, is_twice, broken_at, Fault, fault_at, or_next, fault_from, or_rule, rule_unless, own_fault, directive_fault, knows_all, is_in_reach}
+use Rattle.cet_asm.specs.Passes.{only_at, with_label, with_labels, has_one, places_from, twice_from, no_places, is_number, fault_by}
 use Rattle.cet_asm.specs.declared.rules.Rule.{Rule}
 use Rattle.cet_asm.specs.declared.rules.Rule.TheVariants as rules
 use Rattle.cet_asm.specs.declared.sections.Here.{Here}

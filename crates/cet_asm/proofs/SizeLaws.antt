@@ -1,9 +1,9 @@
 -- A list has no more items than its text has bytes.
-use Rattle.std.proofs.Common.{◌≡◌, ℕ, ◌+◌, ◌≤◌, suc, Bool, true, false, cond, eqb, List, [], ◌∷◌, length, Option, Some, None, refl, sym, ap, ◌∙◌, arith}
+use Rattle.std.proofs.Common.{ℕ, ◌+◌, ◌≤◌, Bool, true, false, cond, eqb, List, [], ◌∷◌, length, Option, Some, None, arith}
 use Rattle.cet_asm.specs.Tokens.{Token, Word, Sign, Minus, ◌>>=◌, is_sign, is_blank, begins_word, sign_token, onto_word, tokens}
 use Rattle.cet_asm.specs.Words.{Place, word_place, number_place}
 use Rattle.cet_asm.specs.Operands.{before, items}
-use Rattle.cet_asm.specs.Line.{Item, byte_of, quad_of, bytes_in, quads_in}
+use Rattle.cet_asm.specs.Line.{byte_of, quad_of, bytes_in, quads_in}
 
 onto_length : (b : ℕ) (t : Bool) (ts : List Token) → length (onto_word b t ts) ≤ 1 + length ts
 onto_length b true (Word w ∷ ts) = omega arith

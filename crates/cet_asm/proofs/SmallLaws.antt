@@ -1,11 +1,11 @@
 -- All places of a text are within what a program may be.
-use Rattle.std.proofs.Common.{◌≡◌, ℕ, ◌+◌, ◌≤◌, Bool, true, false, not, cond, List, [], ◌∷◌, ◌++◌, Option, Some, None, IfSome, refl, ap, sym, ◌∙◌, subst, arith}
+use Rattle.std.proofs.Common.{◌≡◌, ℕ, ◌≤◌, Bool, true, false, cond, List, [], ◌∷◌, Option, Some, None, IfSome, refl, sym, subst, arith}
 use Rattle.std.specs.List.{find}
 use Rattle.std.specs.Str.{bytes_eq}
 use Rattle.cet_asm.specs.Line.{Line, Statement, Nothing, Broken, TextSection, DataSection, Mark, Zero, Values, Quads, Code}
 use Rattle.cet_asm.specs.Words.{either}
-use Rattle.cet_asm.specs.Layout.{after, spot_of, start, exceeds, grown, is_too_long, size_of, round_up}
-use Rattle.cet_asm.specs.Program.{Entry, entries_of, entries_from, end_from, spot_in, place_of, Whole, whole_of}
+use Rattle.cet_asm.specs.Layout.{after, spot_of, start, exceeds, grown, is_too_long, size_of}
+use Rattle.cet_asm.specs.Program.{entries_of, entries_from, end_from, spot_in, place_of, whole_of}
 use Rattle.cet_asm.specs.Passes.{IsWithin}
 use Rattle.cet_asm.specs.Places.{IsSmall}
 use Rattle.cet_asm.specs.declared.sections.Section.{Section}

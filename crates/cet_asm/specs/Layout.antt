@@ -1,6 +1,6 @@
 -- Where the bytes of a text stand, and how labels get into instructions. Source: own; relative displacements count from
 -- the next instruction (Intel SDM volume 2, chapter 2).
-use Rattle.std.specs.Prelude.{ℕ, ℤ, pos, ◌-ℤ◌, ◌+◌, ◌*◌, ◌/◌, Bool, true, false, not, nat_le, if◌then◌else◌, List, [], ◌∷◌, length, Option, Some, None}
+use Rattle.std.specs.Prelude.{ℕ, ℤ, pos, ◌-ℤ◌, ◌+◌, ◌*◌, ◌/◌, Bool, not, nat_le, if◌then◌else◌, List, length, Option, Some, None}
 use Rattle.cet_isa.specs.Canonical.{canonical_spelling}
 use Rattle.cet_isa.specs.declared.instructions.Base.{Base}
 use Rattle.cet_isa.specs.declared.instructions.Base.TheVariants as bases
@@ -10,7 +10,7 @@ use Rattle.cet_isa.specs.declared.instructions.Mem.{Mem}
 use Rattle.cet_isa.specs.declared.instructions.Operand.{Operand}
 use Rattle.cet_isa.specs.declared.instructions.Operand.TheVariants as operands
 use Rattle.cet_asm.specs.Instructions.{Uses}
-use Rattle.cet_asm.specs.Line.{Statement, Nothing, Broken, TextSection, DataSection, Mark, Zero, Values, Quads, Code}
+use Rattle.cet_asm.specs.Line.{Statement, TextSection, DataSection, Zero, Values, Quads, Code}
 use Rattle.cet_asm.specs.declared.sections.Section.{Section}
 use Rattle.cet_asm.specs.declared.sections.Section.TheVariants as sections
 use Rattle.cet_asm.specs.declared.sections.Here.{Here}

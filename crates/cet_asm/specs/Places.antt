@@ -1,5 +1,5 @@
 -- What the code's table of labels says of a text. Source: own.
-use Rattle.std.specs.Prelude.{ℕ, ◌≤◌, List, Option, IfSome}
+use Rattle.std.specs.Prelude.{ℕ, ◌≤◌, List, IfSome}
 use Rattle.cet_asm.specs.Program.{Whole}
 use Rattle.cet_asm.specs.Passes.{place_in}
 use Rattle.cet_asm.specs.declared.labels.Labels.{Labels}

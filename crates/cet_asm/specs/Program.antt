@@ -1,5 +1,5 @@
 -- What a text assembles to: its definitions, the rules that each line breaks, and its bytes. Source: own.
-use Rattle.std.specs.Prelude.{◌≡◌, ℕ, ℤ, pos, ◌+◌, ◌*◌, ◌-◌, Bool, true, false, not, ◌&&◌, ◌||◌, ◌==◌, if◌then◌else◌, List, [], ◌∷◌, ◌++◌, map, length, Option, Some, None, is_some, codes}
+use Rattle.std.specs.Prelude.{◌≡◌, ℕ, ℤ, ◌+◌, Bool, true, false, not, ◌&&◌, ◌||◌, ◌==◌, List, [], ◌∷◌, ◌++◌, map, Option, Some, None, is_some, codes}
 use Rattle.std.specs.List.{find, list_all, list_any, flat_map, slice_split}
 use Rattle.std.specs.List.{repeat}
 use Rattle.std.specs.Int.{w64, to_le_bytes}
@@ -9,8 +9,8 @@ use Rattle.cet_isa.specs.Code.{cond_number}
 use Rattle.cet_isa.specs.declared.instructions.Instr.{Instr}
 use Rattle.cet_isa.specs.declared.instructions.Instr.TheVariants as instrs
 use Rattle.cet_asm.specs.Instructions.{Uses}
-use Rattle.cet_asm.specs.Line.{Item, Known, Named, Statement, Nothing, Broken, TextSection, DataSection, Mark, Zero, Values, Quads, Code, Line, line_of}
-use Rattle.cet_asm.specs.Layout.{filled, text_start, size_of, grown, is_too_long, after, spot_of, start, address_of, distance}
+use Rattle.cet_asm.specs.Line.{Item, Known, Named, Statement, Broken, Mark, Zero, Values, Quads, Code, Line, line_of}
+use Rattle.cet_asm.specs.Layout.{filled, text_start, size_of, is_too_long, after, spot_of, start, address_of, distance}
 use Rattle.cet_asm.specs.declared.program.Program.{Program}
 use Rattle.cet_asm.specs.declared.rules.Rule.{Rule}
 use Rattle.cet_asm.specs.declared.rules.Rule.TheVariants as rules

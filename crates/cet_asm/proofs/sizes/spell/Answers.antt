@@ -1,4 +1,4 @@
-use Rattle.std.proofs.Common.{rules, ◌≡◌, true, subst, sym, ap, ◌∙◌}
+use Rattle.std.proofs.Common.{ap, ◌∙◌}
 use Rattle.cet_isa.specs.Canonical.{canonical_spelling}
 use Rattle.cet_isa.specs.CanonicalSpells.{canonical_spells}
 use Rattle.cet_isa.specs.Spelled.{has_spelling}
