@@ -3,11 +3,11 @@
 -- places is own.
 use Rattle.std.specs.Prelude.{ℕ, ◌≡◌, true, false, ◌+◌, ◌≤◌, ◌<◌, IsTrue, ◌-◌, ◌*◌, ◌/◌, ◌==◌, if◌then◌else◌, List, [], ◌∷◌, ◌++◌, length, replicate}
 use Rattle.std.specs.Int.{w16, w32, w64, to_le_bytes}
+use Rattle.cet_asm.specs.declared.program.Program.{Program}
 use Rattle.cet_words.specs.Job.{ImageData}
 use Rattle.cet_words.specs.declared.images.Segment.{Segment}
 use Rattle.cet_elf.specs.Accepts.{Accepts, image_of}
 use Rattle.cet_elf.specs.Notes.{has_stacks, has_tracking}
-use Rattle.cet_elf.specs.declared.program.Program.{Program}
 use Rattle.cet_elf.specs.declared.written.Field.{Field}
 use Rattle.cet_elf.specs.declared.written.Field.TheVariants.{Byte, Half, Word, Xword}
 

@@ -4,12 +4,10 @@
 mod headers;
 mod loads;
 mod notes;
-mod program;
 mod rules;
 #[cfg(test)]
 mod tests;
 mod written;
 
 pub use loads::{LoadFault, load};
-pub use program::Program;
 pub use written::write;

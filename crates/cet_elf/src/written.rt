@@ -2,7 +2,7 @@ ghost use Rattle.std.specs.Prelude.{◌≡◌, ◌++◌, ◌^◌, ◌<◌, OnOk,
 ghost use Rattle.std.specs.List.{flat_map};
 ghost use Rattle.cet_elf.specs.Written.{field_bytes, zeros, rounded, file_header, program_header, property_note, text_header, data_header, note_header, front, data_part, written_of, written, IsLoadable, LoadsAs};
 
-use crate::program::Program;
+use cet_asm::Program;
 use cet_base::put_bytes;
 use cet_words::{Bytes, NoMemory};
 use std::alloc::Global;

@@ -3,7 +3,7 @@ use Rattle.std.proofs.Common.{ℕ, zero, suc, ◌<◌, ◌≡◌, List, [], ◌�
 use Rattle.std.specs.Prelude.{slice_index}
 use Rattle.cet_top.specs.Words.{Means, IsCommand, Begins, FaultyWord}
 use Rattle.cet_top.specs.declared.words.Command.{Command}
-use Rattle.cet_top.specs.declared.words.Command.TheVariants.{Run, Dis, Asm}
+use Rattle.cet_top.specs.declared.words.Command.TheVariants.{Run, Dis, Asm, Check}
 
 begins_none : Begins IsCommand []
 begins_none = (codes "run" ∷ [], (Run, refl))
@@ -19,17 +19,20 @@ faulty_none = record { refused = refuse; before = before_one []; here = inr refl
     refuse (Run, is) = cc
     refuse (Dis, is) = cc
     refuse (Asm, is) = cc
+    refuse (Check, is) = cc
 
 -- what is a command is so by its first word
 first_alone : (word : List ℕ) (words : List (List ℕ)) (c : Command) → Means (word ∷ words) c → Means (word ∷ []) c
 first_alone word words Run is = let e : word ≡ codes "run" = cc in ap (λ (w : List ℕ). w ∷ []) e
 first_alone word words Dis is = let e : word ≡ codes "dis" = cc in ap (λ (w : List ℕ). w ∷ []) e
 first_alone word words Asm is = let e : word ≡ codes "asm" = cc in ap (λ (w : List ℕ). w ∷ []) e
+first_alone word words Check is = let e : word ≡ codes "check" = cc in ap (λ (w : List ℕ). w ∷ []) e
 
 one_word : (word next : List ℕ) (words : List (List ℕ)) (c : Command) → Means (word ∷ next ∷ words) c → ⊥
 one_word word next words Run is = cc
 one_word word next words Dis is = cc
 one_word word next words Asm is = cc
+one_word word next words Check is = cc
 
 pub faulty_first : (word : List ℕ) (words : List (List ℕ)) → ((c : Command) → ¬ Means (word ∷ []) c) → FaultyWord IsCommand (word ∷ words) 1
 faulty_first word words other = record { refused = refuse; before = before_one (word ∷ words); here = inl (omega arith, stop) }
@@ -66,11 +69,13 @@ abbrev letter : Command → ℕ
 letter Run = 114
 letter Dis = 100
 letter Asm = 97
+letter Check = 99
 
 means_letter : (words : List (List ℕ)) (c : Command) → Means words c → first_letter words ≡ letter c
 means_letter words Run m = ap first_letter m
 means_letter words Dis m = ap first_letter m
 means_letter words Asm m = ap first_letter m
+means_letter words Check m = ap first_letter m
 
 one_letter : (words : List (List ℕ)) (c d : Command) → Means words c → Means words d → letter c ≡ letter d
 one_letter words c d m n = sym (means_letter words c m) ∙ means_letter words d n
@@ -79,12 +84,19 @@ by_letter : (c d : Command) → letter c ≡ letter d → c ≡ d
 by_letter Run Run e = refl
 by_letter Run Dis e = absurd (omega (arith, e))
 by_letter Run Asm e = absurd (omega (arith, e))
+by_letter Run Check e = absurd (omega (arith, e))
 by_letter Dis Run e = absurd (omega (arith, e))
 by_letter Dis Dis e = refl
 by_letter Dis Asm e = absurd (omega (arith, e))
+by_letter Dis Check e = absurd (omega (arith, e))
 by_letter Asm Run e = absurd (omega (arith, e))
 by_letter Asm Dis e = absurd (omega (arith, e))
 by_letter Asm Asm e = refl
+by_letter Asm Check e = absurd (omega (arith, e))
+by_letter Check Run e = absurd (omega (arith, e))
+by_letter Check Dis e = absurd (omega (arith, e))
+by_letter Check Asm e = absurd (omega (arith, e))
+by_letter Check Check e = refl
 
 -- the words mean one command
 pub means_same : (words : List (List ℕ)) (c d : Command) → Means words c → Means words d → c ≡ d

@@ -1,13 +1,10 @@
 mod Appended
 mod FirstWord
 mod Listed
-mod Front
 mod Known
 mod InputReads
 mod Steps
 mod WordsFrom
-mod Marks
-mod Sequence
 mod QuietTraces
 mod Finished
 mod Serving

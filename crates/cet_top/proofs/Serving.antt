@@ -47,6 +47,10 @@ no_usage command.Asm bytes output n a = elim a [
   | inl r ↦ (let e = r.refused in cc)
   | inr r ↦ (let e = r.done in cc)
 ]
+no_usage command.Check bytes output n a = elim a [
+  | inl r ↦ (let e = r.refused in cc)
+  | inr r ↦ (let e = r.done in cc)
+]
 
 pub served_no_usage : (c : Command) (src src' : SourceState) (sink sink' : SinkState) (s : Status) (n : ℕ) → Serves c src src' sink sink' s → s ≡ status.Usage n → ⊥
 served_no_usage c src src' sink sink' s n h e =

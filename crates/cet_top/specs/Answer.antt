@@ -1,20 +1,20 @@
 -- What a command answers: its status and its output, by the words and the bytes of the source. Source: own.
-use Rattle.std.specs.Prelude.{◌≡◌, ℕ, ◌⊎◌, List, [], Some, slice_index, map}
+use Rattle.std.specs.Prelude.{◌≡◌, ℕ, ◌⊎◌, List, [], Some, slice_index, map, ◌∷◌, ◌++◌, codes}
 use Rattle.cet_words.specs.Job.{ImageData, JobData}
 use Rattle.cet_asm.specs.Program.{IsProgram, IsFirstFault}
 use Rattle.cet_asm.specs.declared.program.Program.{Program}
+use Rattle.cet_elf.specs.Accepts.{Accepts, FirstBroken, image_of}
+use Rattle.cet_elf.specs.Written.{written}
 use Rattle.cet_book.specs.Book.{Book, first_book}
 use Rattle.cet_cpu.specs.Gate.{exit_word}
 use Rattle.cet_cpu.specs.Machine.{Machine, Starts, run}
 use Rattle.cet_own.specs.Event.{book_of}
 use Rattle.cet_own.specs.Safe.{Safe}
-use Rattle.cet_top.specs.Accepts.{Accepts, image_of}
 use Rattle.cet_top.specs.Listing.{IsListing}
 use Rattle.cet_top.specs.Outcome.{thread_out, process_end}
 use Rattle.cet_top.specs.Report.{report_of}
 use Rattle.cet_top.specs.Schedule.{ByRobin}
 use Rattle.cet_top.specs.Shown.{shown_stacks}
-use Rattle.cet_top.specs.Written.{written}
 use Rattle.cet_top.specs.declared.outcomes.Outcome.{Outcome}
 use Rattle.cet_top.specs.declared.outcomes.ProcessEnd.{ProcessEnd}
 use Rattle.cet_top.specs.declared.outcomes.ProcessEnd.TheVariants as process
@@ -23,7 +23,7 @@ use Rattle.cet_top.specs.declared.outcomes.Style.TheVariants as style
 use Rattle.cet_top.specs.declared.status.Status.{Status}
 use Rattle.cet_top.specs.declared.status.Status.TheVariants as status
 use Rattle.cet_top.specs.declared.words.Command.{Command}
-use Rattle.cet_top.specs.declared.words.Command.TheVariants.{Run, Dis, Asm}
+use Rattle.cet_top.specs.declared.words.Command.TheVariants.{Run, Dis, Asm, Check}
 
 -- what a finished run comes to, with its last book
 abbrev pub outcome_of : Machine → Book → Outcome
@@ -64,10 +64,12 @@ pub record Reports (job : JobData) (Schedule : Machine → List ℕ → Type 0) 
   pub ends : s ≡ status_of outcome.process
   pub reports : output ≡ report_of outcome style
 
--- a file that isn't accepted is refused by rule 0, at its start
+-- a file that breaks a rule of the loader is refused by the first of them, at its place
 pub record Refuses (bytes : List ℕ) (s : Status) (output : List ℕ) : Type 0 where
-  pub broken : ¬ Accepts bytes
-  pub refused : s ≡ status.Refused 0 0
+  pub rule : ℕ
+  pub offset : ℕ
+  pub broken : FirstBroken bytes rule offset
+  pub refused : s ≡ status.Refused rule offset
   pub nothing : output ≡ []
 
 -- a file that is accepted runs by Robin
@@ -80,6 +82,12 @@ pub record Disassembles (bytes : List ℕ) (s : Status) (output : List ℕ) : Ty
   pub accepted : Accepts bytes
   pub done : s ≡ status.Done
   pub listed : IsListing (image_of bytes).segments output
+
+-- a file that is accepted is told so
+pub record Checks (bytes : List ℕ) (s : Status) (output : List ℕ) : Type 0 where
+  pub accepted : Accepts bytes
+  pub done : s ≡ status.Done
+  pub told : output ≡ codes "accepted" ++ 10 ∷ []
 
 -- a text that breaks a rule is refused at its first faulty line, by the first rule that this breaks
 pub record Faults (bytes : List ℕ) (s : Status) (output : List ℕ) : Type 0 where
@@ -94,9 +102,10 @@ pub record Assembles (bytes : List ℕ) (s : Status) (output : List ℕ) : Type 
   pub program : Program
   pub assembled : IsProgram bytes program
   pub done : s ≡ status.Done
-  pub file : output ≡ written program.text program.static_data program.entry program.mark
+  pub file : output ≡ written program
 
 abbrev pub Answers : Command → (bytes : List ℕ) → Status → (output : List ℕ) → Type 0
 Answers Run bytes s output = Refuses bytes s output ⊎ Runs bytes s output
 Answers Dis bytes s output = Refuses bytes s output ⊎ Disassembles bytes s output
 Answers Asm bytes s output = Faults bytes s output ⊎ Assembles bytes s output
+Answers Check bytes s output = Refuses bytes s output ⊎ Checks bytes s output

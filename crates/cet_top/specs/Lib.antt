@@ -7,12 +7,8 @@ pub mod Line
 pub mod Report
 pub mod Schedule
 pub mod Turns
-pub mod Field
-pub mod Written
 pub mod Outcome
 pub mod FirstStack
-pub mod Text
-pub mod Accepts
 pub mod Shown
 pub mod Listing
 pub mod Answer

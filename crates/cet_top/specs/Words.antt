@@ -1,13 +1,14 @@
 -- The lists of words that are commands, and the first faulty word of another list. Source: own.
 use Rattle.std.specs.Prelude.{ℕ, ◌+◌, ◌<◌, ◌≤◌, ◌≡◌, ◌⊎◌, List, [], ◌∷◌, ◌++◌, length, take, codes}
 use Rattle.cet_top.specs.declared.words.Command.{Command}
-use Rattle.cet_top.specs.declared.words.Command.TheVariants.{Run, Dis, Asm}
+use Rattle.cet_top.specs.declared.words.Command.TheVariants.{Run, Dis, Asm, Check}
 
 -- the words, each as its bytes, are this command
 abbrev pub Means : List (List ℕ) → Command → Type 0
 Means words Run = words ≡ codes "run" ∷ []
 Means words Dis = words ≡ codes "dis" ∷ []
 Means words Asm = words ≡ codes "asm" ∷ []
+Means words Check = words ≡ codes "check" ∷ []
 
 -- the words are some command
 abbrev pub IsCommand : List (List ℕ) → Type 0

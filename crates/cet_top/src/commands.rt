@@ -1,16 +1,15 @@
 //! What the commands do, between a source and a sink.
 
-ghost use Rattle.std.specs.Prelude.{◌≡◌, ◌≤◌, [], length, Ok, IfOk};
-ghost use Rattle.cet_top.specs.Answer.{Answers, Assembles, Disassembles, Faults, Reports, Runs, Refuses, job_of, job_with, status_of};
-ghost use Rattle.cet_top.specs.Accepts.{Accepts, image_of};
+ghost use Rattle.std.specs.Prelude.{◌≡◌, ◌≤◌, [], ◌∷◌, ◌++◌, codes, length, Ok, IfOk};
+ghost use Rattle.cet_top.specs.Answer.{Answers, Assembles, Checks, Disassembles, Faults, Reports, Runs, Refuses, job_of, job_with, status_of};
+ghost use Rattle.cet_elf.specs.Accepts.{Accepts, image_of};
+ghost use Rattle.cet_elf.specs.Written.{written};
 ghost use Rattle.cet_top.specs.Listing.{IsListing};
 ghost use Rattle.cet_top.specs.Schedule.{ByRobin};
 ghost use Rattle.cet_top.specs.Serves.{Serves, sink_state};
 ghost use Rattle.cet_top.specs.Stream.{source_state};
-ghost use Rattle.cet_top.specs.Written.{written};
 
 use crate::listing::listing;
-use crate::loads::{LoadFault, load_form};
 use crate::outcomes::{ProcessEnd, Style};
 use crate::reports::report;
 use crate::runs::run;
@@ -18,8 +17,8 @@ use crate::status::Status;
 use crate::streams::{Sink, Source};
 use crate::transfers::{Unread, read_all, write_all};
 use crate::words::Command;
-use crate::written::write;
 use cet_asm::{AsmFault, Program, assemble};
+use cet_elf::{LoadFault, load, write};
 use cet_words::{Bytes, Image, Job, NoMemory};
 use std::alloc::Global;
 
@@ -87,7 +86,7 @@ fn refused(alloc: Global, rule: u8, offset: u64) -> Answer
 fn run_bytes(alloc: Global, bytes: &[u8]) -> Result<Answer, NoMemory>
     ensures { IfOk result (λ answer. Answers Command.Run bytes.now answer.status answer.output) }
 {
-    match load_form(alloc, bytes) {
+    match load(alloc, bytes) {
         Ok(image) => run_image(alloc, &image),
         Err(LoadFault::Refused { rule, offset }) => Ok(refused(alloc, rule, offset)),
         Err(LoadFault::NoMemory) => Err(NoMemory),
@@ -109,8 +108,31 @@ fn list_image(alloc: Global, image: &Image) -> Result<Answer, NoMemory>
 fn list_bytes(alloc: Global, bytes: &[u8]) -> Result<Answer, NoMemory>
     ensures { IfOk result (λ answer. Answers Command.Dis bytes.now answer.status answer.output) }
 {
-    match load_form(alloc, bytes) {
+    match load(alloc, bytes) {
         Ok(image) => list_image(alloc, &image),
+        Err(LoadFault::Refused { rule, offset }) => Ok(refused(alloc, rule, offset)),
+        Err(LoadFault::NoMemory) => Err(NoMemory),
+    }
+}
+
+/// The answer to a file that is accepted, where that alone is asked.
+fn accepted(alloc: Global) -> Result<Answer, NoMemory>
+    ensures { IfOk result (λ answer. (answer.status ≡ Status.Done) × (answer.output ≡ codes "accepted" ++ 10 ∷ [])) }
+{
+    let mut output = Bytes::new(alloc);
+    output.extend(alloc, b"accepted\n")?;
+    Ok(Answer {
+        status: Status::Done,
+        output,
+    })
+}
+
+/// Tells whether the bytes are an image.
+fn check_bytes(alloc: Global, bytes: &[u8]) -> Result<Answer, NoMemory>
+    ensures { IfOk result (λ answer. Answers Command.Check bytes.now answer.status answer.output) }
+{
+    match load(alloc, bytes) {
+        Ok(_image) => accepted(alloc),
         Err(LoadFault::Refused { rule, offset }) => Ok(refused(alloc, rule, offset)),
         Err(LoadFault::NoMemory) => Err(NoMemory),
     }
@@ -118,12 +140,9 @@ fn list_bytes(alloc: Global, bytes: &[u8]) -> Result<Answer, NoMemory>
 
 /// The file of a program.
 fn program_file(alloc: Global, program: &Program) -> Result<Answer, NoMemory>
-    ensures { IfOk result (λ answer. (answer.status ≡ Status.Done)
-        × (answer.output ≡ written program.now.text program.now.static_data program.now.entry program.now.mark)) }
+    ensures { IfOk result (λ answer. (answer.status ≡ Status.Done) × (answer.output ≡ written program.now)) }
 {
-    let text = program.text.as_slice();
-    let static_data = program.static_data.as_slice();
-    let output = write(alloc, text, static_data, program.entry, program.mark)?;
+    let output = write(alloc, program)?;
     Ok(Answer {
         status: Status::Done,
         output,
@@ -161,6 +180,7 @@ fn answer_to(alloc: Global, command: Command, bytes: &[u8]) -> Result<Answer, No
         Command::Run => run_bytes(alloc, bytes),
         Command::Dis => list_bytes(alloc, bytes),
         Command::Asm => assemble_bytes(alloc, bytes),
+        Command::Check => check_bytes(alloc, bytes),
     }
 }
 

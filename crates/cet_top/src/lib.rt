@@ -10,7 +10,6 @@ mod lines;
 mod listing;
 #[cfg(test)]
 mod listing_tests;
-mod loads;
 mod memory_streams;
 mod outcomes;
 #[cfg(test)]
@@ -24,11 +23,9 @@ mod std_streams;
 mod streams;
 #[cfg(test)]
 mod tests;
-mod texts;
 mod transfers;
 mod turns;
 mod words;
-mod written;
 
 pub use memory_streams::{MemSink, SureSink, SureSource};
 pub use outcomes::{

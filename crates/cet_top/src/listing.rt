@@ -8,7 +8,6 @@ ghost use Rattle.cet_base.specs.Digits.{hex16};
 ghost use Rattle.cet_top.specs.Line.{line, spaced};
 ghost use Rattle.cet_top.specs.Listing.{hex2, Instruction, IsFirst, IsListing, Lists, ListsIf, Lone, Piece, piece_bytes, piece_line, piece_text, segment_code};
 
-use crate::written::put_zeros;
 use cet_base::{hex16, put_bytes};
 use cet_decode::{Decoded, decode};
 use cet_encode::text;
@@ -130,6 +129,14 @@ fn segment_code(alloc: Global, segment: &Segment) -> Result<Bytes, NoMemory>
     let zeros = segment.size as usize - segment.bytes.len();
     put_zeros(alloc, &mut code, zeros)?;
     Ok(code)
+}
+
+/// Appends so many zeros.
+fn put_zeros(alloc: Global, out: &mut Bytes, count: usize) -> Result<(), NoMemory>
+    ensures { OnOk result (out.new ≡ out.old ++ replicate count 0) }
+{
+    let zeros = vec![in alloc; 0; count]?;
+    put_bytes(alloc, out, &zeros)
 }
 
 /// Appends the lines of a segment, where it is executable.

@@ -126,14 +126,63 @@ fn kills_are_reported(rt: HostRuntime) -> Result<(), Fail> {
 }
 
 #[test]
-fn a_nop_and_no_byte_and_a_short_file_are_refused(rt: HostRuntime) -> Result<(), Fail> {
+fn broken_files_are_refused(rt: HostRuntime) -> Result<(), Fail> {
     let alloc = rt.alloc();
-    let refused = Status::Refused { rule: 0, offset: 0 };
-    reports(&rt, rt.alloc(), &file(alloc, &[0x90])?, refused, "")?;
-    reports(&rt, rt.alloc(), &[], refused, "")?;
+    let empty = Status::Refused { rule: 1, offset: 0 };
+    reports(&rt, rt.alloc(), &[], empty, "")?;
+    let cut = Status::Refused {
+        rule: 8,
+        offset: 64,
+    };
     let mut bytes = file(alloc, &EXIT_SEVEN_TEXT)?;
     bytes.pop();
-    reports(&rt, rt.alloc(), &bytes, refused, "")
+    reports(&rt, rt.alloc(), &bytes, cut, "")
+}
+
+const NOP: &str = "cetvm report 1
+thread 0 records 2 group
+0 #UD 0000000000401000 0 0000000000000000 0000000000000000
+0 kill 0000000000401000 0 0000000000000004 0000000000000000
+region 0000000200001000 0000000200009000 current 0
+process killed 4
+";
+
+/// An instruction that isn't built yet is `#UD`.
+#[test]
+fn other_instructions_are_undefined(rt: HostRuntime) -> Result<(), Fail> {
+    let bytes = file(rt.alloc(), &[0x90])?;
+    reports(&rt, rt.alloc(), &bytes, Status::Killed(4), NOP)
+}
+
+/// `check` of the bytes has the status, and tells of an image alone.
+fn checks(
+    rt: &impl Abort,
+    alloc: Global,
+    bytes: &[u8],
+    status: Status,
+    told: &str,
+) -> Result<(), Fail> {
+    let words = words(alloc, "check")?;
+    let mut src = SureSource::new(alloc, bytes)?;
+    let mut sink = MemSink::new(alloc, ROOM, ROOM, &[])?;
+    assert_eq!(rt; plain(alloc, &words, &mut src, &mut sink), status);
+    assert_eq!(rt; sink.bytes(), told.as_bytes());
+    Ok(())
+}
+
+#[test]
+fn images_are_checked(rt: HostRuntime) -> Result<(), Fail> {
+    let alloc = rt.alloc();
+    let mut bytes = file(alloc, &EXIT_SEVEN_TEXT)?;
+    checks(&rt, alloc, &bytes, Status::Done, "accepted\n")?;
+
+    // A text that is writable and executable.
+    bytes[0x44] = 7;
+    let refused = Status::Refused {
+        rule: 11,
+        offset: 64,
+    };
+    checks(&rt, alloc, &bytes, refused, "")
 }
 
 const EXIT_SEVEN_LISTING: &str = "0000000000401000 bf07000000 mov edi, 0x7
@@ -171,8 +220,10 @@ fn code_is_listed(rt: HostRuntime) -> Result<(), Fail> {
     lists(&rt, alloc, &bytes, Status::Done, EXIT_SEVEN_LISTING)?;
     let bytes = file(alloc, &CALL_AND_RETURN_TEXT)?;
     lists(&rt, alloc, &bytes, Status::Done, CALL_AND_RETURN_LISTING)?;
-    let refused = Status::Refused { rule: 0, offset: 0 };
-    lists(&rt, alloc, &file(alloc, &[0x90])?, refused, "")
+    let nop = "0000000000401000 90 nop\n";
+    lists(&rt, alloc, &file(alloc, &[0x90])?, Status::Done, nop)?;
+    let refused = Status::Refused { rule: 1, offset: 0 };
+    lists(&rt, alloc, &[], refused, "")
 }
 
 #[test]
@@ -181,7 +232,10 @@ fn a_turned_byte_of_the_header_is_refused(rt: HostRuntime) -> Result<(), Fail> {
     if let Some(machine) = bytes.get_mut(18) {
         *machine ^= 1;
     }
-    let refused = Status::Refused { rule: 0, offset: 0 };
+    let refused = Status::Refused {
+        rule: 4,
+        offset: 18,
+    };
     reports(&rt, rt.alloc(), &bytes, refused, "")
 }
 
@@ -216,9 +270,9 @@ fn the_first_of_fault_and_length_decides(rt: HostRuntime) -> Result<(), Fail> {
 #[test]
 fn a_refusal_writes_to_no_sink(rt: HostRuntime) -> Result<(), Fail> {
     let alloc = rt.alloc();
-    let mut src = SureSource::new(alloc, &file(alloc, &[0x90])?)?;
+    let mut src = SureSource::new(alloc, &EXIT_SEVEN_TEXT)?;
     let mut sink = MemSink::new(alloc, ROOM, ROOM, &[1])?;
-    let refused = Status::Refused { rule: 0, offset: 0 };
+    let refused = Status::Refused { rule: 1, offset: 0 };
     assert_eq!(rt; run(alloc, &mut src, &mut sink)?, refused);
     assert_eq!(rt; sink.faults(), 0);
     Ok(())

@@ -1,6 +1,5 @@
 ghost use Rattle.std.specs.Prelude.{Some};
 
-use crate::loads::{LoadFault, load_form};
 use crate::outcomes::{
     Outcome, ProcessEnd, Records, Region, Shown, StackReport, StackReports, Style, ThreadOut,
     ThreadOuts,
@@ -8,7 +7,6 @@ use crate::outcomes::{
 use crate::reports::report;
 use crate::transfers::{Unread, read_all, write_all};
 use crate::words::{Command, read_words};
-use crate::written::write;
 use crate::{Failed, MemSink, Sink, Source, Status, StdSink, StdSource, SureSink, SureSource};
 use cet_isa::{End, FaultName, Record, What};
 use cet_words::{NoMemory, Words};
@@ -357,113 +355,6 @@ pub(crate) fn file(alloc: Global, text: &[u8]) -> Result<Vec<u8>, AllocError> {
     file.resize(4096, 0)?;
     file.extend_from_slice(text)?;
     Ok(file)
-}
-
-/// The bytes other than 0 of the file of the same text with three bytes of data, the entry 0x401005 and
-/// both marks.
-const WITH_DATA: [(usize, &[u8]); 35] = [
-    (0x00, b"\x7fELF\x02\x01\x01"),
-    (0x10, &[2, 0, 62, 0, 1]),
-    (0x18, &[0x05, 0x10, 0x40]),
-    (0x20, &[64]),
-    (0x34, &[64]),
-    (0x36, &[56]),
-    (0x38, &[3]),
-    (0x40, &[1]),
-    (0x44, &[5]),
-    (0x48, &[0x00, 0x10]),
-    (0x50, &[0x00, 0x10, 0x40]),
-    (0x58, &[0x00, 0x10, 0x40]),
-    (0x60, &[12]),
-    (0x68, &[12]),
-    (0x70, &[0x00, 0x10]),
-    (0x78, &[1]),
-    (0x7c, &[6]),
-    (0x80, &[0x00, 0x20]),
-    (0x88, &[0x00, 0x20, 0x40]),
-    (0x90, &[0x00, 0x20, 0x40]),
-    (0x98, &[3]),
-    (0xa0, &[3]),
-    (0xa8, &[0x00, 0x10]),
-    (0xb0, &[0x53, 0xe5, 0x74, 0x64]),
-    (0xb4, &[4]),
-    (0xb8, &[232]),
-    (0xd0, &[32]),
-    (0xd8, &[32]),
-    (0xe0, &[8]),
-    (0xe8, &[4, 0, 0, 0, 16]),
-    (0xf0, &[5]),
-    (0xf4, b"GNU\0\x02\0\0\xc0\x04"),
-    (0x100, &[3]),
-    (0x1000, &EXIT_SEVEN_TEXT),
-    (0x2000, &[1, 2, 3]),
-];
-
-#[test]
-fn programs_are_written(rt: HostRuntime) -> Result<(), Fail> {
-    let alloc = rt.alloc();
-    let alone = write(alloc, &EXIT_SEVEN_TEXT, &[], 0x401000, 2)?;
-    assert_eq!(rt; alone.as_slice(), file(alloc, &EXIT_SEVEN_TEXT)?.as_slice());
-
-    let mut want = Vec::new(alloc);
-    for (place, bytes) in WITH_DATA {
-        want.resize(place, 0)?;
-        want.extend_from_slice(bytes)?;
-    }
-    let both = write(alloc, &EXIT_SEVEN_TEXT, &[1, 2, 3], 0x401005, 3)?;
-    assert_eq!(rt; both.as_slice(), want.as_slice());
-    Ok(())
-}
-
-#[test]
-fn files_are_loaded(rt: HostRuntime) -> Result<(), Fail> {
-    let alloc = rt.alloc();
-    let image = load_form(alloc, &file(alloc, &EXIT_SEVEN_TEXT)?)?;
-    assert_eq!(rt; image.entry, 0x401000);
-    assert!(rt; image.marked && !image.tracked);
-    let segment = image.segments.get(0).ok_or("no segment")?;
-    assert_eq!(rt; image.segments.len(), 1);
-    assert_eq!(rt; segment.start, 0x401000);
-    assert_eq!(rt; segment.size, 12);
-    assert_eq!(rt; segment.bytes.as_slice(), EXIT_SEVEN_TEXT.as_slice());
-    assert!(rt; segment.exec && !segment.write);
-
-    let texts: [&[u8]; 4] = [
-        &[
-            0xe8, 12, 0, 0, 0, 0xbf, 3, 0, 0, 0, 0xb8, 60, 0, 0, 0, 0x0f, 0x05, 0xc3,
-        ],
-        &[0xc3],
-        &[0xbf, 7, 0, 0, 0],
-        &[0xe8, 0xfb, 0xff, 0xff, 0xff],
-    ];
-    for text in texts {
-        assert!(rt; load_form(alloc, &file(alloc, text)?).is_ok(), "{text:?}");
-    }
-    Ok(())
-}
-
-#[test]
-fn other_files_are_refused(rt: HostRuntime) -> Result<(), Fail> {
-    let alloc = rt.alloc();
-    let refused = Some(LoadFault::Refused { rule: 0, offset: 0 });
-    assert_eq!(rt; load_form(alloc, &[]).err(), refused);
-    assert_eq!(rt; load_form(alloc, &file(alloc, &[])?).err(), refused);
-    for text in [[0x90; 12], [0xbf; 12], [0xcc; 12]] {
-        assert_eq!(rt;
-            load_form(alloc, &file(alloc, &text)?).err(),
-            refused,
-            "{text:?}"
-        );
-    }
-
-    // An entry size, a right, a size, a mark and a gap that differ.
-    for place in [54, 0x44, 0x60, 0x100, 0x108, 4095] {
-        let mut bytes = file(alloc, &EXIT_SEVEN_TEXT)?;
-        assert!(rt; place < bytes.len());
-        bytes[place] = 7;
-        assert_eq!(rt; load_form(alloc, &bytes).err(), refused, "at {place}");
-    }
-    Ok(())
 }
 
 fn is_sent<T: Send>() {}

@@ -11,6 +11,8 @@ pub(crate) enum Command {
     Dis,
     /// `asm`: assembles the text that the source gives.
     Asm,
+    /// `check`: tells that the image that the source gives is accepted.
+    Check,
 }
 
 fn is_word(word: &String, name: &str) -> bool
@@ -30,6 +32,8 @@ fn command_of(word: &String) -> Option<Command>
         Some(Command::Dis)
     } else if is_word(word, "asm") {
         Some(Command::Asm)
+    } else if is_word(word, "check") {
+        Some(Command::Check)
     } else {
         None
     }
