@@ -1,4 +1,5 @@
 use super::*;
+use cet_asm::Program;
 use cet_words::{Bytes, Image, Segment};
 use std::alloc::{AllocError, Global};
 use std::process::Abort;
