@@ -1,4 +1,5 @@
 pub mod TokenLaws
+pub mod PieceTokens
 mod MapLaws
 pub mod LayoutLaws
 pub mod FillingLaws

@@ -1,0 +1,6 @@
+use Rattle.cet_asm.proofs.PieceTokens.{tokens_joined}
+use Rattle.cet_asm.proofs.laws.text_is_read_back.Goals as goal
+
+-- src/laws.rt:13:1
+pub returns : goal.returns
+returns c = ?
