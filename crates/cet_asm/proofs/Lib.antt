@@ -1,5 +1,8 @@
 pub mod TokenLaws
 pub mod PieceTokens
+pub mod WordTexts
+pub mod OperandTexts
+pub mod GivenTexts
 mod MapLaws
 pub mod LayoutLaws
 pub mod FillingLaws
