@@ -3,6 +3,7 @@ pub mod PieceTokens
 pub mod WordTexts
 pub mod OperandTexts
 pub mod GivenTexts
+pub mod InstructionTexts
 mod MapLaws
 pub mod LayoutLaws
 pub mod FillingLaws
