@@ -4,6 +4,7 @@ pub mod WordTexts
 pub mod OperandTexts
 pub mod GivenTexts
 pub mod InstructionTexts
+pub mod LineTexts
 mod MapLaws
 pub mod LayoutLaws
 pub mod FillingLaws
