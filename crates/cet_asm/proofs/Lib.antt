@@ -5,6 +5,7 @@ pub mod OperandTexts
 pub mod GivenTexts
 pub mod InstructionTexts
 pub mod LineTexts
+pub mod MnemonicTexts
 mod MapLaws
 pub mod LayoutLaws
 pub mod FillingLaws

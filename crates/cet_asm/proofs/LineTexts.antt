@@ -4,22 +4,15 @@ use Rattle.std.specs.List.{list_all}
 use Rattle.std.specs.Str.{is_utf8}
 use Rattle.std.proofs.lemmas.Bool.{and_parts}
 use Rattle.std.proofs.lemmas.Str.{IsUtf8-from_ascii, is_utf8-from_IsUtf8}
-use Rattle.cet_encode.specs.Names.{condition_name, operation_name}
 use Rattle.cet_encode.specs.Text as text
-use Rattle.cet_isa.specs.declared.instructions.AluOp.{AluOp}
-use Rattle.cet_isa.specs.declared.instructions.AluOp.TheVariants as ops
-use Rattle.cet_isa.specs.declared.instructions.Cond.{Cond}
-use Rattle.cet_isa.specs.declared.instructions.Cond.TheVariants as conds
 use Rattle.cet_isa.specs.declared.instructions.Instr.{Instr}
 use Rattle.cet_asm.specs.declared.classes.Class.{Class}
 use Rattle.cet_asm.specs.declared.classes.Class.TheVariants.{Blank, Solid, Letter, NameByte, BeforeComment}
 use Rattle.cet_asm.specs.Tokens.{is_name_byte, in_class, front, behind, Token, tokens, ◌>>=◌}
 use Rattle.cet_asm.specs.Operands as asm
-use Rattle.cet_asm.specs.Mnemonics.{plain_mnemonic, operation_of, condition_of, mnemonic_of, locked_mnemonic, untracked_mnemonic}
 use Rattle.cet_asm.specs.Instructions.{no_uses, built}
 use Rattle.cet_asm.specs.Line.{Statement, Line, Code, stated, instruction, skip_blanks, after_colon, begun, statement_of, first_label, labels_of, after_labels, line_of}
 use Rattle.cet_asm.specs.declared.mnemonics.Mnemonic.{Mnemonic}
-use Rattle.cet_asm.specs.declared.mnemonics.Mnemonic.TheVariants as words
 use Rattle.cet_asm.proofs.LineLaws.{label_none, after_none}
 use Rattle.cet_asm.proofs.PieceTokens.{is_text_byte, is_word, name_solid, joined, begins, tokens_of, IsPlain, tokens_joined, joined_text}
 use Rattle.cet_asm.proofs.InstructionTexts.{IsCode}
@@ -115,24 +108,24 @@ line_from w ps i p r e =
     record { plain = p; same = l ∙ ap (λ (s : Statement). let k : Line = record { labels = []; statement = s } in k) (begun_by w (joined ps) p.0 r ∙ e) }
 
 -- a mnemonic that stands alone
-alone_line : (w : List ℕ) (i : Instr) → is_word w ≡ true → begun w [] ≡ Code i no_uses → IsLine (text.Word w ∷ []) i
+pub alone_line : (w : List ℕ) (i : Instr) → is_word w ≡ true → begun w [] ≡ Code i no_uses → IsLine (text.Word w ∷ []) i
 alone_line w i h e = line_from w [] i (h, refl, tt) rest_end e
 
 -- a word that is a mnemonic
-record IsMnemonic (w : List ℕ) (m : Mnemonic) : Type 0 where
-  word : is_word w ≡ true
-  begins : (bytes : List ℕ) → begun w bytes ≡ instruction (Some m) bytes
+pub record IsMnemonic (w : List ℕ) (m : Mnemonic) : Type 0 where
+  pub word : is_word w ≡ true
+  pub begins : (bytes : List ℕ) → begun w bytes ≡ instruction (Some m) bytes
 
 stated_by : (m : Mnemonic) (ps : List text.Piece) (i : Instr) → IsCode m ps i → instruction (Some m) (joined (text.Space ∷ ps)) ≡ Code i no_uses
 unfolding instruction
 stated_by m ps i c = ap (λ (ts : List Token). stated (asm.operands ts >>= built m)) (tokens_joined (text.Space ∷ ps) c.plain) ∙ c.same
 
-named_line : (w : List ℕ) (m : Mnemonic) (ps : List text.Piece) (i : Instr) → IsMnemonic w m → IsCode m ps i → IsLine (text.named w ps) i
+pub named_line : (w : List ℕ) (m : Mnemonic) (ps : List text.Piece) (i : Instr) → IsMnemonic w m → IsCode m ps i → IsLine (text.named w ps) i
 named_line w m ps i n c =
     line_from w (text.Space ∷ ps) i (n.word, refl, c.plain) (rest_blank (joined ps)) (n.begins (joined (text.Space ∷ ps)) ∙ stated_by m ps i c)
 
 -- a mnemonic after `lock` or `notrack`
-prefixed_line : (p w : List ℕ) (m : Mnemonic) (ps : List text.Piece) (i : Instr) → is_word p ≡ true → is_word w ≡ true
+pub prefixed_line : (p w : List ℕ) (m : Mnemonic) (ps : List text.Piece) (i : Instr) → is_word p ≡ true → is_word w ≡ true
     → begun p (32 ∷ (w ++ joined (text.Space ∷ ps))) ≡ instruction (Some m) (joined (text.Space ∷ ps)) → IsCode m ps i → IsLine (text.named p (text.named w ps)) i
 prefixed_line p w m ps i h k e c =
     line_from p (text.Space ∷ text.named w ps) i (h, refl, (k, refl, c.plain)) (rest_blank (w ++ joined (text.Space ∷ ps))) (e ∙ stated_by m ps i c)
