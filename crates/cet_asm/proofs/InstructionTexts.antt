@@ -4,6 +4,7 @@ use Rattle.std.proofs.lemmas.Bool.{and_parts}
 use Rattle.cet_encode.specs.Text as text
 use Rattle.cet_isa.specs.Spelled.{has_spelling, is_cmp, is_qword, mem_ok, place_ok, alu_ok, test_ok, mov_ok, push_ok, OperandFits, CountFits}
 use Rattle.cet_isa.specs.declared.instructions.AluOp.{AluOp}
+use Rattle.cet_isa.specs.declared.instructions.Cond.{Cond}
 use Rattle.cet_isa.specs.declared.instructions.Count.{Count}
 use Rattle.cet_isa.specs.declared.instructions.Count.TheVariants as counts
 use Rattle.cet_isa.specs.declared.instructions.Instr.{Instr}
@@ -187,6 +188,11 @@ pub imul_code : (size : Size) (d : Reg) (src : Operand) → OperandFits src → 
     → IsCode words.Imul (two_pieces size (operands.Reg d) src) (instrs.Imul size d src)
 unfolding built two_operands pair_instr
 imul_code size d src k ok = pair_code words.Imul size (operands.Reg d) src (instrs.Imul size d src) tt k (place_second d src ok) refl refl ok
+
+pub cmov_code : (c : Cond) (size : Size) (d : Reg) (src : Operand) → OperandFits src → place_ok src ≡ true
+    → IsCode (words.Cmov c) (two_pieces size (operands.Reg d) src) (instrs.Cmov c size d src)
+unfolding built two_operands pair_instr
+cmov_code c size d src k ok = pair_code (words.Cmov c) size (operands.Reg d) src (instrs.Cmov c size d src) tt k (place_second d src ok) refl refl ok
 
 pub lea_code : (size : Size) (d : Reg) (m : Mem) → FitsSigned w32 m.disp → mem_ok m ≡ true
     → IsCode words.Lea (two_pieces size (operands.Reg d) (operands.Mem m)) (instrs.Lea size d m)

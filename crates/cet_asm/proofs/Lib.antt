@@ -6,6 +6,8 @@ pub mod GivenTexts
 pub mod InstructionTexts
 pub mod LineTexts
 pub mod MnemonicTexts
+pub mod LengthLaws
+pub mod TextLaws
 mod MapLaws
 pub mod LayoutLaws
 pub mod FillingLaws
