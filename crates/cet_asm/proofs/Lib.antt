@@ -8,6 +8,7 @@ pub mod LineTexts
 pub mod MnemonicTexts
 pub mod LengthLaws
 pub mod TextLaws
+pub mod ProgramTexts
 mod MapLaws
 pub mod LayoutLaws
 pub mod FillingLaws
