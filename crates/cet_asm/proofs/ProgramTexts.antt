@@ -2,6 +2,7 @@
 use Rattle.std.proofs.Common.{◌≡◌, ℕ, ◌+◌, ◌≤◌, Bool, true, false, not, ◌&&◌, ◌||◌, eqb, nat_lt, nat_le, List, [], ◌∷◌, ◌++◌, length, codes, map, All, Option, Some, None, append-nil, refl, sym, ap, subst, ◌∙◌, arith, le-leb}
 use Rattle.std.specs.List.{list_all, slice_split}
 use Rattle.std.proofs.lemmas.Bool.{and_parts}
+use Rattle.std.proofs.lemmas.List.Elements.{All-nil, All-cons}
 use Rattle.std.proofs.lemmas.List.Splits.{slice_split_none}
 use Rattle.cet_encode.specs.Text as text
 use Rattle.cet_isa.specs.Canonical.{canonical_spelling}
@@ -52,9 +53,16 @@ no_mark i = refl
 
 -- ---- the text
 
+negated : (t : Bool) → not t ≡ true → t ≡ false
+negated false h = refl
+negated true h = absurd cc
+
 not_end : (bs : List ℕ) → list_all is_text_byte bs ≡ true → All (λ b. eqb b 10 ≡ false) bs
-not_end [] h = ?
-not_end (b ∷ bs) h = ?
+not_end [] h = All-nil (λ (b : ℕ). eqb b 10 ≡ false)
+not_end (b ∷ bs) h =
+    let a = and_parts (is_text_byte b) (list_all is_text_byte bs) h in
+    let c = and_parts (nat_lt b 128) (not (eqb b 10) && in_class BeforeComment b) a.0 in
+    All-cons (λ (b : ℕ). eqb b 10 ≡ false) b bs (negated (eqb b 10) (and_parts (not (eqb b 10)) (in_class BeforeComment b) c.1).0) (not_end bs a.1)
 
 one_line : (i : Instr) → InstrFits i → has_spelling i ≡ true → lines_of (text.text_of i) ≡ line i ∷ []
 one_line i fits ok =
