@@ -1,6 +1,5 @@
 -- Operands of an instruction: their pieces are plain, and are read as those operands.
-use Rattle.std.proofs.Common.{◌≡◌, ℕ, ℤ, pos, negsuc, zero, suc, ◌<◌, ◌^◌, Bool, true, false, ◌&&◌, eqb, List, [], ◌∷◌, ◌++◌, codes, Option, Some, None, FitsSigned, w32, append-nil, append_assoc, refl, sym, subst, ap, ◌∙◌}
-use Rattle.std.specs.Fmt.{decimal}
+use Rattle.std.proofs.Common.{◌≡◌, ℕ, ℤ, pos, negsuc, zero, suc, ◌<◌, ◌^◌, Bool, true, false, List, [], ◌∷◌, ◌++◌, codes, Option, Some, None, FitsSigned, w32, append-nil, append_assoc, refl, sym, subst, ap, ◌∙◌}
 use Rattle.std.proofs.lemmas.Bool.{and_parts}
 use Rattle.cet_encode.specs.Names.{register_name}
 use Rattle.cet_encode.specs.Text as text
@@ -41,9 +40,11 @@ tail_sign (pos (suc n)) = refl
 tail_sign (negsuc n) = refl
 
 joined_plain : (ps : List text.Piece) (d : ℤ) → IsPlain ps → IsPlain (text.Sign 91 ∷ ps ++ text.displacement false d ++ text.Sign 93 ∷ [])
-joined_plain ps d h =
-    (refl, subst IsPlain (sym (append_assoc ps (text.displacement false d) (text.Sign 93 ∷ [])))
-        (plain_append ps (text.displacement false d ++ text.Sign 93 ∷ []) h (tail_plain d) (tail_sign d)))
+joined_plain ps d h = (
+  refl,
+  subst IsPlain (sym (append_assoc ps (text.displacement false d) (text.Sign 93 ∷ [])))
+      (plain_append ps (text.displacement false d ++ text.Sign 93 ∷ []) h (tail_plain d) (tail_sign d)),
+)
 
 scaled_plain : (i : Reg) (s : ℕ) → IsScale s → IsPlain (text.scaled i s)
 scaled_plain i s k = (reg_is_word sizes.Qword i, refl, (refl, (k.word, refl, tt)))
@@ -58,7 +59,7 @@ memory_plain (bases.Reg b) None s d ok = joined_plain (text.register sizes.Qword
 memory_plain bases.None (Some i) s d ok = joined_plain (text.scaled i s) d (scaled_plain i s (scale_word i s (and_parts _ (scale_ok (Some i) s) ok).1))
 memory_plain (bases.Reg b) (Some i) s d ok =
     joined_plain (text.register sizes.Qword b ∷ text.Sign 43 ∷ text.scaled i s) d
-        (reg_is_word sizes.Qword b, refl, (refl, scaled_plain i s (scale_word i s (and_parts _ (scale_ok (Some i) s) ok).1)))
+    (reg_is_word sizes.Qword b, refl, (refl, scaled_plain i s (scale_word i s (and_parts _ (scale_ok (Some i) s) ok).1)))
 
 -- memory with an address that there is
 abbrev pub value_ok : Operand → Bool
@@ -189,7 +190,7 @@ pub after_register : (size : Size) (r : Reg) (ps : List text.Piece) (h : Given) 
     → asm.operands (tokens_of (text.pair (text.register size r ∷ []) ps)) ≡ Some (Two (Register size r) h)
 after_register size r ps h e =
     two_read (tokens_of (text.pair (text.register size r ∷ []) ps)) (tokens_of ps) (Register size r) h
-        (register_stop size r (Sign 44 ∷ tokens_of ps) (stop_comma (tokens_of ps))) e
+    (register_stop size r (Sign 44 ∷ tokens_of ps) (stop_comma (tokens_of ps))) e
 
 -- the first operand, after its size where no register tells it
 abbrev pub first_given : Size → Operand → Operand → Given
@@ -207,7 +208,7 @@ first_before sizes.Qword dst src ps h ok = operand_before sizes.Qword dst (text.
 
 pub pair_read : (size : Size) (dst src : Operand) → OperandFits dst → OperandFits src → value_ok dst ≡ true → value_ok src ≡ true
     → asm.operands (tokens_of (text.size_word size dst src ++ text.pair (text.operand size dst) (text.operand size src)))
-      ≡ Some (Two (first_given size dst src) (given_of size src))
+    ≡ Some (Two (first_given size dst src) (given_of size src))
 pair_read size dst src h k ok right =
     two_read _ (tokens_of (text.operand size src)) (first_given size dst src) (given_of size src)
-        (first_before size dst src (text.operand size src) h ok) (operand_last size src k right)
+    (first_before size dst src (text.operand size src) h ok) (operand_last size src k right)

@@ -1,5 +1,5 @@
 -- What a mnemonic makes of the text of its operands.
-use Rattle.std.proofs.Common.{◌≡◌, ℕ, ℤ, pos, negsuc, ◌<◌, ◌^◌, Bool, true, false, ◌&&◌, List, [], ◌∷◌, ◌++◌, codes, Option, Some, None, FitsSigned, w32, refl, ap, ◌∙◌, arith, lt-ltb}
+use Rattle.std.proofs.Common.{◌≡◌, ℕ, ℤ, pos, ◌<◌, ◌^◌, Bool, true, false, List, [], ◌∷◌, ◌++◌, codes, Option, Some, None, FitsSigned, w32, refl, ap, ◌∙◌, arith, lt-ltb}
 use Rattle.std.proofs.lemmas.Bool.{and_parts}
 use Rattle.cet_encode.specs.Text as text
 use Rattle.cet_isa.specs.Spelled.{has_spelling, is_cmp, is_qword, mem_ok, place_ok, alu_ok, test_ok, mov_ok, push_ok, OperandFits, CountFits}
@@ -15,15 +15,15 @@ use Rattle.cet_isa.specs.declared.instructions.Operand.TheVariants as operands
 use Rattle.cet_isa.specs.declared.instructions.Reg.{Reg}
 use Rattle.cet_isa.specs.declared.instructions.Size.{Size}
 use Rattle.cet_isa.specs.declared.instructions.Size.TheVariants as sizes
-use Rattle.cet_asm.specs.Tokens.{Token, ◌>>=◌}
+use Rattle.cet_asm.specs.Tokens.{◌>>=◌}
 use Rattle.cet_asm.specs.Words.{Number}
 use Rattle.cet_asm.specs.Operands as asm
 use Rattle.cet_asm.specs.Operands.{Given, Register, Counter, Value, Memory, Byte, Relative, Operands, Absent, One, Two}
 use Rattle.cet_asm.specs.Instructions.{no_uses, Argument, argument, common_size, Built, pair_instr, pair, wide_move, is_wide, any_move, zero_move, sign_move, shift_instr, shift, two_operands, register_instr, memory_instr, relative_instr, value_built, one_operand, built}
-use Rattle.cet_asm.specs.Line.{Statement, Code, judged, stated}
+use Rattle.cet_asm.specs.Line.{Code, judged, stated}
 use Rattle.cet_asm.specs.declared.mnemonics.Mnemonic.{Mnemonic}
 use Rattle.cet_asm.specs.declared.mnemonics.Mnemonic.TheVariants as words
-use Rattle.cet_asm.proofs.PieceTokens.{tokens_of, IsPlain, is_word}
+use Rattle.cet_asm.proofs.PieceTokens.{tokens_of, IsPlain}
 use Rattle.cet_asm.proofs.WordTexts.{register_word, hex_word, fits_holds, value_sound}
 use Rattle.cet_asm.proofs.OperandTexts.{address_of, shown_sound}
 use Rattle.cet_asm.proofs.GivenTexts.{value_ok, mem_plain, operand_plain, pair_plain, size_plain, relative_plain, given_of, first_given, operand_last, byte_last, number_last, counter_last, one_read, operand_read, relative_read, after_register, pair_read}
@@ -101,10 +101,10 @@ pair_code : (m : Mnemonic) (size : Size) (dst src : Operand) (i : Instr) → Ope
     → IsCode m (text.size_word size dst src ++ text.pair (text.operand size dst) (text.operand size src)) i
 pair_code m size dst src i h k ok e f s =
     code_from m (text.size_word size dst src ++ text.pair (text.operand size dst) (text.operand size src)) (Two (first_given size dst src) (given_of size src)) i
-        (size_plain size dst src _ (pair_plain (text.operand size dst) (text.operand size src) (operand_plain size dst ok.left) (operand_plain size src ok.right)))
-        (pair_read size dst src h k ok.left ok.right)
-        (e ∙ pair_built m size dst src i h k ok.two f)
-        s
+    (size_plain size dst src _ (pair_plain (text.operand size dst) (text.operand size src) (operand_plain size dst ok.left) (operand_plain size src ok.right)))
+    (pair_read size dst src h k ok.left ok.right)
+    (e ∙ pair_built m size dst src i h k ok.two f)
+    s
 
 mem_second : (d : Reg) (m : Mem) → mem_ok m ≡ true → IsPair (operands.Reg d) (operands.Mem m)
 mem_second d m h = record { left = refl; right = h; two = refl }
@@ -230,7 +230,7 @@ wide_built r n h = rw (lt-ltb n (2 ^ 64) h) refl
 pub wide_code : (r : Reg) (n : ℕ) → n < 2 ^ 64 → IsCode words.Movabs (text.pair (text.register sizes.Qword r ∷ []) (text.number n ∷ [])) (instrs.MovWide r n)
 wide_code r n h =
     register_code words.Movabs sizes.Qword r (text.number n ∷ []) (Value (Number (Some (pos n)))) (instrs.MovWide r n)
-        (hex_word n, refl, tt) (number_last n h) (wide_built r n h) refl
+    (hex_word n, refl, tt) (number_last n h) (wide_built r n h) refl
 
 zero_built : (r : Reg) (m : Mem) → FitsSigned w32 m.disp → built words.Movzx (Two (Register sizes.Qword r) (Byte (address_of m))) ≡ Some (clean_built (instrs.MovZero8 r m))
 unfolding built two_operands zero_move
@@ -240,7 +240,7 @@ pub zero_code : (r : Reg) (m : Mem) → FitsSigned w32 m.disp → mem_ok m ≡ t
     → IsCode words.Movzx (text.pair (text.register sizes.Qword r ∷ []) (text.named (codes "byte") (text.memory m))) (instrs.MovZero8 r m)
 zero_code r m h ok =
     register_code words.Movzx sizes.Qword r (text.named (codes "byte") (text.memory m)) (Byte (address_of m)) (instrs.MovZero8 r m)
-        (refl, refl, mem_plain m ok) (byte_last m h ok) (zero_built r m h) ok
+    (refl, refl, mem_plain m ok) (byte_last m h ok) (zero_built r m h) ok
 
 sign_built : (d : Reg) (src : Operand) → OperandFits src → place_ok src ≡ true
     → built words.Movsxd (Two (Register sizes.Qword d) (given_of sizes.Dword src)) ≡ Some (clean_built (instrs.MovSign32 d src))
@@ -258,7 +258,7 @@ pub sign_code : (d : Reg) (src : Operand) → OperandFits src → place_ok src �
     → IsCode words.Movsxd (text.pair (text.register sizes.Qword d ∷ []) (text.operand sizes.Dword src)) (instrs.MovSign32 d src)
 sign_code d src h ok =
     register_code words.Movsxd sizes.Qword d (text.operand sizes.Dword src) (given_of sizes.Dword src) (instrs.MovSign32 d src)
-        (operand_plain sizes.Dword src (place_value src ok)) (operand_last sizes.Dword src h (place_value src ok)) (sign_built d src h ok) ok
+    (operand_plain sizes.Dword src (place_value src ok)) (operand_last sizes.Dword src h (place_value src ok)) (sign_built d src h ok) ok
 
 amount_plain : (count : Count) → IsPlain (text.amount count ∷ [])
 amount_plain (counts.Number n) = (hex_word n, refl, tt)
@@ -283,7 +283,7 @@ pub shift_code : (m : Mnemonic) (size : Size) (r : Reg) (count : Count) (i : Ins
     → IsCode m (text.pair (text.register size r ∷ []) (text.amount count ∷ [])) i
 shift_code m size r count i h e f s =
     register_code m size r (text.amount count ∷ []) (amount_given count) i
-        (amount_plain count) (amount_last count h) (f (Register size r) (amount_given count) ∙ shift_built m size r count i h e) s
+    (amount_plain count) (amount_last count h) (f (Register size r) (amount_given count) ∙ shift_built m size r count i h e) s
 
 -- ---- one operand
 
@@ -343,4 +343,4 @@ ret_built n h = rw (lt-ltb n (2 ^ 16) h) refl
 pub ret_code : (n : ℕ) → n < 2 ^ 16 → IsCode words.Ret (text.number n ∷ []) (instrs.RetImm n)
 ret_code n h =
     code_from words.Ret (text.number n ∷ []) (One (Value (Number (Some (pos n))))) (instrs.RetImm n) (hex_word n, refl, tt)
-        (one_read (tokens_of (text.number n ∷ [])) (Value (Number (Some (pos n)))) (number_last n (omega (arith, h)))) (ret_built n h) refl
+    (one_read (tokens_of (text.number n ∷ [])) (Value (Number (Some (pos n)))) (number_last n (omega (arith, h)))) (ret_built n h) refl

@@ -1,5 +1,5 @@
 -- How long the bytes of an instruction may be.
-use Rattle.std.proofs.Common.{◌≡◌, ℕ, ℤ, suc, ◌+◌, ◌*◌, ◌≤◌, ◌/◌, ◌%◌, eqb, Bool, true, false, cond, List, [], ◌∷◌, ◌++◌, length, Option, Some, None, if◌then◌else◌, refl, arith, length-append}
+use Rattle.std.proofs.Common.{ℕ, ℤ, ◌+◌, ◌*◌, ◌≤◌, ◌/◌, ◌%◌, eqb, Bool, true, false, cond, List, [], ◌∷◌, ◌++◌, length, Option, Some, None, if◌then◌else◌, arith, length-append}
 use Rattle.std.specs.Int.{w16, w64, to_le_bytes}
 use Rattle.cet_isa.specs.declared.instructions.AluOp.{AluOp}
 use Rattle.cet_isa.specs.declared.instructions.Base.{Base}
@@ -55,8 +55,8 @@ pick false c d h k = k
 base_short : (b : Reg) (d : ℤ) → IsShort (coded_base b d)
 base_short b d =
     pick (eqb (low b) 4) (record { mode = mod_bits b d + 4; sib = 0x24 ∷ []; disp = disp_bytes b d; extend = high b })
-        (record { mode = mod_bits b d + low b; sib = []; disp = disp_bytes b d; extend = high b })
-        (omega arith, disp_length b d) (omega arith, disp_length b d)
+    (record { mode = mod_bits b d + low b; sib = []; disp = disp_bytes b d; extend = high b })
+    (omega arith, disp_length b d) (omega arith, disp_length b d)
 
 mem_short : (b : Base) (i : Option Reg) (n : ℕ) (d : ℤ) → IsShort (coded_mem b i n d)
 mem_short bases.Rip i n d = (omega arith, four_length d)
@@ -100,12 +100,12 @@ alu_short op size (operands.Mem m) (operands.Reg r) = rm_short row.cmp_mem_reg s
 alu_short op size (operands.Reg d) (operands.Mem m) = rm_short row.alu_reg_rm size (0x03 + 8 * op_number op) (reg_number d) (operands.Mem m) [] none
 alu_short op size (operands.Reg d) (operands.Imm n) =
     choice 21 (fits_byte n) (with_rm row.alu_reg_imm8 size 0x83 (op_number op) (operands.Reg d) (one_byte n)) (with_rm row.alu_reg_imm32 size 0x81 (op_number op) (operands.Reg d) (four_bytes n))
-        (rm_short row.alu_reg_imm8 size 0x83 (op_number op) (operands.Reg d) (one_byte n) (one n))
-        (rm_short row.alu_reg_imm32 size 0x81 (op_number op) (operands.Reg d) (four_bytes n) (four n))
+    (rm_short row.alu_reg_imm8 size 0x83 (op_number op) (operands.Reg d) (one_byte n) (one n))
+    (rm_short row.alu_reg_imm32 size 0x81 (op_number op) (operands.Reg d) (four_bytes n) (four n))
 alu_short op size (operands.Mem m) (operands.Imm n) =
     choice 21 (fits_byte n) (with_rm row.cmp_mem_imm8 size 0x83 7 (operands.Mem m) (one_byte n)) (with_rm row.cmp_mem_imm32 size 0x81 7 (operands.Mem m) (four_bytes n))
-        (rm_short row.cmp_mem_imm8 size 0x83 7 (operands.Mem m) (one_byte n) (one n))
-        (rm_short row.cmp_mem_imm32 size 0x81 7 (operands.Mem m) (four_bytes n) (four n))
+    (rm_short row.cmp_mem_imm8 size 0x83 7 (operands.Mem m) (one_byte n) (one n))
+    (rm_short row.cmp_mem_imm32 size 0x81 7 (operands.Mem m) (four_bytes n) (four n))
 alu_short op size dst src = omega arith
 
 test_short : (size : Size) (dst src : Operand) → length (test_spelling size dst src) ≤ 21
@@ -129,8 +129,8 @@ push_short : (o : Operand) → length (push_spelling o) ≤ 21
 push_short (operands.Reg r) = reg_short row.push_reg Dword 0x50 r [] none
 push_short (operands.Imm n) =
     choice 21 (fits_byte n) (alone row.push_imm8 0x6a (one_byte n)) (alone row.push_imm32 0x68 (four_bytes n))
-        (alone_short row.push_imm8 0x6a (one_byte n) (one n))
-        (alone_short row.push_imm32 0x68 (four_bytes n) (four n))
+    (alone_short row.push_imm8 0x6a (one_byte n) (one n))
+    (alone_short row.push_imm32 0x68 (four_bytes n) (four n))
 push_short (operands.Mem m) = rm_short row.push_mem Dword 0xff 6 (operands.Mem m) [] none
 
 pub canonical_short : (i : Instr) → length (canonical_spelling i) ≤ 21

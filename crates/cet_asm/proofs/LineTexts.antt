@@ -1,5 +1,5 @@
 -- The text of an instruction is a line that states it.
-use Rattle.std.proofs.Common.{◌≡◌, ℕ, zero, suc, ◌<◌, ◌+◌, Bool, true, false, not, ◌&&◌, ◌||◌, cond, eqb, nat_lt, List, [], ◌∷◌, ◌++◌, codes, get_or, Option, Some, None, IsAscii, bytes_eq, refl, sym, ap, ◌∙◌, arith, ltb-true}
+use Rattle.std.proofs.Common.{◌≡◌, ℕ, zero, suc, ◌<◌, Bool, true, false, not, ◌&&◌, eqb, nat_lt, List, [], ◌∷◌, ◌++◌, get_or, Some, None, refl, sym, ap, ◌∙◌, arith, ltb-true}
 use Rattle.std.specs.List.{list_all}
 use Rattle.std.specs.Str.{is_utf8}
 use Rattle.std.proofs.lemmas.Bool.{and_parts}
@@ -7,14 +7,14 @@ use Rattle.std.proofs.lemmas.Str.{IsUtf8-from_ascii, is_utf8-from_IsUtf8}
 use Rattle.cet_encode.specs.Text as text
 use Rattle.cet_isa.specs.declared.instructions.Instr.{Instr}
 use Rattle.cet_asm.specs.declared.classes.Class.{Class}
-use Rattle.cet_asm.specs.declared.classes.Class.TheVariants.{Blank, Solid, Letter, NameByte, BeforeComment}
-use Rattle.cet_asm.specs.Tokens.{is_name_byte, in_class, front, behind, Token, tokens, ◌>>=◌}
+use Rattle.cet_asm.specs.declared.classes.Class.TheVariants.{Blank, Solid, NameByte, BeforeComment}
+use Rattle.cet_asm.specs.Tokens.{is_name_byte, in_class, front, behind, Token, ◌>>=◌}
 use Rattle.cet_asm.specs.Operands as asm
 use Rattle.cet_asm.specs.Instructions.{no_uses, built}
-use Rattle.cet_asm.specs.Line.{Statement, Line, Code, stated, instruction, skip_blanks, after_colon, begun, statement_of, first_label, labels_of, after_labels, line_of}
+use Rattle.cet_asm.specs.Line.{Statement, Line, Code, stated, instruction, skip_blanks, after_colon, begun, statement_of, first_label, line_of}
 use Rattle.cet_asm.specs.declared.mnemonics.Mnemonic.{Mnemonic}
 use Rattle.cet_asm.proofs.LineLaws.{label_none, after_none}
-use Rattle.cet_asm.proofs.PieceTokens.{is_text_byte, is_word, name_solid, joined, begins, tokens_of, IsPlain, tokens_joined, joined_text}
+use Rattle.cet_asm.proofs.PieceTokens.{is_text_byte, is_word, name_solid, joined, IsPlain, tokens_joined, joined_text}
 use Rattle.cet_asm.proofs.InstructionTexts.{IsCode}
 
 -- ---- the whole text

@@ -1,5 +1,5 @@
 -- The mnemonics of a text are read as those mnemonics.
-use Rattle.std.proofs.Common.{◌≡◌, codes, ◌++◌, refl}
+use Rattle.std.proofs.Common.{codes, ◌++◌, refl}
 use Rattle.cet_encode.specs.Names.{condition_name, operation_name}
 use Rattle.cet_isa.specs.declared.instructions.AluOp.{AluOp}
 use Rattle.cet_isa.specs.declared.instructions.AluOp.TheVariants as ops

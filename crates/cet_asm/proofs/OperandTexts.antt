@@ -1,22 +1,19 @@
 -- The text of an operand is read as that operand.
-use Rattle.std.proofs.Common.{◌≡◌, ℕ, ℤ, pos, negsuc, zero, suc, ◌<◌, ◌^◌, Bool, true, false, ◌&&◌, eqb, List, [], ◌∷◌, ◌++◌, codes, Option, Some, None, FitsSigned, w32, refl, sym, subst, ap, ◌∙◌}
+use Rattle.std.proofs.Common.{◌≡◌, ℕ, ℤ, pos, negsuc, zero, suc, ◌<◌, ◌^◌, Bool, true, false, ◌&&◌, eqb, List, ◌∷◌, ◌++◌, codes, Option, Some, None, FitsSigned, w32, refl, sym, subst, ◌∙◌}
 use Rattle.std.specs.Fmt.{decimal}
 use Rattle.std.proofs.lemmas.Bool.{and_parts, eqb-true}
 use Rattle.cet_encode.specs.Names.{register_name}
 use Rattle.cet_encode.specs.Text as text
-use Rattle.cet_isa.specs.Spelled.{scale_ok, address_ok, mem_ok, place_ok, OperandFits}
+use Rattle.cet_isa.specs.Spelled.{scale_ok, address_ok}
 use Rattle.cet_isa.specs.declared.instructions.Base.{Base}
 use Rattle.cet_isa.specs.declared.instructions.Base.TheVariants as bases
 use Rattle.cet_isa.specs.declared.instructions.Mem.{Mem}
-use Rattle.cet_isa.specs.declared.instructions.Operand.{Operand}
-use Rattle.cet_isa.specs.declared.instructions.Operand.TheVariants as operands
 use Rattle.cet_isa.specs.declared.instructions.Reg.{Reg}
-use Rattle.cet_isa.specs.declared.instructions.Size.{Size}
 use Rattle.cet_isa.specs.declared.instructions.Size.TheVariants as sizes
 use Rattle.cet_asm.specs.Tokens.{Token, Word, Sign, Minus, sign_first}
-use Rattle.cet_asm.specs.Words.{register_of, is_counter, is_pointer, Place, Number, number_place, word_place}
-use Rattle.cet_asm.specs.Operands.{Address, nowhere, with_index, with_pointer, with_register, with_place, with_word, with_scaled, scale_of, starred, after, word_part, part, taken_part, joined, more, memory, Given, Register, Value, Memory, given, worded}
-use Rattle.cet_asm.specs.Instructions.{Field, disp_field}
+use Rattle.cet_asm.specs.Words.{Place, Number}
+use Rattle.cet_asm.specs.Operands.{Address, nowhere, with_index, with_pointer, with_register, with_place, starred, after, word_part, part, taken_part, joined, more, memory}
+use Rattle.cet_asm.specs.Instructions.{disp_field}
 use Rattle.cet_asm.proofs.PieceTokens.{tokens_of}
 use Rattle.cet_asm.proofs.WordTexts.{register_word, IsScale, scale_word, hex, hex_place, hex_word_place, hex_no_register, fits_holds, pos_small, neg_small, sound}
 

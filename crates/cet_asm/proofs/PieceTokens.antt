@@ -1,9 +1,9 @@
 -- A text made of pieces: its bytes, and its words and signs.
-use Rattle.std.proofs.Common.{◌≡◌, ℕ, zero, suc, ◌<◌, ◌≤◌, ◌+◌, Bool, true, false, not, ◌&&◌, ◌||◌, cond, eqb, nat_lt, nat_le, ltb, leb, List, [], ◌∷◌, ◌++◌, refl, sym, ap, ◌∙◌, append_assoc, append-nil, arith}
+use Rattle.std.proofs.Common.{◌≡◌, ℕ, ◌<◌, Bool, true, false, not, ◌&&◌, ◌||◌, eqb, nat_lt, nat_le, List, [], ◌∷◌, ◌++◌, refl, sym, ap, ◌∙◌, append_assoc, append-nil, arith}
 use Rattle.std.specs.List.{list_all}
 use Rattle.std.proofs.lemmas.Bool.{and_parts, agree_below_at}
-use Rattle.cet_asm.specs.declared.classes.Class.TheVariants.{Blank, Solid, Letter, NameByte, BeforeComment}
-use Rattle.cet_asm.specs.Tokens.{Token, Word, Sign, Minus, is_blank, is_sign, is_decimal, is_name_byte, in_class, begins_word, sign_token, onto_word, tokens}
+use Rattle.cet_asm.specs.declared.classes.Class.TheVariants.{Solid, Letter, BeforeComment}
+use Rattle.cet_asm.specs.Tokens.{Token, Word, is_blank, is_sign, is_name_byte, in_class, begins_word, sign_token, onto_word, tokens}
 use Rattle.cet_encode.specs.Text as text
 
 -- ---- bytes

@@ -1,6 +1,6 @@
 -- The text of an instruction alone is the program of that instruction.
-use Rattle.std.proofs.Common.{◌≡◌, ℕ, ◌+◌, ◌≤◌, Bool, true, false, not, ◌&&◌, ◌||◌, eqb, nat_lt, nat_le, List, [], ◌∷◌, ◌++◌, length, codes, map, All, Option, Some, None, append-nil, refl, sym, ap, subst, ◌∙◌, arith, le-leb}
-use Rattle.std.specs.List.{list_all, slice_split}
+use Rattle.std.proofs.Common.{◌≡◌, ℕ, ◌+◌, ◌≤◌, Bool, true, false, not, ◌&&◌, eqb, nat_lt, List, [], ◌∷◌, length, codes, map, All, None, append-nil, refl, sym, ap, ◌∙◌, arith, le-leb}
+use Rattle.std.specs.List.{list_all}
 use Rattle.std.proofs.lemmas.Bool.{and_parts}
 use Rattle.std.proofs.lemmas.List.Elements.{All-nil, All-cons}
 use Rattle.std.proofs.lemmas.List.Splits.{slice_split_none}
@@ -9,16 +9,14 @@ use Rattle.cet_isa.specs.Canonical.{canonical_spelling}
 use Rattle.cet_isa.specs.Spelled.{has_spelling, InstrFits}
 use Rattle.cet_isa.specs.declared.instructions.Instr.{Instr}
 use Rattle.cet_asm.specs.declared.classes.Class.TheVariants.{BeforeComment}
-use Rattle.cet_asm.specs.declared.program.Program.{Program}
 use Rattle.cet_asm.specs.declared.sections.Section.TheVariants as sections
 use Rattle.cet_asm.specs.Tokens.{in_class}
 use Rattle.cet_asm.specs.Instructions.{no_uses}
 use Rattle.cet_asm.specs.Line.{Line, Code, line_of}
-use Rattle.cet_asm.specs.Layout.{filled, text_start, size_of, round_up, exceeds, grown, is_too_long, after, start}
-use Rattle.cet_asm.specs.Program.{lines_of, whole_of, label_address, environment, knows_all, is_in_reach, broken_at, Fault, fault_from, bytes_of, section_from, mark_from, IsProgram}
+use Rattle.cet_asm.specs.Layout.{filled, size_of, round_up, is_too_long, start}
+use Rattle.cet_asm.specs.Program.{lines_of, whole_of, label_address, environment, knows_all, is_in_reach, broken_at, fault_from, bytes_of, section_from, mark_from, IsProgram}
 use Rattle.cet_asm.proofs.LengthLaws.{canonical_short}
 use Rattle.cet_asm.proofs.PieceTokens.{is_text_byte, joined, onto_joined, joined_text}
-use Rattle.cet_asm.proofs.LineTexts.{IsLine}
 use Rattle.cet_asm.proofs.TextLaws.{pieces_line}
 
 -- ---- the line by itself
@@ -76,9 +74,9 @@ pub program_text_of : (i : Instr) → InstrFits i → has_spelling i ≡ true
 program_text_of i fits ok =
     let e = one_line i fits ok in
     record {
-        sound = ap (λ (ls : List Line). fault_from (whole_of ls) 1 [] start ls) e ∙ no_fault i;
-        text = sym (ap (λ (ls : List Line). section_from (whole_of ls) sections.Text start ls) e ∙ text_bytes i);
-        static_data = sym (ap (λ (ls : List Line). section_from (whole_of ls) sections.Data start ls) e ∙ data_bytes i);
-        entry = sym (ap (λ (ls : List Line). environment (whole_of ls) (codes "_start")) e ∙ no_start i);
-        mark = sym (ap (mark_from 2) e ∙ no_mark i)
+      sound = ap (λ (ls : List Line). fault_from (whole_of ls) 1 [] start ls) e ∙ no_fault i;
+      text = sym (ap (λ (ls : List Line). section_from (whole_of ls) sections.Text start ls) e ∙ text_bytes i);
+      static_data = sym (ap (λ (ls : List Line). section_from (whole_of ls) sections.Data start ls) e ∙ data_bytes i);
+      entry = sym (ap (λ (ls : List Line). environment (whole_of ls) (codes "_start")) e ∙ no_start i);
+      mark = sym (ap (mark_from 2) e ∙ no_mark i);
     }

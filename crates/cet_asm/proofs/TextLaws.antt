@@ -1,23 +1,18 @@
 -- The text of each instruction is a line that states it.
-use Rattle.std.proofs.Common.{◌≡◌, ℕ, Bool, true, false, codes, ◌++◌, [], refl, ap, ◌∙◌}
+use Rattle.std.proofs.Common.{◌≡◌, true, false, codes, ◌++◌, [], refl, ap, ◌∙◌}
 use Rattle.cet_encode.specs.Names.{condition_name, operation_name}
 use Rattle.cet_encode.specs.Text as text
 use Rattle.cet_isa.specs.Spelled.{has_spelling, InstrFits}
 use Rattle.cet_isa.specs.declared.instructions.Instr.{Instr}
 use Rattle.cet_isa.specs.declared.instructions.Instr.TheVariants as instrs
-use Rattle.cet_isa.specs.declared.instructions.Mem.{Mem}
-use Rattle.cet_isa.specs.declared.instructions.Operand.{Operand}
-use Rattle.cet_isa.specs.declared.instructions.Operand.TheVariants as operands
-use Rattle.cet_isa.specs.declared.instructions.Reg.{Reg}
 use Rattle.cet_isa.specs.declared.instructions.Size.TheVariants as sizes
-use Rattle.cet_isa.specs.Spelled.{place_ok, mem_ok, OperandFits}
 use Rattle.cet_asm.specs.Tokens.{tokens}
 use Rattle.cet_asm.specs.Operands as asm
 use Rattle.cet_asm.specs.Mnemonics.{plain_mnemonic, mnemonic_of, locked_mnemonic, untracked_mnemonic}
-use Rattle.cet_asm.specs.Instructions.{no_uses, pair_instr, pair, two_operands, shift, register_instr, memory_instr, relative_instr, built}
-use Rattle.cet_asm.specs.Line.{Line, Code, instruction, begun, line_of}
+use Rattle.cet_asm.specs.Instructions.{no_uses, pair_instr, two_operands, shift, register_instr, memory_instr, relative_instr, built}
+use Rattle.cet_asm.specs.Line.{Code, instruction, begun, line_of}
 use Rattle.cet_asm.specs.declared.mnemonics.Mnemonic.TheVariants as words
-use Rattle.cet_asm.proofs.PieceTokens.{joined, onto_joined}
+use Rattle.cet_asm.proofs.PieceTokens.{onto_joined}
 use Rattle.cet_asm.proofs.InstructionTexts.{alu_code, test_code, mov_code, imul_code, lea_code, xchg_code, cmov_code, store_code, wide_code, zero_code, sign_code, shift_code, one_register_code, one_memory_code, place_code, push_code, relative_code, ret_code}
 use Rattle.cet_asm.proofs.LineTexts.{IsLine, alone_line, named_line, prefixed_line}
 use Rattle.cet_asm.proofs.MnemonicTexts as word

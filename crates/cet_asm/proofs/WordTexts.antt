@@ -1,5 +1,5 @@
 -- The words of registers, numbers and scales are read as what they name.
-use Rattle.std.proofs.Common.{◌≡◌, ℕ, ℤ, pos, negsuc, zero, suc, ◌<◌, ◌≤◌, ◌+◌, ◌*◌, ◌/◌, ◌%◌, ◌^◌, Bool, true, false, not, ◌&&◌, ◌||◌, cond, eqb, nat_lt, List, [], ◌∷◌, ◌++◌, codes, Option, Some, None, FitsSigned, w32, refl, sym, subst, ap, ◌∙◌, arith, lt-ltb}
+use Rattle.std.proofs.Common.{◌≡◌, ℕ, ℤ, pos, negsuc, zero, suc, ◌<◌, ◌/◌, ◌%◌, ◌^◌, Bool, true, false, ◌||◌, cond, eqb, List, [], ◌∷◌, ◌++◌, codes, Option, Some, None, FitsSigned, w32, refl, sym, subst, ap, arith, lt-ltb}
 use Rattle.std.specs.Fmt.{decimal, digits, digits_onto, digit_glyph}
 use Rattle.std.specs.List.{list_all}
 use Rattle.std.proofs.lemmas.Bool.{agree_below_at, eqb-true}
@@ -11,9 +11,9 @@ use Rattle.cet_isa.specs.declared.instructions.Reg.TheVariants as regs
 use Rattle.cet_isa.specs.declared.instructions.Size.{Size}
 use Rattle.cet_isa.specs.declared.instructions.Size.TheVariants as sizes
 use Rattle.cet_asm.specs.Tokens.{is_name_byte}
-use Rattle.cet_asm.specs.Words.{register_of, is_counter, is_pointer, Place, Number, signed, number_place, word_place, dword_holds, immediate_field, quad_field, unsigned_field}
-use Rattle.cet_asm.specs.Operands.{scale_of, Given, Register, Counter, Value, word_given}
-use Rattle.cet_asm.specs.Instructions.{Field, value_field, disp_field}
+use Rattle.cet_asm.specs.Words.{register_of, is_counter, is_pointer, Number, signed, number_place, word_place, dword_holds}
+use Rattle.cet_asm.specs.Operands.{scale_of, Register, Value, word_given}
+use Rattle.cet_asm.specs.Instructions.{Field, value_field}
 use Rattle.cet_asm.proofs.PieceTokens.{is_word}
 
 -- ---- registers
@@ -79,6 +79,7 @@ onto_names (suc k) n acc h = go (eqb (n / 16) 0) (onto_names k (n / 16) (digit_g
   where
     more : list_all is_name_byte (digit_glyph false (n % 16) ∷ acc) ≡ true
     more = rw (glyph (n % 16) (omega arith)) h
+
     go : (t : Bool) → (list_all is_name_byte (digit_glyph false (n % 16) ∷ acc) ≡ true → list_all is_name_byte (digits_onto k 16 false (n / 16) (digit_glyph false (n % 16) ∷ acc)) ≡ true)
         → list_all is_name_byte (cond t (digit_glyph false (n % 16) ∷ acc) (digits_onto k 16 false (n / 16) (digit_glyph false (n % 16) ∷ acc))) ≡ true
     go true ih = more
@@ -127,10 +128,13 @@ scale_word i s h = scales IsScale s one two four eight h
   where
     one : IsScale 1
     one = record { word = refl; same = refl }
+
     two : IsScale 2
     two = record { word = refl; same = refl }
+
     four : IsScale 4
     four = record { word = refl; same = refl }
+
     eight : IsScale 8
     eight = record { word = refl; same = refl }
 
