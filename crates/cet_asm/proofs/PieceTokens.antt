@@ -1,7 +1,7 @@
 -- A text made of pieces: its bytes, and its words and signs.
 use Rattle.std.proofs.Common.{◌≡◌, ℕ, ◌<◌, Bool, true, false, not, ◌&&◌, ◌||◌, eqb, nat_lt, nat_le, List, [], ◌∷◌, ◌++◌, refl, sym, ap, ◌∙◌, append_assoc, append-nil, arith}
 use Rattle.std.specs.List.{list_all}
-use Rattle.std.proofs.lemmas.Bool.{and_parts, agree_below_at}
+use Rattle.std.proofs.lemmas.Bool.{and_parts, agree_below, agree_below_at}
 use Rattle.cet_asm.specs.declared.classes.Class.TheVariants.{Solid, Letter, BeforeComment}
 use Rattle.cet_asm.specs.Tokens.{Token, Word, is_blank, is_sign, is_name_byte, in_class, begins_word, sign_token, onto_word, tokens}
 use Rattle.cet_encode.specs.Text as text
@@ -15,10 +15,6 @@ is_text_byte b = nat_lt b 128 && (not (eqb b 10) && in_class BeforeComment b)
 abbrev pub is_word : List ℕ → Bool
 is_word [] = false
 is_word (b ∷ w) = list_all is_name_byte (b ∷ w)
-
--- what holds of every byte of a word
-abbrev is_inner : ℕ → Bool
-is_inner b = in_class Letter b && (in_class Solid b && is_text_byte b)
 
 below : (b : ℕ) → is_name_byte b ≡ true → b < 123
 below b h = go (nat_le 48 b) (nat_le b 57) (nat_le 97 b) (nat_le b 122) (nat_le 65 b) (nat_le b 90) (eqb b 95) refl refl refl refl h
@@ -45,17 +41,22 @@ implied : (a b : Bool) → implies a b ≡ true → a ≡ true → b ≡ true
 implied true b h e = h
 implied false b h e = absurd cc
 
-inner_byte : (b : ℕ) → is_name_byte b ≡ true → is_inner b ≡ true
-inner_byte b h = implied (is_name_byte b) (is_inner b) (agree_below_at (λ b. implies (is_name_byte b) (is_inner b)) (λ _. true) 123 b refl (below b h)) h
+-- a test that all letters, digits and `_` pass, tried on each number below 123
+abbrev pub all_pass : (ℕ → Bool) → Bool
+all_pass p = agree_below (λ b. implies (is_name_byte b) (p b)) (λ _. true) 123
+
+pub name_passes : (p : ℕ → Bool) (b : ℕ) → all_pass p ≡ true → is_name_byte b ≡ true → p b ≡ true
+name_passes p b h k = implied (is_name_byte b) (p b) (agree_below_at (λ b. implies (is_name_byte b) (p b)) (λ _. true) 123 b h (below b k)) k
+
+pub names_pass : (p : ℕ → Bool) (w : List ℕ) → all_pass p ≡ true → list_all is_name_byte w ≡ true → list_all p w ≡ true
+names_pass p [] h k = refl
+names_pass p (b ∷ w) h k = let a = and_parts (is_name_byte b) (list_all is_name_byte w) k in rw (name_passes p b h a.0) (names_pass p w h a.1)
 
 pub name_letter : (b : ℕ) → is_name_byte b ≡ true → in_class Letter b ≡ true
-name_letter b h = (and_parts (in_class Letter b) (in_class Solid b && is_text_byte b) (inner_byte b h)).0
+name_letter b h = name_passes (in_class Letter) b refl h
 
 pub name_solid : (b : ℕ) → is_name_byte b ≡ true → in_class Solid b ≡ true
-name_solid b h = (and_parts (in_class Solid b) (is_text_byte b) (and_parts (in_class Letter b) (in_class Solid b && is_text_byte b) (inner_byte b h)).1).0
-
-pub name_text : (b : ℕ) → is_name_byte b ≡ true → is_text_byte b ≡ true
-name_text b h = (and_parts (in_class Solid b) (is_text_byte b) (and_parts (in_class Letter b) (in_class Solid b && is_text_byte b) (inner_byte b h)).1).1
+name_solid b h = name_passes (in_class Solid) b refl h
 
 -- ---- pieces after one another
 
@@ -133,10 +134,6 @@ all_append : (p : ℕ → Bool) (xs ys : List ℕ) → list_all p xs ≡ true �
 all_append p [] ys h k = k
 all_append p (x ∷ xs) ys h k = let a = and_parts (p x) (list_all p xs) h in rw a.0 (all_append p xs ys a.1 k)
 
-all_text : (w : List ℕ) → list_all is_name_byte w ≡ true → list_all is_text_byte w ≡ true
-all_text [] h = refl
-all_text (b ∷ w) h = let a = and_parts (is_name_byte b) (list_all is_name_byte w) h in rw (name_text b a.0) (all_text w a.1)
-
 -- a sign is one of six bytes
 sign_text : (b : ℕ) → is_sign b ≡ true → is_text_byte b ≡ true
 sign_text b h = implied (is_sign b) (is_text_byte b) (go (nat_lt b 94) refl) h
@@ -148,7 +145,7 @@ sign_text b h = implied (is_sign b) (is_text_byte b) (go (nat_lt b 94) refl) h
 pub joined_text : (ps : List text.Piece) → IsPlain ps → list_all is_text_byte (joined ps) ≡ true
 joined_text [] h = refl
 joined_text (text.Word [] ∷ ps) h = absurd (let e : false ≡ true = h.0 in cc)
-joined_text (text.Word (b ∷ w) ∷ ps) h = all_append is_text_byte (b ∷ w) (joined ps) (all_text (b ∷ w) h.0) (joined_text ps h.2)
+joined_text (text.Word (b ∷ w) ∷ ps) h = all_append is_text_byte (b ∷ w) (joined ps) (names_pass is_text_byte (b ∷ w) refl h.0) (joined_text ps h.2)
 joined_text (text.Sign b ∷ ps) h = rw (sign_text b h.0) (joined_text ps h.1)
 joined_text (text.Space ∷ ps) h = joined_text ps h
 
