@@ -39,7 +39,8 @@ tail_sign (pos zero) = refl
 tail_sign (pos (suc n)) = refl
 tail_sign (negsuc n) = refl
 
-joined_plain : (ps : List text.Piece) (d : ℤ) → IsPlain ps → IsPlain (text.Sign 91 ∷ ps ++ text.displacement false d ++ text.Sign 93 ∷ [])
+joined_plain : (ps : List text.Piece) (d : ℤ) → IsPlain ps
+    → IsPlain (text.Sign 91 ∷ ps ++ text.displacement false d ++ text.Sign 93 ∷ [])
 joined_plain ps d h = (
   refl,
   subst IsPlain (sym (append_assoc ps (text.displacement false d) (text.Sign 93 ∷ [])))
@@ -56,7 +57,8 @@ memory_plain bases.None None s d ok = (refl, plain_append (text.signed d) (text.
 memory_plain bases.Rip None s d ok = joined_plain (text.Word (codes "rip") ∷ []) d (refl, refl, tt)
 memory_plain bases.Rip (Some i) s d ok = absurd (let e : false ≡ true = ok in cc)
 memory_plain (bases.Reg b) None s d ok = joined_plain (text.register sizes.Qword b ∷ []) d (reg_is_word sizes.Qword b, refl, tt)
-memory_plain bases.None (Some i) s d ok = joined_plain (text.scaled i s) d (scaled_plain i s (scale_word i s (and_parts _ (scale_ok (Some i) s) ok).1))
+memory_plain bases.None (Some i) s d ok =
+    joined_plain (text.scaled i s) d (scaled_plain i s (scale_word i s (and_parts _ (scale_ok (Some i) s) ok).1))
 memory_plain (bases.Reg b) (Some i) s d ok =
     joined_plain (text.register sizes.Qword b ∷ text.Sign 43 ∷ text.scaled i s) d
     (reg_is_word sizes.Qword b, refl, (refl, scaled_plain i s (scale_word i s (and_parts _ (scale_ok (Some i) s) ok).1)))
@@ -107,15 +109,18 @@ pub stop_comma : (ts : List Token) → IsStop (Sign 44 ∷ ts)
 unfolding worded
 stop_comma ts w = refl
 
-register_stop : (size : Size) (r : Reg) (ts : List Token) → IsStop ts → given (Word (register_name size r) ∷ ts) ≡ Some (Register size r, ts)
+register_stop : (size : Size) (r : Reg) (ts : List Token) → IsStop ts
+    → given (Word (register_name size r) ∷ ts) ≡ Some (Register size r, ts)
 unfolding given
 register_stop size r ts stop = stop (register_name size r) ∙ ap (λ (o : Option Given). followed o ts) (register_given size r)
 
-number_stop : (n : ℕ) (ts : List Token) → IsStop ts → n < 2 ^ 64 → given (Word (hex n) ∷ ts) ≡ Some (Value (Number (Some (pos n))), ts)
+number_stop : (n : ℕ) (ts : List Token) → IsStop ts → n < 2 ^ 64
+    → given (Word (hex n) ∷ ts) ≡ Some (Value (Number (Some (pos n))), ts)
 unfolding given
 number_stop n ts stop l = stop (hex n) ∙ ap (λ (o : Option Given). followed o ts) (hex_given n l)
 
-negative_stop : (n : ℕ) (ts : List Token) → suc n < 2 ^ 64 → given (Minus ∷ Word (hex (suc n)) ∷ ts) ≡ Some (Value (Number (Some (negsuc n))), ts)
+negative_stop : (n : ℕ) (ts : List Token) → suc n < 2 ^ 64
+    → given (Minus ∷ Word (hex (suc n)) ∷ ts) ≡ Some (Value (Number (Some (negsuc n))), ts)
 unfolding given
 negative_stop n ts l = rw (hex_place true (suc n) l) refl
 
@@ -123,7 +128,8 @@ counter_stop : (ts : List Token) → IsStop ts → given (Word (codes "cl") ∷ 
 unfolding given word_given
 counter_stop ts stop = stop (codes "cl")
 
-bracketed : (m : Mem) (qs : List text.Piece) → FitsSigned w32 m.disp → mem_ok m ≡ true → given (tokens_of (text.memory m ++ qs)) ≡ Some (Memory (address_of m), tokens_of qs)
+bracketed : (m : Mem) (qs : List text.Piece) → FitsSigned w32 m.disp → mem_ok m ≡ true
+    → given (tokens_of (text.memory m ++ qs)) ≡ Some (Memory (address_of m), tokens_of qs)
 unfolding given
 bracketed m qs h ok = let r = memory_read m.base m.index m.scale m.disp qs h ok in rw (r.1, r.2) refl
 
@@ -145,11 +151,13 @@ operand_before size (operands.Mem m) qs h ok stop = bracketed m qs h ok
 operand_before size (operands.Imm (pos n)) qs h ok stop = number_stop n (tokens_of qs) stop (pos_small n h)
 operand_before size (operands.Imm (negsuc n)) qs h ok stop = negative_stop n (tokens_of qs) (neg_small n h)
 
-pub operand_last : (size : Size) (o : Operand) → OperandFits o → value_ok o ≡ true → given (tokens_of (text.operand size o)) ≡ Some (given_of size o, [])
+pub operand_last : (size : Size) (o : Operand) → OperandFits o → value_ok o ≡ true
+    → given (tokens_of (text.operand size o)) ≡ Some (given_of size o, [])
 operand_last size o h ok =
     ap (λ (ps : List text.Piece). given (tokens_of ps)) (sym (append-nil (text.operand size o))) ∙ operand_before size o [] h ok stop_end
 
-pub byte_last : (m : Mem) → FitsSigned w32 m.disp → mem_ok m ≡ true → given (tokens_of (text.named (codes "byte") (text.memory m))) ≡ Some (Byte (address_of m), [])
+pub byte_last : (m : Mem) → FitsSigned w32 m.disp → mem_ok m ≡ true
+    → given (tokens_of (text.named (codes "byte") (text.memory m))) ≡ Some (Byte (address_of m), [])
 byte_last m h ok =
     ap (λ (ps : List text.Piece). given (Word (codes "byte") ∷ tokens_of ps)) (sym (append-nil (text.memory m))) ∙ byte_bracketed m [] h ok
 
@@ -159,14 +167,16 @@ number_last n l = number_stop n [] stop_end l
 pub counter_last : given (tokens_of (text.Word (codes "cl") ∷ [])) ≡ Some (Counter, [])
 counter_last = counter_stop [] stop_end
 
-relative_last : (z : ℤ) → FitsSigned w32 z → given (tokens_of (text.named (codes "rel") (text.signed z))) ≡ Some (Relative (Some z), [])
+relative_last : (z : ℤ) → FitsSigned w32 z
+    → given (tokens_of (text.named (codes "rel") (text.signed z))) ≡ Some (Relative (Some z), [])
 unfolding given worded second_given minus_given
 relative_last (pos n) h = rw (hex_place false n (pos_small n h)) refl
 relative_last (negsuc n) h = rw (hex_place true (suc n) (neg_small n h)) refl
 
 -- ---- all operands
 
-operands_given : (ts : List Token) (g : Given) (rest : List Token) → given ts ≡ Some (g, rest) → asm.operands ts ≡ after_first g rest
+operands_given : (ts : List Token) (g : Given) (rest : List Token) → given ts ≡ Some (g, rest)
+    → asm.operands ts ≡ after_first g rest
 unfolding asm.operands given
 operands_given [] g rest e = absurd cc
 operands_given (t ∷ ts) g rest e = ap (λ (o : Option (Given × List Token)). o >>= (λ x. after_first x.0 x.1)) e
@@ -175,14 +185,17 @@ pub one_read : (ts : List Token) (g : Given) → given ts ≡ Some (g, []) → a
 unfolding after_first
 one_read ts g e = operands_given ts g [] e
 
-pub two_read : (ts us : List Token) (g h : Given) → given ts ≡ Some (g, Sign 44 ∷ us) → given us ≡ Some (h, []) → asm.operands ts ≡ Some (Two g h)
+pub two_read : (ts us : List Token) (g h : Given) → given ts ≡ Some (g, Sign 44 ∷ us) → given us ≡ Some (h, [])
+    → asm.operands ts ≡ Some (Two g h)
 unfolding after_first second
 two_read ts us g h e f = operands_given ts g (Sign 44 ∷ us) e ∙ (rw f refl)
 
-pub operand_read : (size : Size) (o : Operand) → OperandFits o → value_ok o ≡ true → asm.operands (tokens_of (text.operand size o)) ≡ Some (One (given_of size o))
+pub operand_read : (size : Size) (o : Operand) → OperandFits o → value_ok o ≡ true
+    → asm.operands (tokens_of (text.operand size o)) ≡ Some (One (given_of size o))
 operand_read size o h ok = one_read (tokens_of (text.operand size o)) (given_of size o) (operand_last size o h ok)
 
-pub relative_read : (z : ℤ) → FitsSigned w32 z → asm.operands (tokens_of (text.named (codes "rel") (text.signed z))) ≡ Some (One (Relative (Some z)))
+pub relative_read : (z : ℤ) → FitsSigned w32 z
+    → asm.operands (tokens_of (text.named (codes "rel") (text.signed z))) ≡ Some (One (Relative (Some z)))
 relative_read z h = one_read (tokens_of (text.named (codes "rel") (text.signed z))) (Relative (Some z)) (relative_last z h)
 
 -- two operands, the first of which is a register
@@ -198,13 +211,17 @@ first_given sizes.Dword (operands.Mem m) (operands.Imm n) = Dword (address_of m)
 first_given size dst src = given_of size dst
 
 first_before : (size : Size) (dst src : Operand) (ps : List text.Piece) → OperandFits dst → value_ok dst ≡ true
-    → given (tokens_of (text.size_word size dst src ++ text.pair (text.operand size dst) ps)) ≡ Some (first_given size dst src, Sign 44 ∷ tokens_of ps)
+    → given (tokens_of (text.size_word size dst src ++ text.pair (text.operand size dst) ps))
+    ≡ Some (first_given size dst src, Sign 44 ∷ tokens_of ps)
 first_before sizes.Dword (operands.Mem m) (operands.Imm n) ps h ok = dword_bracketed m (text.Sign 44 ∷ text.Space ∷ ps) h ok
 first_before sizes.Dword (operands.Mem m) (operands.Reg r) ps h ok = bracketed m (text.Sign 44 ∷ text.Space ∷ ps) h ok
 first_before sizes.Dword (operands.Mem m) (operands.Mem n) ps h ok = bracketed m (text.Sign 44 ∷ text.Space ∷ ps) h ok
-first_before sizes.Dword (operands.Reg r) src ps h ok = operand_before sizes.Dword (operands.Reg r) (text.Sign 44 ∷ text.Space ∷ ps) h ok (stop_comma (tokens_of ps))
-first_before sizes.Dword (operands.Imm n) src ps h ok = operand_before sizes.Dword (operands.Imm n) (text.Sign 44 ∷ text.Space ∷ ps) h ok (stop_comma (tokens_of ps))
-first_before sizes.Qword dst src ps h ok = operand_before sizes.Qword dst (text.Sign 44 ∷ text.Space ∷ ps) h ok (stop_comma (tokens_of ps))
+first_before sizes.Dword (operands.Reg r) src ps h ok =
+    operand_before sizes.Dword (operands.Reg r) (text.Sign 44 ∷ text.Space ∷ ps) h ok (stop_comma (tokens_of ps))
+first_before sizes.Dword (operands.Imm n) src ps h ok =
+    operand_before sizes.Dword (operands.Imm n) (text.Sign 44 ∷ text.Space ∷ ps) h ok (stop_comma (tokens_of ps))
+first_before sizes.Qword dst src ps h ok =
+    operand_before sizes.Qword dst (text.Sign 44 ∷ text.Space ∷ ps) h ok (stop_comma (tokens_of ps))
 
 pub pair_read : (size : Size) (dst src : Operand) → OperandFits dst → OperandFits src → value_ok dst ≡ true → value_ok src ≡ true
     → asm.operands (tokens_of (text.size_word size dst src ++ text.pair (text.operand size dst) (text.operand size src)))

@@ -40,9 +40,11 @@ pub record IsCode (m : Mnemonic) (ps : List text.Piece) (i : Instr) : Type 0 whe
 judged_clean : (i : Instr) → has_spelling i ≡ true → judged (clean_built i) ≡ Code i no_uses
 judged_clean i h = rw h refl
 
-pub code_from : (m : Mnemonic) (ps : List text.Piece) (o : Operands) (i : Instr) → IsPlain ps → asm.operands (tokens_of ps) ≡ Some o → built m o ≡ Some (clean_built i)
+pub code_from : (m : Mnemonic) (ps : List text.Piece) (o : Operands) (i : Instr) → IsPlain ps → asm.operands (tokens_of ps) ≡ Some o
+    → built m o ≡ Some (clean_built i)
     → has_spelling i ≡ true → IsCode m ps i
-code_from m ps o i p e f h = record { plain = p; same = ap (λ (x : Option Operands). stated (x >>= built m)) e ∙ (ap stated f ∙ judged_clean i h) }
+code_from m ps o i p e f h =
+    record { plain = p; same = ap (λ (x : Option Operands). stated (x >>= built m)) e ∙ (ap stated f ∙ judged_clean i h) }
 
 -- ---- two operands of one size
 
@@ -69,7 +71,8 @@ two_ok (operands.Mem m) (operands.Mem n) = false
 two_ok (operands.Mem m) src = true
 two_ok (operands.Imm n) src = false
 
-agree : (size : Size) (dst src : Operand) → two_ok dst src ≡ true → common_size (first_given size dst src) (given_of size src) ≡ Some size
+agree : (size : Size) (dst src : Operand) → two_ok dst src ≡ true
+    → common_size (first_given size dst src) (given_of size src) ≡ Some size
 unfolding common_size
 agree sizes.Dword (operands.Reg d) (operands.Reg r) h = refl
 agree sizes.Dword (operands.Reg d) (operands.Mem m) h = refl
@@ -90,7 +93,8 @@ record IsPair (dst src : Operand) : Type 0 where
   right : value_ok src ≡ true
   two : two_ok dst src ≡ true
 
-pair_built : (m : Mnemonic) (size : Size) (dst src : Operand) (i : Instr) → OperandFits dst → OperandFits src → two_ok dst src ≡ true
+pair_built : (m : Mnemonic) (size : Size) (dst src : Operand) (i : Instr) → OperandFits dst → OperandFits src
+    → two_ok dst src ≡ true
     → pair_instr m size dst src ≡ Some i → pair m (first_given size dst src) (given_of size src) ≡ Some (clean_built i)
 unfolding pair
 pair_built m size dst src i h k ok e = rw (agree size dst src ok, argument_first size dst src h, argument_read size src k, e) refl
@@ -100,8 +104,10 @@ pair_code : (m : Mnemonic) (size : Size) (dst src : Operand) (i : Instr) → Ope
     → pair_instr m size dst src ≡ Some i → has_spelling i ≡ true
     → IsCode m (text.size_word size dst src ++ text.pair (text.operand size dst) (text.operand size src)) i
 pair_code m size dst src i h k ok e f s =
-    code_from m (text.size_word size dst src ++ text.pair (text.operand size dst) (text.operand size src)) (Two (first_given size dst src) (given_of size src)) i
-    (size_plain size dst src _ (pair_plain (text.operand size dst) (text.operand size src) (operand_plain size dst ok.left) (operand_plain size src ok.right)))
+    code_from m (text.size_word size dst src ++ text.pair (text.operand size dst) (text.operand size src))
+    (Two (first_given size dst src) (given_of size src)) i
+    (size_plain size dst src _ (pair_plain (text.operand size dst) (text.operand size src)
+    (operand_plain size dst ok.left) (operand_plain size src ok.right)))
     (pair_read size dst src h k ok.left ok.right)
     (e ∙ pair_built m size dst src i h k ok.two f)
     s
@@ -159,7 +165,8 @@ two_pieces size dst src = text.size_word size dst src ++ text.pair (text.operand
 pub alu_code : (op : AluOp) (size : Size) (dst src : Operand) → OperandFits dst → OperandFits src → alu_ok op dst src ≡ true
     → IsCode (words.Alu op) (two_pieces size dst src) (instrs.Alu op size dst src)
 unfolding built two_operands pair_instr
-alu_code op size dst src h k ok = pair_code (words.Alu op) size dst src (instrs.Alu op size dst src) h k (alu_pair op dst src ok) refl refl ok
+alu_code op size dst src h k ok =
+    pair_code (words.Alu op) size dst src (instrs.Alu op size dst src) h k (alu_pair op dst src ok) refl refl ok
 
 pub test_code : (size : Size) (dst src : Operand) → OperandFits dst → OperandFits src → test_ok dst src ≡ true
     → IsCode words.Test (two_pieces size dst src) (instrs.Test size dst src)
@@ -187,22 +194,26 @@ mov_code size dst src h k ok =
 pub imul_code : (size : Size) (d : Reg) (src : Operand) → OperandFits src → place_ok src ≡ true
     → IsCode words.Imul (two_pieces size (operands.Reg d) src) (instrs.Imul size d src)
 unfolding built two_operands pair_instr
-imul_code size d src k ok = pair_code words.Imul size (operands.Reg d) src (instrs.Imul size d src) tt k (place_second d src ok) refl refl ok
+imul_code size d src k ok =
+    pair_code words.Imul size (operands.Reg d) src (instrs.Imul size d src) tt k (place_second d src ok) refl refl ok
 
 pub cmov_code : (c : Cond) (size : Size) (d : Reg) (src : Operand) → OperandFits src → place_ok src ≡ true
     → IsCode (words.Cmov c) (two_pieces size (operands.Reg d) src) (instrs.Cmov c size d src)
 unfolding built two_operands pair_instr
-cmov_code c size d src k ok = pair_code (words.Cmov c) size (operands.Reg d) src (instrs.Cmov c size d src) tt k (place_second d src ok) refl refl ok
+cmov_code c size d src k ok =
+    pair_code (words.Cmov c) size (operands.Reg d) src (instrs.Cmov c size d src) tt k (place_second d src ok) refl refl ok
 
 pub lea_code : (size : Size) (d : Reg) (m : Mem) → FitsSigned w32 m.disp → mem_ok m ≡ true
     → IsCode words.Lea (two_pieces size (operands.Reg d) (operands.Mem m)) (instrs.Lea size d m)
 unfolding built two_operands pair_instr
-lea_code size d m k ok = pair_code words.Lea size (operands.Reg d) (operands.Mem m) (instrs.Lea size d m) tt k (mem_second d m ok) refl refl ok
+lea_code size d m k ok =
+    pair_code words.Lea size (operands.Reg d) (operands.Mem m) (instrs.Lea size d m) tt k (mem_second d m ok) refl refl ok
 
 pub xchg_code : (dst : Operand) (r : Reg) → OperandFits dst → place_ok dst ≡ true
     → IsCode words.Xchg (two_pieces sizes.Qword dst (operands.Reg r)) (instrs.Xchg dst r)
 unfolding built two_operands pair_instr
-xchg_code dst r h ok = pair_code words.Xchg sizes.Qword dst (operands.Reg r) (instrs.Xchg dst r) h tt (place_first dst r ok) refl refl ok
+xchg_code dst r h ok =
+    pair_code words.Xchg sizes.Qword dst (operands.Reg r) (instrs.Xchg dst r) h tt (place_first dst r ok) refl refl ok
 
 -- memory, then a register of 64 bits
 pub store_code : (m : Mnemonic) (mem : Mem) (r : Reg) (i : Instr) → FitsSigned w32 mem.disp → mem_ok mem ≡ true
@@ -213,7 +224,8 @@ store_code m mem r i h ok e f s = pair_code m sizes.Qword (operands.Mem mem) (op
 
 -- ---- two operands of their own kinds
 
-register_pair_plain : (size : Size) (r : Reg) (ps : List text.Piece) → IsPlain ps → IsPlain (text.pair (text.register size r ∷ []) ps)
+register_pair_plain : (size : Size) (r : Reg) (ps : List text.Piece) → IsPlain ps
+    → IsPlain (text.pair (text.register size r ∷ []) ps)
 register_pair_plain size r ps h = (((register_word size r).word), refl, (refl, h))
 
 -- a register before another operand
@@ -221,18 +233,22 @@ register_code : (m : Mnemonic) (size : Size) (r : Reg) (ps : List text.Piece) (g
     → asm.given (tokens_of ps) ≡ Some (g, []) → built m (Two (Register size r) g) ≡ Some (clean_built i) → has_spelling i ≡ true
     → IsCode m (text.pair (text.register size r ∷ []) ps) i
 register_code m size r ps g i p e f h =
-    code_from m (text.pair (text.register size r ∷ []) ps) (Two (Register size r) g) i (register_pair_plain size r ps p) (after_register size r ps g e) f h
+    code_from m (text.pair (text.register size r ∷ []) ps) (Two (Register size r) g) i
+    (register_pair_plain size r ps p) (after_register size r ps g e) f h
 
-wide_built : (r : Reg) (n : ℕ) → n < 2 ^ 64 → built words.Movabs (Two (Register sizes.Qword r) (Value (Number (Some (pos n))))) ≡ Some (clean_built (instrs.MovWide r n))
+wide_built : (r : Reg) (n : ℕ) → n < 2 ^ 64
+    → built words.Movabs (Two (Register sizes.Qword r) (Value (Number (Some (pos n))))) ≡ Some (clean_built (instrs.MovWide r n))
 unfolding built two_operands wide_move
 wide_built r n h = rw (lt-ltb n (2 ^ 64) h) refl
 
-pub wide_code : (r : Reg) (n : ℕ) → n < 2 ^ 64 → IsCode words.Movabs (text.pair (text.register sizes.Qword r ∷ []) (text.number n ∷ [])) (instrs.MovWide r n)
+pub wide_code : (r : Reg) (n : ℕ) → n < 2 ^ 64
+    → IsCode words.Movabs (text.pair (text.register sizes.Qword r ∷ []) (text.number n ∷ [])) (instrs.MovWide r n)
 wide_code r n h =
     register_code words.Movabs sizes.Qword r (text.number n ∷ []) (Value (Number (Some (pos n)))) (instrs.MovWide r n)
     (hex_word n, refl, tt) (number_last n h) (wide_built r n h) refl
 
-zero_built : (r : Reg) (m : Mem) → FitsSigned w32 m.disp → built words.Movzx (Two (Register sizes.Qword r) (Byte (address_of m))) ≡ Some (clean_built (instrs.MovZero8 r m))
+zero_built : (r : Reg) (m : Mem) → FitsSigned w32 m.disp
+    → built words.Movzx (Two (Register sizes.Qword r) (Byte (address_of m))) ≡ Some (clean_built (instrs.MovZero8 r m))
 unfolding built two_operands zero_move
 zero_built r m h = rw (shown_sound (text.is_alone m.base m.index) m.disp h) refl
 
@@ -272,13 +288,15 @@ amount_last : (count : Count) → CountFits count → asm.given (tokens_of (text
 amount_last (counts.Number n) h = number_last n (omega (arith, h))
 amount_last counts.Cl h = counter_last
 
-shift_built : (m : Mnemonic) (size : Size) (r : Reg) (count : Count) (i : Instr) → CountFits count → shift_instr m size r count ≡ Some i
+shift_built : (m : Mnemonic) (size : Size) (r : Reg) (count : Count) (i : Instr) → CountFits count
+    → shift_instr m size r count ≡ Some i
     → shift m (Register size r) (amount_given count) ≡ Some (clean_built i)
 unfolding shift
 shift_built m size r (counts.Number n) i h e = rw (lt-ltb n 256 h, e) refl
 shift_built m size r counts.Cl i h e = rw e refl
 
-pub shift_code : (m : Mnemonic) (size : Size) (r : Reg) (count : Count) (i : Instr) → CountFits count → shift_instr m size r count ≡ Some i
+pub shift_code : (m : Mnemonic) (size : Size) (r : Reg) (count : Count) (i : Instr) → CountFits count
+    → shift_instr m size r count ≡ Some i
     → ((g h : Given) → built m (Two g h) ≡ shift m g h) → has_spelling i ≡ true
     → IsCode m (text.pair (text.register size r ∷ []) (text.amount count ∷ [])) i
 shift_code m size r count i h e f s =
@@ -287,36 +305,44 @@ shift_code m size r count i h e f s =
 
 -- ---- one operand
 
-one_code : (m : Mnemonic) (size : Size) (o : Operand) (i : Instr) → OperandFits o → value_ok o ≡ true → one_operand m (given_of size o) ≡ Some (clean_built i)
+one_code : (m : Mnemonic) (size : Size) (o : Operand) (i : Instr) → OperandFits o → value_ok o ≡ true
+    → one_operand m (given_of size o) ≡ Some (clean_built i)
     → has_spelling i ≡ true → IsCode m (text.operand size o) i
 unfolding built
-one_code m size o i h ok e s = code_from m (text.operand size o) (One (given_of size o)) i (operand_plain size o ok) (operand_read size o h ok) e s
+one_code m size o i h ok e s =
+    code_from m (text.operand size o) (One (given_of size o)) i (operand_plain size o ok) (operand_read size o h ok) e s
 
-register_built : (m : Mnemonic) (size : Size) (r : Reg) (i : Instr) → register_instr m size r ≡ Some i → one_operand m (Register size r) ≡ Some (clean_built i)
+register_built : (m : Mnemonic) (size : Size) (r : Reg) (i : Instr) → register_instr m size r ≡ Some i
+    → one_operand m (Register size r) ≡ Some (clean_built i)
 unfolding one_operand
 register_built m size r i e = rw e refl
 
-memory_built : (m : Mnemonic) (mem : Mem) (i : Instr) → FitsSigned w32 mem.disp → memory_instr m mem ≡ Some i → one_operand m (Memory (address_of mem)) ≡ Some (clean_built i)
+memory_built : (m : Mnemonic) (mem : Mem) (i : Instr) → FitsSigned w32 mem.disp → memory_instr m mem ≡ Some i
+    → one_operand m (Memory (address_of mem)) ≡ Some (clean_built i)
 unfolding one_operand
 memory_built m mem i h e = rw (shown_sound (text.is_alone mem.base mem.index) mem.disp h, e) refl
 
-pub one_register_code : (m : Mnemonic) (size : Size) (r : Reg) (i : Instr) → register_instr m size r ≡ Some i → has_spelling i ≡ true
+pub one_register_code : (m : Mnemonic) (size : Size) (r : Reg) (i : Instr) → register_instr m size r ≡ Some i
+    → has_spelling i ≡ true
     → IsCode m (text.operand size (operands.Reg r)) i
 one_register_code m size r i e s = one_code m size (operands.Reg r) i tt refl (register_built m size r i e) s
 
-pub one_memory_code : (m : Mnemonic) (mem : Mem) (i : Instr) → FitsSigned w32 mem.disp → mem_ok mem ≡ true → memory_instr m mem ≡ Some i → has_spelling i ≡ true
+pub one_memory_code : (m : Mnemonic) (mem : Mem) (i : Instr) → FitsSigned w32 mem.disp → mem_ok mem ≡ true
+    → memory_instr m mem ≡ Some i → has_spelling i ≡ true
     → IsCode m (text.operand sizes.Qword (operands.Mem mem)) i
 one_memory_code m mem i h ok e s = one_code m sizes.Qword (operands.Mem mem) i h ok (memory_built m mem i h e) s
 
 -- a register or memory
 pub place_code : (m : Mnemonic) (f : Operand → Instr) (o : Operand) → OperandFits o → place_ok o ≡ true
-    → ((r : Reg) → register_instr m sizes.Qword r ≡ Some (f (operands.Reg r))) → ((mem : Mem) → memory_instr m mem ≡ Some (f (operands.Mem mem)))
+    → ((r : Reg) → register_instr m sizes.Qword r ≡ Some (f (operands.Reg r)))
+    → ((mem : Mem) → memory_instr m mem ≡ Some (f (operands.Mem mem)))
     → has_spelling (f o) ≡ true → IsCode m (text.operand sizes.Qword o) (f o)
 place_code m f (operands.Reg r) h ok reg mem s = one_register_code m sizes.Qword r (f (operands.Reg r)) (reg r) s
 place_code m f (operands.Mem x) h ok reg mem s = one_memory_code m x (f (operands.Mem x)) h ok (mem x) s
 place_code m f (operands.Imm n) h ok reg mem s = absurd (let e : false ≡ true = ok in cc)
 
-push_built : (z : ℤ) → FitsSigned w32 z → one_operand words.Push (Value (Number (Some z))) ≡ Some (clean_built (instrs.Push (operands.Imm z)))
+push_built : (z : ℤ) → FitsSigned w32 z
+    → one_operand words.Push (Value (Number (Some z))) ≡ Some (clean_built (instrs.Push (operands.Imm z)))
 unfolding one_operand value_built
 push_built z h = rw (value_sound sizes.Qword z h) refl
 
@@ -324,9 +350,11 @@ pub push_code : (o : Operand) → OperandFits o → push_ok o ≡ true → IsCod
 unfolding register_instr memory_instr
 push_code (operands.Reg r) h ok = one_register_code words.Push sizes.Qword r (instrs.Push (operands.Reg r)) refl refl
 push_code (operands.Mem m) h ok = one_memory_code words.Push m (instrs.Push (operands.Mem m)) h ok refl ok
-push_code (operands.Imm z) h ok = one_code words.Push sizes.Qword (operands.Imm z) (instrs.Push (operands.Imm z)) h refl (push_built z h) refl
+push_code (operands.Imm z) h ok =
+    one_code words.Push sizes.Qword (operands.Imm z) (instrs.Push (operands.Imm z)) h refl (push_built z h) refl
 
-relative_built : (m : Mnemonic) (z : ℤ) (i : Instr) → FitsSigned w32 z → relative_instr m z ≡ Some i → one_operand m (Relative (Some z)) ≡ Some (clean_built i)
+relative_built : (m : Mnemonic) (z : ℤ) (i : Instr) → FitsSigned w32 z → relative_instr m z ≡ Some i
+    → one_operand m (Relative (Some z)) ≡ Some (clean_built i)
 unfolding one_operand
 relative_built m z i h e = rw (value_sound sizes.Qword z h, e) refl
 
@@ -334,7 +362,8 @@ pub relative_code : (m : Mnemonic) (z : ℤ) (i : Instr) → FitsSigned w32 z �
     → IsCode m (text.named (codes "rel") (text.signed z)) i
 unfolding built
 relative_code m z i h e s =
-    code_from m (text.named (codes "rel") (text.signed z)) (One (Relative (Some z))) i (relative_plain z) (relative_read z h) (relative_built m z i h e) s
+    code_from m (text.named (codes "rel") (text.signed z)) (One (Relative (Some z))) i
+    (relative_plain z) (relative_read z h) (relative_built m z i h e) s
 
 ret_built : (n : ℕ) → n < 2 ^ 16 → built words.Ret (One (Value (Number (Some (pos n))))) ≡ Some (clean_built (instrs.RetImm n))
 unfolding built one_operand value_built

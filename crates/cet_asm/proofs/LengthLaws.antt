@@ -27,7 +27,8 @@ present_length (Some p ∷ os) (c ∷ cells) = let h = present_length os cells i
 
 spelling_length : (f : Form) (rex opcode modrm : ℕ) (tail : List ℕ) → length (spelling f rex opcode modrm tail) ≤ 8 + length tail
 spelling_length f rex opcode modrm tail =
-    let h : length (present (places f (rex_with rex)) (cells_of f rex opcode modrm)) ≤ 8 = present_length (places f (rex_with rex)) (cells_of f rex opcode modrm) in
+    let h : length (present (places f (rex_with rex)) (cells_of f rex opcode modrm)) ≤ 8 =
+    present_length (places f (rex_with rex)) (cells_of f rex opcode modrm) in
     let e = length-append (present (places f (rex_with rex)) (cells_of f rex opcode modrm)) tail in
     omega (arith, h, e)
 
@@ -42,7 +43,9 @@ one_length : (z : ℤ) → length (one_byte z) ≤ 4
 one_length z = omega arith
 
 disp_length : (b : Reg) (d : ℤ) → length (disp_bytes b d) ≤ 4
-disp_length b d = choice 4 (needs_no_disp b d) [] (cond (fits_byte d) (one_byte d) (four_bytes d)) (omega arith) (choice 4 (fits_byte d) (one_byte d) (four_bytes d) (one_length d) (four_length d))
+disp_length b d =
+    choice 4 (needs_no_disp b d) [] (cond (fits_byte d) (one_byte d) (four_bytes d)) (omega arith)
+    (choice 4 (fits_byte d) (one_byte d) (four_bytes d) (one_length d) (four_length d))
 
 -- SIB and displacement
 abbrev IsShort : Coded → Type 0
@@ -70,7 +73,8 @@ operand_short (operands.Reg r) = (omega arith, omega arith)
 operand_short (operands.Mem m) = mem_short m.base m.index m.scale m.disp
 operand_short (operands.Imm n) = (omega arith, omega arith)
 
-rm_short : (f : Form) (wide : Size) (opcode reg : ℕ) (rm : Operand) (imm : List ℕ) → length imm ≤ 8 → length (with_rm f wide opcode reg rm imm) ≤ 21
+rm_short : (f : Form) (wide : Size) (opcode reg : ℕ) (rm : Operand) (imm : List ℕ) → length imm ≤ 8
+    → length (with_rm f wide opcode reg rm imm) ≤ 21
 rm_short f wide opcode reg rm imm h =
     let c = coded rm in
     let k = operand_short rm in
@@ -79,7 +83,8 @@ rm_short f wide opcode reg rm imm h =
     let l = spelling_length f (w_bit wide + 4 * (reg / 8) + c.extend) opcode (c.mode + 8 * (reg % 8)) (c.sib ++ (c.disp ++ imm)) in
     omega (arith, h, k.0, k.1, e, g, l)
 
-reg_short : (f : Form) (wide : Size) (opcode : ℕ) (r : Reg) (imm : List ℕ) → length imm ≤ 8 → length (with_reg f wide opcode r imm) ≤ 21
+reg_short : (f : Form) (wide : Size) (opcode : ℕ) (r : Reg) (imm : List ℕ) → length imm ≤ 8
+    → length (with_reg f wide opcode r imm) ≤ 21
 reg_short f wide opcode r imm h = let l = spelling_length f (w_bit wide + high r) (opcode + low r) 0 imm in omega (arith, h, l)
 
 alone_short : (f : Form) (opcode : ℕ) (imm : List ℕ) → length imm ≤ 8 → length (alone f opcode imm) ≤ 21
@@ -95,15 +100,19 @@ four : (z : ℤ) → length (four_bytes z) ≤ 8
 four z = omega arith
 
 alu_short : (op : AluOp) (size : Size) (dst src : Operand) → length (alu_spelling op size dst src) ≤ 21
-alu_short op size (operands.Reg d) (operands.Reg r) = rm_short row.alu_rm_reg size (0x01 + 8 * op_number op) (reg_number r) (operands.Reg d) [] none
+alu_short op size (operands.Reg d) (operands.Reg r) =
+    rm_short row.alu_rm_reg size (0x01 + 8 * op_number op) (reg_number r) (operands.Reg d) [] none
 alu_short op size (operands.Mem m) (operands.Reg r) = rm_short row.cmp_mem_reg size 0x39 (reg_number r) (operands.Mem m) [] none
-alu_short op size (operands.Reg d) (operands.Mem m) = rm_short row.alu_reg_rm size (0x03 + 8 * op_number op) (reg_number d) (operands.Mem m) [] none
+alu_short op size (operands.Reg d) (operands.Mem m) =
+    rm_short row.alu_reg_rm size (0x03 + 8 * op_number op) (reg_number d) (operands.Mem m) [] none
 alu_short op size (operands.Reg d) (operands.Imm n) =
-    choice 21 (fits_byte n) (with_rm row.alu_reg_imm8 size 0x83 (op_number op) (operands.Reg d) (one_byte n)) (with_rm row.alu_reg_imm32 size 0x81 (op_number op) (operands.Reg d) (four_bytes n))
+    choice 21 (fits_byte n) (with_rm row.alu_reg_imm8 size 0x83 (op_number op) (operands.Reg d) (one_byte n))
+    (with_rm row.alu_reg_imm32 size 0x81 (op_number op) (operands.Reg d) (four_bytes n))
     (rm_short row.alu_reg_imm8 size 0x83 (op_number op) (operands.Reg d) (one_byte n) (one n))
     (rm_short row.alu_reg_imm32 size 0x81 (op_number op) (operands.Reg d) (four_bytes n) (four n))
 alu_short op size (operands.Mem m) (operands.Imm n) =
-    choice 21 (fits_byte n) (with_rm row.cmp_mem_imm8 size 0x83 7 (operands.Mem m) (one_byte n)) (with_rm row.cmp_mem_imm32 size 0x81 7 (operands.Mem m) (four_bytes n))
+    choice 21 (fits_byte n) (with_rm row.cmp_mem_imm8 size 0x83 7 (operands.Mem m) (one_byte n))
+    (with_rm row.cmp_mem_imm32 size 0x81 7 (operands.Mem m) (four_bytes n))
     (rm_short row.cmp_mem_imm8 size 0x83 7 (operands.Mem m) (one_byte n) (one n))
     (rm_short row.cmp_mem_imm32 size 0x81 7 (operands.Mem m) (four_bytes n) (four n))
 alu_short op size dst src = omega arith
@@ -121,7 +130,8 @@ mov_short Dword (operands.Reg d) (operands.Imm n) = reg_short row.mov_reg_imm32 
 mov_short Qword dst (operands.Imm n) = rm_short row.mov_qword_rm_imm32 Qword 0xc7 0 dst (four_bytes n) (four n)
 mov_short size dst src = omega arith
 
-shift_short : (given in_cl : Form) (digit : ℕ) (size : Size) (r : Reg) (count : Count) → length (shift_spelling given in_cl digit size r count) ≤ 21
+shift_short : (given in_cl : Form) (digit : ℕ) (size : Size) (r : Reg) (count : Count)
+    → length (shift_spelling given in_cl digit size r count) ≤ 21
 shift_short given in_cl digit size r (counts.Number n) = rm_short given size 0xc1 digit (operands.Reg r) (n ∷ []) (omega arith)
 shift_short given in_cl digit size r counts.Cl = rm_short in_cl size 0xd3 digit (operands.Reg r) [] none
 
@@ -157,9 +167,11 @@ canonical_short (instrs.Push src) = push_short src
 canonical_short (instrs.Pop dst) = reg_short row.pop_reg Dword 0x58 dst [] none
 canonical_short instrs.Leave = alone_short row.leave 0xc9 [] none
 canonical_short (instrs.CallRel disp) = alone_short row.call_rel 0xe8 (four_bytes disp) (four disp)
-canonical_short (instrs.CallInd target notrack) = rm_short (if notrack then row.notrack_call_rm else row.call_rm) Dword 0xff 2 target [] none
+canonical_short (instrs.CallInd target notrack) =
+    rm_short (if notrack then row.notrack_call_rm else row.call_rm) Dword 0xff 2 target [] none
 canonical_short (instrs.JmpRel disp) = alone_short row.jmp_rel32 0xe9 (four_bytes disp) (four disp)
-canonical_short (instrs.JmpInd target notrack) = rm_short (if notrack then row.notrack_jmp_rm else row.jmp_rm) Dword 0xff 4 target [] none
+canonical_short (instrs.JmpInd target notrack) =
+    rm_short (if notrack then row.notrack_jmp_rm else row.jmp_rm) Dword 0xff 4 target [] none
 canonical_short (instrs.Jcc cond disp) = alone_short row.jcc_rel32 (0x80 + cond_number cond) (four_bytes disp) (four disp)
 canonical_short instrs.Ret = alone_short row.ret 0xc3 [] none
 canonical_short (instrs.RetImm bytes) = alone_short row.ret_imm16 0xc2 (to_le_bytes w16 bytes) (omega arith)

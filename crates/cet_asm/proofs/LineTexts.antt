@@ -21,7 +21,9 @@ use Rattle.cet_asm.proofs.InstructionTexts.{IsCode}
 
 ascii_at : (bs : List ℕ) → list_all is_text_byte bs ≡ true → (i : ℕ) → get_or bs i 0 < 128
 ascii_at [] h i = omega arith
-ascii_at (b ∷ bs) h zero = let a = and_parts (is_text_byte b) (list_all is_text_byte bs) h in ltb-true b 128 (and_parts (nat_lt b 128) (not (eqb b 10) && in_class BeforeComment b) a.0).0
+ascii_at (b ∷ bs) h zero =
+    let a = and_parts (is_text_byte b) (list_all is_text_byte bs) h in
+    ltb-true b 128 (and_parts (nat_lt b 128) (not (eqb b 10) && in_class BeforeComment b) a.0).0
 ascii_at (b ∷ bs) h (suc i) = ascii_at bs (and_parts (is_text_byte b) (list_all is_text_byte bs) h).1 i
 
 text_utf8 : (bs : List ℕ) → list_all is_text_byte bs ≡ true → is_utf8 bs ≡ true
@@ -37,7 +39,8 @@ no_comment (b ∷ bs) h =
 
 -- ---- the word at the front
 
-front_word : (c : Class) (w rest : List ℕ) → ((b : ℕ) → is_name_byte b ≡ true → in_class c b ≡ true) → list_all is_name_byte w ≡ true
+front_word : (c : Class) (w rest : List ℕ) → ((b : ℕ) → is_name_byte b ≡ true → in_class c b ≡ true)
+    → list_all is_name_byte w ≡ true
     → front c rest ≡ [] → behind c rest ≡ rest → (front c (w ++ rest) ≡ w) × (behind c (w ++ rest) ≡ rest)
 front_word c [] rest k h e f = (e, f)
 front_word c (b ∷ w) rest k h e f =
@@ -90,7 +93,8 @@ begun_by w rest h r =
     ∙ (ap (λ (s : List ℕ). begun s (behind Solid (w ++ rest))) n.0
     ∙ ap (begun w) n.1)
 
-line_text : (bs : List ℕ) → list_all is_text_byte bs ≡ true → first_label bs ≡ None → line_of bs ≡ (record { labels = []; statement = statement_of bs })
+line_text : (bs : List ℕ) → list_all is_text_byte bs ≡ true → first_label bs ≡ None
+    → line_of bs ≡ (record { labels = []; statement = statement_of bs })
 unfolding line_of
 line_text bs h e = rw (text_utf8 bs h, no_comment bs h, label_none bs (sym e), after_none bs (sym e)) refl
 
@@ -101,11 +105,14 @@ pub record IsLine (ps : List text.Piece) (i : Instr) : Type 0 where
   pub plain : IsPlain ps
   pub same : line_of (joined ps) ≡ (record { labels = []; statement = Code i no_uses })
 
-line_from : (w : List ℕ) (ps : List text.Piece) (i : Instr) → IsPlain (text.Word w ∷ ps) → IsRest (joined ps) → begun w (joined ps) ≡ Code i no_uses → IsLine (text.Word w ∷ ps) i
+line_from : (w : List ℕ) (ps : List text.Piece) (i : Instr) → IsPlain (text.Word w ∷ ps) → IsRest (joined ps)
+    → begun w (joined ps) ≡ Code i no_uses → IsLine (text.Word w ∷ ps) i
 line_from w ps i p r e =
     let h = joined_text (text.Word w ∷ ps) p in
-    let l : line_of (w ++ joined ps) ≡ (record { labels = []; statement = statement_of (w ++ joined ps) }) = line_text (w ++ joined ps) h (no_label w (joined ps) p.0 r) in
-    record { plain = p; same = l ∙ ap (λ (s : Statement). let k : Line = record { labels = []; statement = s } in k) (begun_by w (joined ps) p.0 r ∙ e) }
+    let l : line_of (w ++ joined ps) ≡ (record { labels = []; statement = statement_of (w ++ joined ps) }) =
+    line_text (w ++ joined ps) h (no_label w (joined ps) p.0 r) in
+    let f : Statement → Line = λ s. record { labels = []; statement = s } in
+    record { plain = p; same = l ∙ ap f (begun_by w (joined ps) p.0 r ∙ e) }
 
 -- a mnemonic that stands alone
 pub alone_line : (w : List ℕ) (i : Instr) → is_word w ≡ true → begun w [] ≡ Code i no_uses → IsLine (text.Word w ∷ []) i
@@ -116,16 +123,22 @@ pub record IsMnemonic (w : List ℕ) (m : Mnemonic) : Type 0 where
   pub word : is_word w ≡ true
   pub begins : (bytes : List ℕ) → begun w bytes ≡ instruction (Some m) bytes
 
-stated_by : (m : Mnemonic) (ps : List text.Piece) (i : Instr) → IsCode m ps i → instruction (Some m) (joined (text.Space ∷ ps)) ≡ Code i no_uses
+stated_by : (m : Mnemonic) (ps : List text.Piece) (i : Instr) → IsCode m ps i
+    → instruction (Some m) (joined (text.Space ∷ ps)) ≡ Code i no_uses
 unfolding instruction
-stated_by m ps i c = ap (λ (ts : List Token). stated (asm.operands ts >>= built m)) (tokens_joined (text.Space ∷ ps) c.plain) ∙ c.same
+stated_by m ps i c =
+    ap (λ (ts : List Token). stated (asm.operands ts >>= built m)) (tokens_joined (text.Space ∷ ps) c.plain) ∙ c.same
 
-pub named_line : (w : List ℕ) (m : Mnemonic) (ps : List text.Piece) (i : Instr) → IsMnemonic w m → IsCode m ps i → IsLine (text.named w ps) i
-named_line w m ps i n c =
-    line_from w (text.Space ∷ ps) i (n.word, refl, c.plain) (rest_blank (joined ps)) (n.begins (joined (text.Space ∷ ps)) ∙ stated_by m ps i c)
+pub named_line : {w : List ℕ} {m : Mnemonic} {ps : List text.Piece} {i : Instr} → IsMnemonic w m → IsCode m ps i
+    → IsLine (text.named w ps) i
+named_line {w} {m} {ps} {i} n c =
+    line_from w (text.Space ∷ ps) i (n.word, refl, c.plain) (rest_blank (joined ps))
+    (n.begins (joined (text.Space ∷ ps)) ∙ stated_by m ps i c)
 
 -- a mnemonic after `lock` or `notrack`
 pub prefixed_line : (p w : List ℕ) (m : Mnemonic) (ps : List text.Piece) (i : Instr) → is_word p ≡ true → is_word w ≡ true
-    → begun p (32 ∷ (w ++ joined (text.Space ∷ ps))) ≡ instruction (Some m) (joined (text.Space ∷ ps)) → IsCode m ps i → IsLine (text.named p (text.named w ps)) i
+    → begun p (32 ∷ (w ++ joined (text.Space ∷ ps))) ≡ instruction (Some m) (joined (text.Space ∷ ps))
+    → IsCode m ps i → IsLine (text.named p (text.named w ps)) i
 prefixed_line p w m ps i h k e c =
-    line_from p (text.Space ∷ text.named w ps) i (h, refl, (k, refl, c.plain)) (rest_blank (w ++ joined (text.Space ∷ ps))) (e ∙ stated_by m ps i c)
+    line_from p (text.Space ∷ text.named w ps) i (h, refl, (k, refl, c.plain))
+    (rest_blank (w ++ joined (text.Space ∷ ps))) (e ∙ stated_by m ps i c)

@@ -22,7 +22,8 @@ use Rattle.cet_asm.proofs.WordTexts.{register_word, IsScale, scale_word, hex, he
 Parsed : Type 0
 Parsed = Option (Address × List Token)
 
-part_register : (a : Address) (r : Reg) (ts : List Token) → starred ts ≡ None → part a (Word (register_name sizes.Qword r) ∷ ts) ≡ after (with_register a r) ts
+part_register : (a : Address) (r : Reg) (ts : List Token) → starred ts ≡ None
+    → part a (Word (register_name sizes.Qword r) ∷ ts) ≡ after (with_register a r) ts
 unfolding part word_part
 part_register a r ts h = let w = register_word sizes.Qword r in rw (h, w.pointer, w.same) refl
 
@@ -48,6 +49,14 @@ part_negative a n ts l = rw (hex_place true (suc n) l) refl
 more_part : (a : Address) (ts : List Token) → more a (Sign 43 ∷ ts) ≡ part a ts
 unfolding more joined
 more_part a ts = refl
+
+more_number : (a : Address) (n : ℕ) (ts : List Token) → starred ts ≡ None → n < 2 ^ 64
+    → more a (Sign 43 ∷ Word (hex n) ∷ ts) ≡ after (with_place a (Some (Number (Some (pos n))))) ts
+more_number a n ts h l = more_part a (Word (hex n) ∷ ts) ∙ part_number a n ts h l
+
+more_scaled : (a : Address) (r : Reg) (s : ℕ) (ts : List Token) → IsScale s
+    → more a (Sign 43 ∷ Word (register_name sizes.Qword r) ∷ Sign 42 ∷ Word (decimal s) ∷ ts) ≡ after (with_index a r s) ts
+more_scaled a r s ts h = more_part a (Word (register_name sizes.Qword r) ∷ Sign 42 ∷ Word (decimal s) ∷ ts) ∙ part_scaled a r s ts h
 
 more_end : (a : Address) (ts : List Token) → more a (Sign 93 ∷ ts) ≡ Some (a, Sign 93 ∷ ts)
 unfolding more
@@ -95,26 +104,42 @@ IsRead base index scale d qs =
 -- without an index, whose scale is 1
 read_plain : (base : Base) (d : ℤ) (qs : List text.Piece) → FitsSigned w32 d → IsRead base None 1 d qs
 unfolding text.memory
-read_plain bases.None (pos n) qs h = (_, refl, memory_parts _ _ _ _ _ (part_number _ n _ refl (pos_small n h)) (more_end _ _) (more_end _ _) refl)
-read_plain bases.None (negsuc n) qs h = (_, refl, memory_parts _ _ _ _ _ (part_negative _ n _ (neg_small n h)) (more_end _ _) (more_end _ _) refl)
+read_plain bases.None (pos n) qs h =
+    (_, refl, memory_parts _ _ _ _ _ (part_number _ n _ refl (pos_small n h)) (more_end _ _) (more_end _ _) refl)
+read_plain bases.None (negsuc n) qs h =
+    (_, refl, memory_parts _ _ _ _ _ (part_negative _ n _ (neg_small n h)) (more_end _ _) (more_end _ _) refl)
 read_plain bases.Rip (pos zero) qs h = (_, refl, memory_parts _ _ _ _ _ (part_pointer _ _ refl) (more_end _ _) (more_end _ _) refl)
-read_plain bases.Rip (pos (suc n)) qs h = (_, refl, memory_parts _ _ _ _ _ (part_pointer _ _ refl) (more_part _ _ ∙ part_number _ (suc n) _ refl (pos_small (suc n) h)) (more_end _ _) refl)
-read_plain bases.Rip (negsuc n) qs h = (_, refl, memory_parts _ _ _ _ _ (part_pointer _ _ refl) (more_taken _ n _ (neg_small n h)) (more_end _ _) refl)
-read_plain (bases.Reg b) (pos zero) qs h = (_, refl, memory_parts _ _ _ _ _ (part_register _ b _ refl) (more_end _ _) (more_end _ _) refl)
-read_plain (bases.Reg b) (pos (suc n)) qs h = (_, refl, memory_parts _ _ _ _ _ (part_register _ b _ refl) (more_part _ _ ∙ part_number _ (suc n) _ refl (pos_small (suc n) h)) (more_end _ _) refl)
-read_plain (bases.Reg b) (negsuc n) qs h = (_, refl, memory_parts _ _ _ _ _ (part_register _ b _ refl) (more_taken _ n _ (neg_small n h)) (more_end _ _) refl)
+read_plain bases.Rip (pos (suc n)) qs h =
+    (_, refl, memory_parts _ _ _ _ _ (part_pointer _ _ refl) (more_number _ (suc n) _ refl (pos_small (suc n) h)) (more_end _ _) refl)
+read_plain bases.Rip (negsuc n) qs h =
+    (_, refl, memory_parts _ _ _ _ _ (part_pointer _ _ refl) (more_taken _ n _ (neg_small n h)) (more_end _ _) refl)
+read_plain (bases.Reg b) (pos zero) qs h =
+    (_, refl, memory_parts _ _ _ _ _ (part_register _ b _ refl) (more_end _ _) (more_end _ _) refl)
+read_plain (bases.Reg b) (pos (suc n)) qs h =
+    (_, refl, memory_parts _ _ _ _ _ (part_register _ b _ refl) (more_number _ (suc n) _ refl (pos_small (suc n) h)) (more_end _ _) refl)
+read_plain (bases.Reg b) (negsuc n) qs h =
+    (_, refl, memory_parts _ _ _ _ _ (part_register _ b _ refl) (more_taken _ n _ (neg_small n h)) (more_end _ _) refl)
 
 read_index : (i : Reg) (s : ℕ) (d : ℤ) (qs : List text.Piece) → FitsSigned w32 d → IsScale s → IsRead bases.None (Some i) s d qs
 unfolding text.memory
 read_index i s (pos zero) qs h k = (_, refl, memory_parts _ _ _ _ _ (part_scaled _ i s _ k) (more_end _ _) (more_end _ _) refl)
-read_index i s (pos (suc n)) qs h k = (_, refl, memory_parts _ _ _ _ _ (part_scaled _ i s _ k) (more_part _ _ ∙ part_number _ (suc n) _ refl (pos_small (suc n) h)) (more_end _ _) refl)
-read_index i s (negsuc n) qs h k = (_, refl, memory_parts _ _ _ _ _ (part_scaled _ i s _ k) (more_taken _ n _ (neg_small n h)) (more_end _ _) refl)
+read_index i s (pos (suc n)) qs h k =
+    (_, refl, memory_parts _ _ _ _ _ (part_scaled _ i s _ k) (more_number _ (suc n) _ refl (pos_small (suc n) h)) (more_end _ _) refl)
+read_index i s (negsuc n) qs h k =
+    (_, refl, memory_parts _ _ _ _ _ (part_scaled _ i s _ k) (more_taken _ n _ (neg_small n h)) (more_end _ _) refl)
 
 read_both : (b i : Reg) (s : ℕ) (d : ℤ) (qs : List text.Piece) → FitsSigned w32 d → IsScale s → IsRead (bases.Reg b) (Some i) s d qs
 unfolding text.memory
-read_both b i s (pos zero) qs h k = (_, refl, memory_parts _ _ _ _ _ (part_register _ b _ refl) (more_part _ _ ∙ part_scaled _ i s _ k) (more_end _ _) refl)
-read_both b i s (pos (suc n)) qs h k = (_, refl, memory_parts _ _ _ _ _ (part_register _ b _ refl) (more_part _ _ ∙ part_scaled _ i s _ k) (more_part _ _ ∙ part_number _ (suc n) _ refl (pos_small (suc n) h)) refl)
-read_both b i s (negsuc n) qs h k = (_, refl, memory_parts _ _ _ _ _ (part_register _ b _ refl) (more_part _ _ ∙ part_scaled _ i s _ k) (more_taken _ n _ (neg_small n h)) refl)
+read_both b i s (pos zero) qs h k =
+    (_, refl, memory_parts _ _ _ _ _ (part_register _ b _ refl) (more_scaled _ i s _ k) (more_end _ _) refl)
+read_both b i s (pos (suc n)) qs h k = (
+  _,
+  refl,
+  memory_parts _ _ _ _ _ (part_register _ b _ refl) (more_scaled _ i s _ k)
+      (more_number _ (suc n) _ refl (pos_small (suc n) h)) refl,
+)
+read_both b i s (negsuc n) qs h k =
+    (_, refl, memory_parts _ _ _ _ _ (part_register _ b _ refl) (more_scaled _ i s _ k) (more_taken _ n _ (neg_small n h)) refl)
 
 read_one : (base : Base) (s : ℕ) (d : ℤ) (qs : List text.Piece) → FitsSigned w32 d → eqb s 1 ≡ true → IsRead base None s d qs
 read_one base s d qs h e = subst (λ k. IsRead base None k d qs) (sym (eqb-true s 1 e)) (read_plain base d qs h)
@@ -122,7 +147,8 @@ read_one base s d qs h e = subst (λ k. IsRead base None k d qs) (sym (eqb-true 
 scale_part : (i : Reg) (s : ℕ) (t : Bool) → (t && scale_ok (Some i) s) ≡ true → IsScale s
 scale_part i s t h = scale_word i s (and_parts t (scale_ok (Some i) s) h).1
 
-pub memory_read : (base : Base) (index : Option Reg) (s : ℕ) (d : ℤ) (qs : List text.Piece) → FitsSigned w32 d → address_ok base index s ≡ true → IsRead base index s d qs
+pub memory_read : (base : Base) (index : Option Reg) (s : ℕ) (d : ℤ) (qs : List text.Piece) → FitsSigned w32 d
+    → address_ok base index s ≡ true → IsRead base index s d qs
 memory_read bases.None None s d qs h ok = read_one bases.None s d qs h ok
 memory_read bases.Rip None s d qs h ok = read_one bases.Rip s d qs h ok
 memory_read bases.Rip (Some i) s d qs h ok = absurd (let e : false ≡ true = ok in cc)

@@ -46,11 +46,13 @@ abbrev pub all_pass : (ℕ → Bool) → Bool
 all_pass p = agree_below (λ b. implies (is_name_byte b) (p b)) (λ _. true) 123
 
 pub name_passes : (p : ℕ → Bool) (b : ℕ) → all_pass p ≡ true → is_name_byte b ≡ true → p b ≡ true
-name_passes p b h k = implied (is_name_byte b) (p b) (agree_below_at (λ b. implies (is_name_byte b) (p b)) (λ _. true) 123 b h (below b k)) k
+name_passes p b h k =
+    implied (is_name_byte b) (p b) (agree_below_at (λ b. implies (is_name_byte b) (p b)) (λ _. true) 123 b h (below b k)) k
 
 pub names_pass : (p : ℕ → Bool) (w : List ℕ) → all_pass p ≡ true → list_all is_name_byte w ≡ true → list_all p w ≡ true
 names_pass p [] h k = refl
-names_pass p (b ∷ w) h k = let a = and_parts (is_name_byte b) (list_all is_name_byte w) k in rw (name_passes p b h a.0) (names_pass p w h a.1)
+names_pass p (b ∷ w) h k =
+    let a = and_parts (is_name_byte b) (list_all is_name_byte w) k in rw (name_passes p b h a.0) (names_pass p w h a.1)
 
 pub name_letter : (b : ℕ) → is_name_byte b ≡ true → in_class Letter b ≡ true
 name_letter b h = name_passes (in_class Letter) b refl h
@@ -105,7 +107,8 @@ begins_same (text.Word (b ∷ w) ∷ ps) h = name_letter b (and_parts (is_name_b
 begins_same (text.Sign b ∷ ps) h = sign_is b h.0
 begins_same (text.Space ∷ ps) h = refl
 
-word_tokens : (b : ℕ) (w rest : List ℕ) → list_all is_name_byte (b ∷ w) ≡ true → begins_word rest ≡ false → tokens (b ∷ (w ++ rest)) ≡ Word (b ∷ w) ∷ tokens rest
+word_tokens : (b : ℕ) (w rest : List ℕ) → list_all is_name_byte (b ∷ w) ≡ true → begins_word rest ≡ false
+    → tokens (b ∷ (w ++ rest)) ≡ Word (b ∷ w) ∷ tokens rest
 unfolding tokens
 word_tokens b [] rest h stop =
     let a = and_parts (is_name_byte b) (list_all is_name_byte []) h in
@@ -123,7 +126,8 @@ unfolding tokens
 tokens_joined [] h = refl
 tokens_joined (text.Space ∷ ps) h = tokens_joined ps h
 tokens_joined (text.Sign b ∷ ps) h =
-    rw h.0 (ap (λ (t : Bool). sign_token b t ∷ tokens (joined ps)) (begins_same ps h.1) ∙ ap (λ (k : List Token). sign_token b (begins ps) ∷ k) (tokens_joined ps h.1))
+    rw h.0 (ap (λ (t : Bool). sign_token b t ∷ tokens (joined ps)) (begins_same ps h.1)
+    ∙ ap (λ (k : List Token). sign_token b (begins ps) ∷ k) (tokens_joined ps h.1))
 tokens_joined (text.Word [] ∷ ps) h = absurd (let e : false ≡ true = h.0 in cc)
 tokens_joined (text.Word (b ∷ w) ∷ ps) h =
     word_tokens b w (joined ps) h.0 (begins_same ps h.2 ∙ h.1) ∙ ap (λ (k : List Token). Word (b ∷ w) ∷ k) (tokens_joined ps h.2)
@@ -145,7 +149,8 @@ sign_text b h = implied (is_sign b) (is_text_byte b) (go (nat_lt b 94) refl) h
 pub joined_text : (ps : List text.Piece) → IsPlain ps → list_all is_text_byte (joined ps) ≡ true
 joined_text [] h = refl
 joined_text (text.Word [] ∷ ps) h = absurd (let e : false ≡ true = h.0 in cc)
-joined_text (text.Word (b ∷ w) ∷ ps) h = all_append is_text_byte (b ∷ w) (joined ps) (names_pass is_text_byte (b ∷ w) refl h.0) (joined_text ps h.2)
+joined_text (text.Word (b ∷ w) ∷ ps) h =
+    all_append is_text_byte (b ∷ w) (joined ps) (names_pass is_text_byte (b ∷ w) refl h.0) (joined_text ps h.2)
 joined_text (text.Sign b ∷ ps) h = rw (sign_text b h.0) (joined_text ps h.1)
 joined_text (text.Space ∷ ps) h = joined_text ps h
 

@@ -29,7 +29,8 @@ small n h = omega (arith, h)
 
 fits_program : (i : Instr) → is_too_long start (Code i no_uses) ≡ false
 unfolding is_too_long size_of filled
-fits_program i = ap not (le-leb (round_up (0 + length (canonical_spelling i)) + 0) 4190208 (small (length (canonical_spelling i)) (canonical_short i)))
+fits_program i =
+    ap not (le-leb (round_up (0 + length (canonical_spelling i)) + 0) 4190208 (small (length (canonical_spelling i)) (canonical_short i)))
 
 no_fault : (i : Instr) → fault_from (whole_of (line i ∷ [])) 1 [] start (line i ∷ []) ≡ None
 unfolding broken_at knows_all is_in_reach
@@ -60,13 +61,15 @@ not_end [] h = All-nil (λ (b : ℕ). eqb b 10 ≡ false)
 not_end (b ∷ bs) h =
     let a = and_parts (is_text_byte b) (list_all is_text_byte bs) h in
     let c = and_parts (nat_lt b 128) (not (eqb b 10) && in_class BeforeComment b) a.0 in
-    All-cons (λ (b : ℕ). eqb b 10 ≡ false) b bs (negated (eqb b 10) (and_parts (not (eqb b 10)) (in_class BeforeComment b) c.1).0) (not_end bs a.1)
+    All-cons (λ (b : ℕ). eqb b 10 ≡ false) b bs
+    (negated (eqb b 10) (and_parts (not (eqb b 10)) (in_class BeforeComment b) c.1).0) (not_end bs a.1)
 
 one_line : (i : Instr) → InstrFits i → has_spelling i ≡ true → lines_of (text.text_of i) ≡ line i ∷ []
 one_line i fits ok =
     let l = pieces_line i fits ok in
     ap lines_of (onto_joined [] (text.pieces i))
-    ∙ (ap (map line_of) (slice_split_none (λ b. eqb b 10) (joined (text.pieces i)) (not_end (joined (text.pieces i)) (joined_text (text.pieces i) l.plain)))
+    ∙ (ap (map line_of) (slice_split_none (λ b. eqb b 10) (joined (text.pieces i))
+    (not_end (joined (text.pieces i)) (joined_text (text.pieces i) l.plain)))
     ∙ ap (λ (x : Line). x ∷ []) l.same)
 
 pub program_text_of : (i : Instr) → InstrFits i → has_spelling i ≡ true

@@ -1,6 +1,5 @@
 -- The text of each instruction is a line that states it.
-use Rattle.std.proofs.Common.{◌≡◌, true, false, codes, ◌++◌, [], refl, ap, ◌∙◌}
-use Rattle.cet_encode.specs.Names.{condition_name, operation_name}
+use Rattle.std.proofs.Common.{◌≡◌, true, false, codes, [], refl, ap, ◌∙◌}
 use Rattle.cet_encode.specs.Text as text
 use Rattle.cet_isa.specs.Spelled.{has_spelling, InstrFits}
 use Rattle.cet_isa.specs.declared.instructions.Instr.{Instr}
@@ -18,38 +17,52 @@ use Rattle.cet_asm.proofs.LineTexts.{IsLine, alone_line, named_line, prefixed_li
 use Rattle.cet_asm.proofs.MnemonicTexts as word
 
 pub pieces_line : (i : Instr) → InstrFits i → has_spelling i ≡ true → IsLine (text.pieces i) i
-unfolding text.pieces begun instruction mnemonic_of plain_mnemonic locked_mnemonic untracked_mnemonic tokens asm.operands built two_operands shift pair_instr register_instr memory_instr relative_instr
-pieces_line (instrs.Alu op size dst src) fits ok = named_line (operation_name op) (words.Alu op) _ (instrs.Alu op size dst src) (word.operation_word op) (alu_code op size dst src fits.0 fits.1 ok)
-pieces_line (instrs.Test size dst src) fits ok = named_line (codes "test") words.Test _ (instrs.Test size dst src) word.test_word (test_code size dst src fits.0 fits.1 ok)
-pieces_line (instrs.Mov size dst src) fits ok = named_line (codes "mov") words.Mov _ (instrs.Mov size dst src) word.mov_word (mov_code size dst src fits.0 fits.1 ok)
-pieces_line (instrs.MovWide dst value) fits ok = named_line (codes "movabs") words.Movabs _ (instrs.MovWide dst value) word.movabs_word (wide_code dst value fits)
-pieces_line (instrs.MovZero8 dst src) fits ok = named_line (codes "movzx") words.Movzx _ (instrs.MovZero8 dst src) word.movzx_word (zero_code dst src fits ok)
-pieces_line (instrs.MovSign32 dst src) fits ok = named_line (codes "movsxd") words.Movsxd _ (instrs.MovSign32 dst src) word.movsxd_word (sign_code dst src fits ok)
-pieces_line (instrs.Lea size dst src) fits ok = named_line (codes "lea") words.Lea _ (instrs.Lea size dst src) word.lea_word (lea_code size dst src fits ok)
-pieces_line (instrs.Xchg dst reg) fits ok = named_line (codes "xchg") words.Xchg _ (instrs.Xchg dst reg) word.xchg_word (xchg_code dst reg fits ok)
-pieces_line (instrs.LockXadd mem reg) fits ok = prefixed_line (codes "lock") (codes "xadd") words.Xadd _ (instrs.LockXadd mem reg) refl refl refl (store_code words.Xadd mem reg (instrs.LockXadd mem reg) fits ok refl refl ok)
-pieces_line (instrs.LockCmpxchg mem reg) fits ok = prefixed_line (codes "lock") (codes "cmpxchg") words.Cmpxchg _ (instrs.LockCmpxchg mem reg) refl refl refl (store_code words.Cmpxchg mem reg (instrs.LockCmpxchg mem reg) fits ok refl refl ok)
-pieces_line (instrs.Inc size reg) fits ok = named_line (codes "inc") words.Inc _ (instrs.Inc size reg) word.inc_word (one_register_code words.Inc size reg (instrs.Inc size reg) refl refl)
-pieces_line (instrs.Dec size reg) fits ok = named_line (codes "dec") words.Dec _ (instrs.Dec size reg) word.dec_word (one_register_code words.Dec size reg (instrs.Dec size reg) refl refl)
-pieces_line (instrs.Not size reg) fits ok = named_line (codes "not") words.Not _ (instrs.Not size reg) word.not_word (one_register_code words.Not size reg (instrs.Not size reg) refl refl)
-pieces_line (instrs.Neg size reg) fits ok = named_line (codes "neg") words.Neg _ (instrs.Neg size reg) word.neg_word (one_register_code words.Neg size reg (instrs.Neg size reg) refl refl)
-pieces_line (instrs.Imul size dst src) fits ok = named_line (codes "imul") words.Imul _ (instrs.Imul size dst src) word.imul_word (imul_code size dst src fits ok)
-pieces_line (instrs.Shl size reg count) fits ok = named_line (codes "shl") words.Shl _ (instrs.Shl size reg count) word.shl_word (shift_code words.Shl size reg count (instrs.Shl size reg count) fits refl (λ g h. refl) refl)
-pieces_line (instrs.Shr size reg count) fits ok = named_line (codes "shr") words.Shr _ (instrs.Shr size reg count) word.shr_word (shift_code words.Shr size reg count (instrs.Shr size reg count) fits refl (λ g h. refl) refl)
-pieces_line (instrs.Sar size reg count) fits ok = named_line (codes "sar") words.Sar _ (instrs.Sar size reg count) word.sar_word (shift_code words.Sar size reg count (instrs.Sar size reg count) fits refl (λ g h. refl) refl)
-pieces_line (instrs.Cmov cc size dst src) fits ok = named_line (codes "cmov" ++ condition_name cc) (words.Cmov cc) _ (instrs.Cmov cc size dst src) (word.move_word cc) (cmov_code cc size dst src fits ok)
-pieces_line (instrs.Push src) fits ok = named_line (codes "push") words.Push _ (instrs.Push src) word.push_word (push_code src fits ok)
-pieces_line (instrs.Pop dst) fits ok = named_line (codes "pop") words.Pop _ (instrs.Pop dst) word.pop_word (one_register_code words.Pop sizes.Qword dst (instrs.Pop dst) refl refl)
+unfolding text.pieces begun instruction mnemonic_of plain_mnemonic locked_mnemonic untracked_mnemonic tokens asm.operands
+    built two_operands shift pair_instr register_instr memory_instr relative_instr
+pieces_line (instrs.Alu op size dst src) fits ok = named_line (word.operation_word op) (alu_code op size dst src fits.0 fits.1 ok)
+pieces_line (instrs.Test size dst src) fits ok = named_line word.test_word (test_code size dst src fits.0 fits.1 ok)
+pieces_line (instrs.Mov size dst src) fits ok = named_line word.mov_word (mov_code size dst src fits.0 fits.1 ok)
+pieces_line (instrs.MovWide dst value) fits ok = named_line word.movabs_word (wide_code dst value fits)
+pieces_line (instrs.MovZero8 dst src) fits ok = named_line word.movzx_word (zero_code dst src fits ok)
+pieces_line (instrs.MovSign32 dst src) fits ok = named_line word.movsxd_word (sign_code dst src fits ok)
+pieces_line (instrs.Lea size dst src) fits ok = named_line word.lea_word (lea_code size dst src fits ok)
+pieces_line (instrs.Xchg dst reg) fits ok = named_line word.xchg_word (xchg_code dst reg fits ok)
+pieces_line (instrs.LockXadd mem reg) fits ok =
+    prefixed_line (codes "lock") (codes "xadd") words.Xadd _ _ refl refl refl
+    (store_code words.Xadd mem reg _ fits ok refl refl ok)
+pieces_line (instrs.LockCmpxchg mem reg) fits ok =
+    prefixed_line (codes "lock") (codes "cmpxchg") words.Cmpxchg _ _ refl refl refl
+    (store_code words.Cmpxchg mem reg _ fits ok refl refl ok)
+pieces_line (instrs.Inc size reg) fits ok = named_line word.inc_word (one_register_code words.Inc size reg _ refl refl)
+pieces_line (instrs.Dec size reg) fits ok = named_line word.dec_word (one_register_code words.Dec size reg _ refl refl)
+pieces_line (instrs.Not size reg) fits ok = named_line word.not_word (one_register_code words.Not size reg _ refl refl)
+pieces_line (instrs.Neg size reg) fits ok = named_line word.neg_word (one_register_code words.Neg size reg _ refl refl)
+pieces_line (instrs.Imul size dst src) fits ok = named_line word.imul_word (imul_code size dst src fits ok)
+pieces_line (instrs.Shl size reg count) fits ok =
+    named_line word.shl_word (shift_code words.Shl size reg count _ fits refl (λ g h. refl) refl)
+pieces_line (instrs.Shr size reg count) fits ok =
+    named_line word.shr_word (shift_code words.Shr size reg count _ fits refl (λ g h. refl) refl)
+pieces_line (instrs.Sar size reg count) fits ok =
+    named_line word.sar_word (shift_code words.Sar size reg count _ fits refl (λ g h. refl) refl)
+pieces_line (instrs.Cmov cc size dst src) fits ok = named_line (word.move_word cc) (cmov_code cc size dst src fits ok)
+pieces_line (instrs.Push src) fits ok = named_line word.push_word (push_code src fits ok)
+pieces_line (instrs.Pop dst) fits ok = named_line word.pop_word (one_register_code words.Pop sizes.Qword dst _ refl refl)
 pieces_line instrs.Leave fits ok = alone_line (codes "leave") instrs.Leave refl refl
-pieces_line (instrs.CallRel disp) fits ok = named_line (codes "call") words.Call _ (instrs.CallRel disp) word.call_word (relative_code words.Call disp (instrs.CallRel disp) fits refl refl)
-pieces_line (instrs.CallInd target false) fits ok = named_line (codes "call") words.Call _ (instrs.CallInd target false) word.call_word (place_code words.Call (λ o. instrs.CallInd o false) target fits ok (λ r. refl) (λ m. refl) ok)
-pieces_line (instrs.CallInd target true) fits ok = prefixed_line (codes "notrack") (codes "call") words.UntrackedCall _ (instrs.CallInd target true) refl refl refl (place_code words.UntrackedCall (λ o. instrs.CallInd o true) target fits ok (λ r. refl) (λ m. refl) ok)
-pieces_line (instrs.JmpRel disp) fits ok = named_line (codes "jmp") words.Jmp _ (instrs.JmpRel disp) word.jmp_word (relative_code words.Jmp disp (instrs.JmpRel disp) fits refl refl)
-pieces_line (instrs.JmpInd target false) fits ok = named_line (codes "jmp") words.Jmp _ (instrs.JmpInd target false) word.jmp_word (place_code words.Jmp (λ o. instrs.JmpInd o false) target fits ok (λ r. refl) (λ m. refl) ok)
-pieces_line (instrs.JmpInd target true) fits ok = prefixed_line (codes "notrack") (codes "jmp") words.UntrackedJmp _ (instrs.JmpInd target true) refl refl refl (place_code words.UntrackedJmp (λ o. instrs.JmpInd o true) target fits ok (λ r. refl) (λ m. refl) ok)
-pieces_line (instrs.Jcc cc disp) fits ok = named_line (codes "j" ++ condition_name cc) (words.Jump cc) _ (instrs.Jcc cc disp) (word.jump_word cc) (relative_code (words.Jump cc) disp (instrs.Jcc cc disp) fits refl refl)
+pieces_line (instrs.CallRel disp) fits ok = named_line word.call_word (relative_code words.Call disp _ fits refl refl)
+pieces_line (instrs.CallInd target false) fits ok =
+    named_line word.call_word (place_code words.Call (λ o. instrs.CallInd o false) target fits ok (λ r. refl) (λ m. refl) ok)
+pieces_line (instrs.CallInd target true) fits ok =
+    prefixed_line (codes "notrack") (codes "call") words.UntrackedCall _ _ refl refl refl
+    (place_code words.UntrackedCall (λ o. instrs.CallInd o true) target fits ok (λ r. refl) (λ m. refl) ok)
+pieces_line (instrs.JmpRel disp) fits ok = named_line word.jmp_word (relative_code words.Jmp disp _ fits refl refl)
+pieces_line (instrs.JmpInd target false) fits ok =
+    named_line word.jmp_word (place_code words.Jmp (λ o. instrs.JmpInd o false) target fits ok (λ r. refl) (λ m. refl) ok)
+pieces_line (instrs.JmpInd target true) fits ok =
+    prefixed_line (codes "notrack") (codes "jmp") words.UntrackedJmp _ _ refl refl refl
+    (place_code words.UntrackedJmp (λ o. instrs.JmpInd o true) target fits ok (λ r. refl) (λ m. refl) ok)
+pieces_line (instrs.Jcc cc disp) fits ok = named_line (word.jump_word cc) (relative_code (words.Jump cc) disp _ fits refl refl)
 pieces_line instrs.Ret fits ok = alone_line (codes "ret") instrs.Ret refl refl
-pieces_line (instrs.RetImm bytes) fits ok = named_line (codes "ret") words.Ret _ (instrs.RetImm bytes) word.ret_word (ret_code bytes fits)
+pieces_line (instrs.RetImm bytes) fits ok = named_line word.ret_word (ret_code bytes fits)
 pieces_line instrs.Nop fits ok = alone_line (codes "nop") instrs.Nop refl refl
 pieces_line instrs.Pause fits ok = alone_line (codes "pause") instrs.Pause refl refl
 pieces_line instrs.Endbr64 fits ok = alone_line (codes "endbr64") instrs.Endbr64 refl refl
@@ -57,14 +70,16 @@ pieces_line instrs.Ud2 fits ok = alone_line (codes "ud2") instrs.Ud2 refl refl
 pieces_line instrs.Syscall fits ok = alone_line (codes "syscall") instrs.Syscall refl refl
 pieces_line instrs.Stc fits ok = alone_line (codes "stc") instrs.Stc refl refl
 pieces_line instrs.Clc fits ok = alone_line (codes "clc") instrs.Clc refl refl
-pieces_line (instrs.Incsspq reg) fits ok = named_line (codes "incsspq") words.Incsspq _ (instrs.Incsspq reg) word.incsspq_word (one_register_code words.Incsspq sizes.Qword reg (instrs.Incsspq reg) refl refl)
-pieces_line (instrs.Rdsspq reg) fits ok = named_line (codes "rdsspq") words.Rdsspq _ (instrs.Rdsspq reg) word.rdsspq_word (one_register_code words.Rdsspq sizes.Qword reg (instrs.Rdsspq reg) refl refl)
-pieces_line (instrs.Rstorssp mem) fits ok = named_line (codes "rstorssp") words.Rstorssp _ (instrs.Rstorssp mem) word.rstorssp_word (one_memory_code words.Rstorssp mem (instrs.Rstorssp mem) fits ok refl ok)
+pieces_line (instrs.Incsspq reg) fits ok =
+    named_line word.incsspq_word (one_register_code words.Incsspq sizes.Qword reg _ refl refl)
+pieces_line (instrs.Rdsspq reg) fits ok = named_line word.rdsspq_word (one_register_code words.Rdsspq sizes.Qword reg _ refl refl)
+pieces_line (instrs.Rstorssp mem) fits ok = named_line word.rstorssp_word (one_memory_code words.Rstorssp mem _ fits ok refl ok)
 pieces_line instrs.Saveprevssp fits ok = alone_line (codes "saveprevssp") instrs.Saveprevssp refl refl
 pieces_line instrs.Setssbsy fits ok = alone_line (codes "setssbsy") instrs.Setssbsy refl refl
-pieces_line (instrs.Clrssbsy mem) fits ok = named_line (codes "clrssbsy") words.Clrssbsy _ (instrs.Clrssbsy mem) word.clrssbsy_word (one_memory_code words.Clrssbsy mem (instrs.Clrssbsy mem) fits ok refl ok)
-pieces_line (instrs.Wrssq mem reg) fits ok = named_line (codes "wrssq") words.Wrssq _ (instrs.Wrssq mem reg) word.wrssq_word (store_code words.Wrssq mem reg (instrs.Wrssq mem reg) fits ok refl refl ok)
-pieces_line (instrs.Wrussq mem reg) fits ok = named_line (codes "wrussq") words.Wrussq _ (instrs.Wrussq mem reg) word.wrussq_word (store_code words.Wrussq mem reg (instrs.Wrussq mem reg) fits ok refl refl ok)
+pieces_line (instrs.Clrssbsy mem) fits ok = named_line word.clrssbsy_word (one_memory_code words.Clrssbsy mem _ fits ok refl ok)
+pieces_line (instrs.Wrssq mem reg) fits ok = named_line word.wrssq_word (store_code words.Wrssq mem reg _ fits ok refl refl ok)
+pieces_line (instrs.Wrussq mem reg) fits ok = named_line word.wrussq_word (store_code words.Wrussq mem reg _ fits ok refl refl ok)
 
-pub line_text_of : (i : Instr) → InstrFits i → has_spelling i ≡ true → line_of (text.text_of i) ≡ (record { labels = []; statement = Code i no_uses })
+pub line_text_of : (i : Instr) → InstrFits i → has_spelling i ≡ true
+    → line_of (text.text_of i) ≡ (record { labels = []; statement = Code i no_uses })
 line_text_of i fits ok = ap line_of (onto_joined [] (text.pieces i)) ∙ (pieces_line i fits ok).same

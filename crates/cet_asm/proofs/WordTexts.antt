@@ -73,15 +73,20 @@ hex n = codes "0x" ++ digits 16 false n
 glyph : (d : ℕ) → d < 16 → is_name_byte (digit_glyph false d) ≡ true
 glyph d h = agree_below_at (λ d. is_name_byte (digit_glyph false d)) (λ _. true) 16 d refl h
 
-onto_names : (k n : ℕ) (acc : List ℕ) → list_all is_name_byte acc ≡ true → list_all is_name_byte (digits_onto k 16 false n acc) ≡ true
+onto_names : (k n : ℕ) (acc : List ℕ) → list_all is_name_byte acc ≡ true
+    → list_all is_name_byte (digits_onto k 16 false n acc) ≡ true
 onto_names zero n acc h = h
 onto_names (suc k) n acc h = go (eqb (n / 16) 0) (onto_names k (n / 16) (digit_glyph false (n % 16) ∷ acc))
   where
     more : list_all is_name_byte (digit_glyph false (n % 16) ∷ acc) ≡ true
     more = rw (glyph (n % 16) (omega arith)) h
 
-    go : (t : Bool) → (list_all is_name_byte (digit_glyph false (n % 16) ∷ acc) ≡ true → list_all is_name_byte (digits_onto k 16 false (n / 16) (digit_glyph false (n % 16) ∷ acc)) ≡ true)
-        → list_all is_name_byte (cond t (digit_glyph false (n % 16) ∷ acc) (digits_onto k 16 false (n / 16) (digit_glyph false (n % 16) ∷ acc))) ≡ true
+    go : (t : Bool)
+        → (list_all is_name_byte (digit_glyph false (n % 16) ∷ acc) ≡ true
+        → list_all is_name_byte (digits_onto k 16 false (n / 16) (digit_glyph false (n % 16) ∷ acc)) ≡ true)
+        → list_all is_name_byte
+        (cond t (digit_glyph false (n % 16) ∷ acc) (digits_onto k 16 false (n / 16) (digit_glyph false (n % 16) ∷ acc)))
+        ≡ true
     go true ih = more
     go false ih = ih more
 
