@@ -1,4 +1,14 @@
 pub mod TokenLaws
+pub mod PieceTokens
+pub mod WordTexts
+pub mod OperandTexts
+pub mod GivenTexts
+pub mod InstructionTexts
+pub mod LineTexts
+pub mod MnemonicTexts
+pub mod LengthLaws
+pub mod TextLaws
+pub mod ProgramTexts
 mod MapLaws
 pub mod LayoutLaws
 pub mod FillingLaws

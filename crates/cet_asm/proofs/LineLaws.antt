@@ -46,7 +46,7 @@ pub ruleset utf8_laws = (not_utf8, is_text)
 Label : Type 0
 Label = Option (List ℕ × List ℕ)
 
-shorter_at : (name rest : List ℕ) (x : List ℕ × List ℕ) → after_colon name rest ≡ Some x → length x.1 < length rest
+pub shorter_at : (name rest : List ℕ) (x : List ℕ × List ℕ) → after_colon name rest ≡ Some x → length x.1 < length rest
 shorter_at name [] x e = absurd cc
 shorter_at name (b ∷ bytes) x e = go (eqb b 58 && is_label name) e
   where

@@ -12,6 +12,7 @@ mod filling;
 mod first_pass;
 mod instructions;
 mod labels;
+mod laws;
 mod layout;
 #[cfg(test)]
 mod line_tests;
@@ -31,4 +32,5 @@ mod statements;
 mod tokens;
 
 pub use assembler::assemble;
+pub use laws::text_is_read_back;
 pub use program::{AsmFault, Program};
