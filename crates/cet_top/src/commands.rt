@@ -6,7 +6,7 @@ ghost use Rattle.cet_top.specs.Accepts.{Accepts, image_of};
 ghost use Rattle.cet_top.specs.Listing.{IsListing};
 ghost use Rattle.cet_top.specs.Schedule.{ByRobin};
 ghost use Rattle.cet_top.specs.Serves.{Serves, sink_state};
-ghost use Rattle.cet_top.specs.Stream.{source_state};
+ghost use Rattle.cet_top.specs.Reading.{source_state};
 ghost use Rattle.cet_top.specs.Written.{written};
 
 use crate::listing::listing;
@@ -15,11 +15,11 @@ use crate::outcomes::{ProcessEnd, Style};
 use crate::reports::report;
 use crate::runs::run;
 use crate::status::Status;
-use crate::streams::{Sink, Source};
 use crate::transfers::{Unread, read_all, write_all};
 use crate::words::Command;
 use crate::written::write;
 use cet_asm::{AsmFault, Program, assemble};
+use cet_io::{Sink, Source};
 use cet_words::{Bytes, Image, Job, NoMemory};
 use std::alloc::Global;
 

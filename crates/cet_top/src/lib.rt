@@ -11,7 +11,6 @@ mod listing;
 #[cfg(test)]
 mod listing_tests;
 mod loads;
-mod memory_streams;
 mod outcomes;
 #[cfg(test)]
 mod program_tests;
@@ -20,8 +19,6 @@ mod reports;
 mod runs;
 mod stacks;
 mod status;
-mod std_streams;
-mod streams;
 #[cfg(test)]
 mod tests;
 mod texts;
@@ -30,12 +27,9 @@ mod turns;
 mod words;
 mod written;
 
-pub use memory_streams::{MemSink, SureSink, SureSource};
 pub use outcomes::{
     Outcome, ProcessEnd, Records, Region, Shown, StackReport, StackReports, Style, ThreadOut,
     ThreadOuts,
 };
 pub use programs::plain;
 pub use status::Status;
-pub use std_streams::{StdSink, StdSource};
-pub use streams::{Failed, Sink, Source};
