@@ -4,7 +4,7 @@ use Rattle.std.proofs.Math.Nat.{min-eq_left, min-eq_right, min-le_left, min-le_r
 use Rattle.std.proofs.lemmas.Bool.{cases_lt}
 use Rattle.std.proofs.lemmas.List.{append_assoc, length-drop, take_all}
 use Rattle.std.specs.Io.KnownBytes.{Consumes, Appends}
-use Rattle.cet_top.specs.Stream.{AppendsSome, Rose, RoseAbove, RoseBy, added}
+use Rattle.cet_io.specs.Stream.{AppendsSome, Rose, RoseAbove, RoseBy, added}
 
 pub Consumes-more : (a b c : Option (List ℕ)) (xs ys : List ℕ) → Consumes a b xs → Consumes b c ys → Consumes a c (xs ++ ys)
 Consumes-more None b c xs ys first second = tt

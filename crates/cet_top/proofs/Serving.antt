@@ -5,7 +5,8 @@ use Rattle.std.specs.Io.KnownBytes.{Appends, Consumes}
 use Rattle.cet_top.proofs.Known.{rose_above}
 use Rattle.cet_top.specs.Answer.{Answers, status_of}
 use Rattle.cet_top.specs.Serves.{IsCutShort, IsTooLong, SinkState, Answered, Cut, Serves, Completes}
-use Rattle.cet_top.specs.Stream.{Rose, RoseAbove, SourceState, Tally, TakesAll, CountsBy, TalliesBy, ReadToEnd, ReadTooMuch, ReadUntilFault}
+use Rattle.cet_io.specs.Stream.{Rose, RoseAbove, Tally}
+use Rattle.cet_top.specs.Reading.{SourceState, TakesAll, CountsBy, TalliesBy, ReadToEnd, ReadTooMuch, ReadUntilFault}
 use Rattle.cet_top.specs.Words.{Means, IsCommand, FaultyWord}
 use Rattle.cet_top.specs.declared.outcomes.ProcessEnd.{ProcessEnd}
 use Rattle.cet_top.specs.declared.outcomes.ProcessEnd.TheVariants as process

@@ -1,6 +1,4 @@
-pub mod Stream
-pub mod MemSink
-pub mod SureSource
+pub mod Reading
 pub mod Status
 pub mod Words
 pub mod Line

@@ -2,7 +2,8 @@
 use Rattle.std.specs.Prelude.{◌≡◌, ℕ, ◌+◌, ◌<◌, ◌≤◌, ◌⊎◌, List, [], length, Option, Some}
 use Rattle.std.specs.Io.KnownBytes.{Appends}
 use Rattle.cet_top.specs.Answer.{Answers}
-use Rattle.cet_top.specs.Stream.{Rose, RoseAbove, AppendsSome, Tally, SourceState, ReadToEnd, ReadUntilFault, ReadTooMuch, ReadSome}
+use Rattle.cet_io.specs.Stream.{Rose, RoseAbove, AppendsSome, Tally}
+use Rattle.cet_top.specs.Reading.{SourceState, ReadToEnd, ReadUntilFault, ReadTooMuch, ReadSome}
 use Rattle.cet_top.specs.declared.status.Status.{Status}
 use Rattle.cet_top.specs.declared.status.Status.TheVariants as status
 use Rattle.cet_top.specs.declared.words.Command.{Command}

@@ -2,7 +2,8 @@
 
 use crate::program_tests::words;
 use crate::tests::{EXIT_SEVEN_TEXT, file};
-use crate::{MemSink, Status, SureSource, plain};
+use crate::{Status, plain};
+use cet_io::{MemSink, SureSource};
 use std::alloc::Global;
 use std::process::Abort;
 use std::test::Fail;

@@ -7,18 +7,18 @@ ghost use Rattle.cet_elf.specs.Written.{written};
 ghost use Rattle.cet_top.specs.Listing.{IsListing};
 ghost use Rattle.cet_top.specs.Schedule.{ByRobin};
 ghost use Rattle.cet_top.specs.Serves.{Serves, sink_state};
-ghost use Rattle.cet_top.specs.Stream.{source_state};
+ghost use Rattle.cet_top.specs.Reading.{source_state};
 
 use crate::listing::listing;
 use crate::outcomes::{ProcessEnd, Style};
 use crate::reports::report;
 use crate::runs::run;
 use crate::status::Status;
-use crate::streams::{Sink, Source};
 use crate::transfers::{Unread, read_all, write_all};
 use crate::words::Command;
 use cet_asm::{AsmFault, Program, assemble};
 use cet_elf::{LoadFault, load, write};
+use cet_io::{Sink, Source};
 use cet_words::{Bytes, Image, Job, NoMemory};
 use std::alloc::Global;
 

@@ -10,7 +10,6 @@ mod lines;
 mod listing;
 #[cfg(test)]
 mod listing_tests;
-mod memory_streams;
 mod outcomes;
 #[cfg(test)]
 mod program_tests;
@@ -19,20 +18,15 @@ mod reports;
 mod runs;
 mod stacks;
 mod status;
-mod std_streams;
-mod streams;
 #[cfg(test)]
 mod tests;
 mod transfers;
 mod turns;
 mod words;
 
-pub use memory_streams::{MemSink, SureSink, SureSource};
 pub use outcomes::{
     Outcome, ProcessEnd, Records, Region, Shown, StackReport, StackReports, Style, ThreadOut,
     ThreadOuts,
 };
 pub use programs::plain;
 pub use status::Status;
-pub use std_streams::{StdSink, StdSource};
-pub use streams::{Failed, Sink, Source};

@@ -1,7 +1,10 @@
 //! The program on whole files, against reports that are written out here.
 
-use crate::tests::{Breaks, EXIT_SEVEN, EXIT_SEVEN_TEXT, file};
-use crate::{MemSink, Source, Status, SureSource, plain};
+ghost use Rattle.std.specs.Prelude.{◌≤◌};
+
+use crate::tests::{EXIT_SEVEN, EXIT_SEVEN_TEXT, file};
+use crate::{Status, plain};
+use cet_io::{MemSink, MemSource, Source, SureSource};
 use std::alloc::{AllocError, Global};
 use std::process::Abort;
 use std::test::Fail;
@@ -246,15 +249,11 @@ fn a_byte_over_the_most_is_too_long(rt: HostRuntime) -> Result<(), Fail> {
     reports(&rt, rt.alloc(), &bytes, Status::TooLong, "")
 }
 
-/// A source of one byte more than the most, whose reads fail after so many of at most 4,096 bytes.
-fn breaks_late(rt: &impl Abort, alloc: Global, reads: u64, status: Status) -> Result<(), Fail> {
+/// A source of one byte more than the most, one read of which fails. Each gives at most 4,096 bytes.
+fn breaks_late(rt: &impl Abort, alloc: Global, failing: u32, status: Status) -> Result<(), Fail> {
     let mut bytes = Vec::new(alloc);
     bytes.resize(8_388_609, 0_u8)?;
-    let mut src = Breaks {
-        source: SureSource::new(alloc, &bytes)?,
-        reads,
-        faults: 0,
-    };
+    let mut src = MemSource::new(alloc, &bytes, 4096, &[failing])?;
     let mut sink = MemSink::new(alloc, ROOM, ROOM, &[])?;
     assert_eq!(rt; run(alloc, &mut src, &mut sink)?, status);
     assert!(rt; sink.bytes().is_empty());
@@ -263,8 +262,8 @@ fn breaks_late(rt: &impl Abort, alloc: Global, reads: u64, status: Status) -> Re
 
 #[test]
 fn the_first_of_fault_and_length_decides(rt: HostRuntime) -> Result<(), Fail> {
-    breaks_late(&rt, rt.alloc(), 2048, Status::ReadFault)?;
-    breaks_late(&rt, rt.alloc(), 2049, Status::TooLong)
+    breaks_late(&rt, rt.alloc(), 2049, Status::ReadFault)?;
+    breaks_late(&rt, rt.alloc(), 2050, Status::TooLong)
 }
 
 #[test]
@@ -296,16 +295,19 @@ fn faulty_words(rt: HostRuntime) -> Result<(), Fail> {
     is_usage(&rt, rt.alloc(), "dis x", 2)
 }
 
-/// The first part of the report that stays where this write of at most 64 bytes fails.
+/// The first part of the report that stays where this write fails. Each takes at most so many bytes.
 fn keeps(
     rt: &impl Abort,
     alloc: Global,
+    piece: u32,
     failing: u32,
     status: Status,
     kept: usize,
-) -> Result<(), Fail> {
+) -> Result<(), Fail>
+    requires { 1 ≤ piece }
+{
     let mut src = SureSource::new(alloc, &file(alloc, &EXIT_SEVEN_TEXT)?)?;
-    let mut sink = MemSink::new(alloc, ROOM, 64, &[failing])?;
+    let mut sink = MemSink::new(alloc, ROOM, piece, &[failing])?;
     assert_eq!(rt; run(alloc, &mut src, &mut sink)?, status);
     assert_eq!(rt; sink.bytes().len(), kept);
     assert!(rt; EXIT_SEVEN.as_bytes().starts_with(sink.bytes()));
@@ -316,35 +318,34 @@ fn keeps(
 #[test]
 fn each_write_that_fails_leaves_a_first_part(rt: HostRuntime) -> Result<(), Fail> {
     for (failing, kept) in [(1, 0), (2, 64), (3, 128), (4, 192), (5, 256)] {
-        keeps(&rt, rt.alloc(), failing, Status::WriteFault, kept)?;
+        keeps(&rt, rt.alloc(), 64, failing, Status::WriteFault, kept)?;
     }
-    keeps(&rt, rt.alloc(), 6, Status::Done, 281)
+    keeps(&rt, rt.alloc(), 64, 6, Status::Done, 281)?;
+    keeps(&rt, rt.alloc(), 10, 2, Status::WriteFault, 10)
 }
 
+/// The answer where this read fails. Each gives at most 1,000 bytes.
 fn reads(
     rt: &impl Abort,
     alloc: Global,
-    reads: u64,
+    failing: u32,
     status: Status,
     report: &str,
 ) -> Result<(), Fail> {
-    let source = SureSource::new(alloc, &file(alloc, &EXIT_SEVEN_TEXT)?)?;
-    let mut src = Breaks {
-        source,
-        reads,
-        faults: 0,
-    };
+    let bytes = file(alloc, &EXIT_SEVEN_TEXT)?;
+    let mut src = MemSource::new(alloc, &bytes, 1000, &[failing])?;
     let mut sink = MemSink::new(alloc, ROOM, ROOM, &[])?;
     assert_eq!(rt; run(alloc, &mut src, &mut sink)?, status);
+    assert_eq!(rt; src.faults() == 1, status == Status::ReadFault);
     assert_eq!(rt; sink.bytes(), report.as_bytes());
     Ok(())
 }
 
-/// The file of 4,108 bytes is two reads of at most 4,096, and a third one finds its end.
+/// The file has 4,108 bytes, so it is five reads of at most 1,000, and a sixth finds its end.
 #[test]
 fn each_read_that_fails_is_a_read_fault(rt: HostRuntime) -> Result<(), Fail> {
-    reads(&rt, rt.alloc(), 0, Status::ReadFault, "")?;
-    reads(&rt, rt.alloc(), 1, Status::ReadFault, "")?;
-    reads(&rt, rt.alloc(), 2, Status::ReadFault, "")?;
-    reads(&rt, rt.alloc(), 3, Status::Done, EXIT_SEVEN)
+    for failing in 1..=6 {
+        reads(&rt, rt.alloc(), failing, Status::ReadFault, "")?;
+    }
+    reads(&rt, rt.alloc(), 7, Status::Done, EXIT_SEVEN)
 }

@@ -2,14 +2,14 @@
 
 ghost use Rattle.std.specs.Prelude.{◌≡◌, ◌↔◌, ℕ, map, string_bytes};
 ghost use Rattle.cet_top.specs.Serves.{Completes, IsUntouched, Serves, sink_state};
-ghost use Rattle.cet_top.specs.Stream.{source_state};
+ghost use Rattle.cet_top.specs.Reading.{source_state};
 ghost use Rattle.cet_top.specs.Words.{FaultyWord, IsCommand, Means};
 ghost use Rattle.cet_top.specs.declared.words.Command.{Command};
 
 use crate::commands::serve;
 use crate::status::Status;
-use crate::streams::{Sink, Source};
 use crate::words::read_words;
+use cet_io::{Sink, Source};
 use std::alloc::Global;
 
 /// Carries out the command that the words are, on the bytes of a source, and writes its output to a

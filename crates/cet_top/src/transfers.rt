@@ -1,8 +1,9 @@
 ghost use Rattle.std.specs.Prelude.{◌≡◌, ◌<◌, ◌≤◌, length, IfOk, OnOk, OnErr, IsErrOf};
 ghost use Rattle.std.specs.Io.KnownBytes.{Appends};
-ghost use Rattle.cet_top.specs.Stream.{HasCause, AppendsSome, ReadSome, ReadToEnd, ReadTooMuch, ReadUntilFault, source_state};
+ghost use Rattle.cet_io.specs.Stream.{HasCause, AppendsSome};
+ghost use Rattle.cet_top.specs.Reading.{ReadSome, ReadToEnd, ReadTooMuch, ReadUntilFault, source_state};
 
-use crate::streams::{Failed, Sink, Source};
+use cet_io::{Failed, Sink, Source};
 use cet_words::{Bytes, NoMemory};
 use std::alloc::Global;
 

@@ -1,7 +1,8 @@
 //! Runs x86-64 images whose returns are guarded by shadow stacks, and reports what they did.
 #![tactic(auto)]
 
-use cet_top::{Status, StdSink, StdSource, plain};
+use cet_io::{StdSink, StdSource};
+use cet_top::{Status, plain};
 use std::alloc::Global;
 use std::env;
 use std::env::Env;

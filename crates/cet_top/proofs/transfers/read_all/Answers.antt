@@ -1,7 +1,7 @@
 use Rattle.std.proofs.Common.{arith, length}
 use Rattle.cet_top.proofs.InputReads.{few_more, reading_failed, reading_more, reading_some, reading_too_much}
-use Rattle.cet_top.specs.Stream.{source_state}
-use Rattle.cet_top.specs.declared.streams.Failed.{Failed}
+use Rattle.cet_top.specs.Reading.{source_state}
+use Rattle.cet_io.specs.declared.streams.Failed.{Failed}
 use Rattle.cet_top.proofs.transfers.read_all.Goals as goal
 
 pub reads-preserved : goal.reads-preserved

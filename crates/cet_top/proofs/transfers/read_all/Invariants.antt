@@ -1,6 +1,6 @@
 use Rattle.std.proofs.Common.{length, ◌≡◌, ◌-◌, ◌≤◌}
 use Rattle.cet_top.proofs.InputReads.{Reading}
-use Rattle.cet_top.specs.Stream.{source_state}
+use Rattle.cet_top.specs.Reading.{source_state}
 use Rattle.cet_top.proofs.transfers.read_all.Given as goal
 
 abbrev pub invariant-reads : goal.invariant-reads

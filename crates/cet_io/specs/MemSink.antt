@@ -1,7 +1,7 @@
 -- A sink in memory, which takes a part of each piece and fails where it was told to. Source: own.
 use Rattle.std.specs.Prelude.{ℕ, ◌-◌, min, List, ◌++◌, length, take, Bool, ◌||◌, ◌&&◌, ◌==◌, nat_lt, nat_le, if◌then◌else◌}
 use Rattle.std.specs.List.{list_any}
-use Rattle.cet_top.specs.Stream.{raised}
+use Rattle.cet_io.specs.Stream.{raised}
 
 pub record MemSinkState : Type 0 where
   pub written : List ℕ

@@ -1,5 +1,5 @@
 ghost use Rattle.std.specs.Prelude.{◌≡◌, ◌<◌, ◌≤◌, length, IfSome, None, Some, Ok};
-ghost use Rattle.cet_top.specs.Stream.{counted};
+ghost use Rattle.cet_io.specs.Stream.{counted};
 
 use crate::streams::{Failed, Sink, Source};
 use std::io::{Read, Write};
@@ -16,7 +16,7 @@ pub struct StdSource<R: Read> {
 }
 
 impl<R: Read> Model for StdSource<R> {
-    ghost use Rattle.cet_top.specs.Stream.{Tally};
+    ghost use Rattle.cet_io.specs.Stream.{Tally};
 
     ghost Value = { Tally };
 

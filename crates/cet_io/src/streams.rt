@@ -1,5 +1,5 @@
 ghost use Rattle.std.specs.Prelude.{◌≡◌, ℕ, List, None, Option, length};
-ghost use Rattle.cet_top.specs.Stream.{HasCause, Reads, Tally, Writes, tallied};
+ghost use Rattle.cet_io.specs.Stream.{HasCause, Reads, Tally, Writes, tallied};
 
 use std::fmt;
 

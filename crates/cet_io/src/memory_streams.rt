@@ -1,7 +1,9 @@
-ghost use Rattle.std.specs.Prelude.{◌≡◌, ◌+◌, ◌<◌, ◌≤◌, List, [], ◌==◌, length, min, take, drop, IfOk, Some, None, is_err};
+ghost use Rattle.std.specs.Prelude.{◌≡◌, ◌+◌, ◌<◌, ◌≤◌, List, [], ◌==◌, length, min, take, drop, IfOk, Some, None, OnErr, is_err};
 ghost use Rattle.std.specs.List.{list_any};
-ghost use Rattle.cet_top.specs.Stream.{HasCause, Reads, Writes};
-ghost use Rattle.cet_top.specs.MemSink.{refuses, taken, after_write};
+ghost use Rattle.cet_io.specs.Stream.{HasCause, Reads, Writes, tallied};
+ghost use Rattle.cet_io.specs.SureSource.{tally_of};
+ghost use Rattle.cet_io.specs.MemSource.{breaks, given, after_read};
+ghost use Rattle.cet_io.specs.MemSink.{refuses, taken, after_write};
 
 use crate::streams::{Failed, Sink, Source};
 use cet_words::NoMemory;
@@ -18,7 +20,7 @@ pub struct SureSource {
 
 impl Model for SureSource {
     ghost use Rattle.std.specs.Prelude.{◌≤◌, length, drop};
-    ghost use Rattle.cet_top.specs.SureSource.{SureSourceState};
+    ghost use Rattle.cet_io.specs.SureSource.{SureSourceState};
 
     ghost Value = { SureSourceState };
 
@@ -56,10 +58,133 @@ impl Source for SureSource {
 
     ghost faults = { λ _. 0 };
 
-    ghost tally = { λ s. Some (record { given = s.given; failures = 0; ends = s.ends }) };
+    ghost tally = { λ s. Some (tally_of s) };
 
-    fn read(&mut self, buf: &mut [u8]) -> Result<usize, Failed> {
+    fn read(&mut self, buf: &mut [u8]) -> Result<usize, Failed>
+        ensures bytes { Reads (Some self.old.left) (Some self.new.left) buf.new result }
+        ensures cause { HasCause 0 0 result }
+        ensures counts { Some (tally_of self.new) ≡ tallied (Some (tally_of self.old)) (length buf.new) result }
+        ensures most { IfOk result (λ n. n ≡ min (length buf.old) (length self.old.left)) }
+    {
         let count = copy_front(&self.bytes[self.at..], buf);
+        self.at += count;
+        if count == 0 && !buf.is_empty() {
+            self.ends = self.ends.saturating_add(1);
+        }
+        Ok(count)
+    }
+}
+
+/// Whether the number is in the list.
+fn is_among(numbers: &[u32], number: u64) -> bool
+    ensures { result ≡ list_any (λ n. n == number) numbers.now }
+{
+    numbers.iter().any(|n| u64::from(*n) == number)
+}
+
+/// A source in memory that tells its bytes, gives a part of them in each read, and fails where it was
+/// told to.
+#[derive(Debug, Drop)]
+pub struct MemSource {
+    bytes: Vec<u8>,
+    at: usize,
+    faults: u64,
+    ends: u64,
+    calls: u64,
+    fails: Vec<u32>,
+    piece: u32,
+}
+
+impl Model for MemSource {
+    ghost use Rattle.std.specs.Prelude.{◌≤◌, length, drop};
+    ghost use Rattle.cet_io.specs.MemSource.{MemSourceState};
+
+    ghost Value = { MemSourceState };
+
+    ghost view = { λ s. record { left = drop s.at s.bytes.items; tally = record { given = s.at; failures = s.faults; ends = s.ends }; calls = s.calls; fails = s.fails.items; piece = s.piece } };
+
+    ghost invariant = { λ s. (1 ≤ s.piece) × (s.at ≤ length s.bytes.items) };
+}
+
+impl MemSource {
+    /// A source of these bytes that gives at most `piece` of them in one read. The calls whose numbers,
+    /// counted from 1, are in `fails` give nothing and fail.
+    pub fn new(
+        alloc: Global,
+        bytes: &[u8],
+        piece: u32,
+        fails: &[u32],
+    ) -> Result<MemSource, NoMemory>
+        requires { 1 ≤ piece }
+        ensures { IfOk result (λ s. s ≡ record { left = bytes.now; tally = record { given = 0; failures = 0; ends = 0 }; calls = 0; fails = fails.now; piece = piece }) }
+    {
+        let bytes = Vec::from_slice(alloc, bytes)?;
+        let fails = Vec::from_slice(alloc, fails)?;
+        Ok(MemSource {
+            bytes,
+            at: 0,
+            faults: 0,
+            ends: 0,
+            calls: 0,
+            fails,
+            piece,
+        })
+    }
+
+    /// The bytes that are left.
+    pub fn left(&self) -> &[u8]
+        ensures { result.now ≡ self.now.left }
+    {
+        &self.bytes[self.at..]
+    }
+
+    /// How many calls have failed, up to 2^64 - 1.
+    pub fn faults(&self) -> u64
+        ensures { result ≡ self.now.tally.failures }
+    {
+        self.faults
+    }
+
+    fn breaks(&self) -> bool
+        ensures { result ≡ breaks self.now }
+    {
+        is_among(&self.fails, self.calls.saturating_add(1))
+    }
+
+    /// Copies the bytes of one read to the front of the buffer, and answers their number.
+    fn copy_piece(&self, buf: &mut [u8]) -> usize
+        ensures count { result ≡ given self.now (length buf.old) }
+        ensures copied { take result buf.new ≡ take result self.now.left }
+    {
+        let left = self.left();
+        let most = left.len().min(self.piece as usize);
+        copy_front(&left[..most], buf)
+    }
+}
+
+impl Source for MemSource {
+    ghost left = { λ s. Some s.left };
+
+    ghost faults = { λ s. s.tally.failures };
+
+    ghost tally = { λ s. Some s.tally };
+
+    fn read(&mut self, buf: &mut [u8]) -> Result<usize, Failed>
+        ensures bytes { Reads (Some self.old.left) (Some self.new.left) buf.new result }
+        ensures cause { HasCause self.old.tally.failures self.new.tally.failures result }
+        ensures counts { Some self.new.tally ≡ tallied (Some self.old.tally) (length buf.new) result }
+        ensures broken { is_err result ≡ breaks self.old }
+        ensures given { IfOk result (λ n. n ≡ given self.old (length buf.old)) }
+        ensures after { self.new ≡ after_read self.old (length buf.old) }
+        ensures kept { OnErr result (buf.new ≡ buf.old) }
+    {
+        let broken = self.breaks();
+        self.calls = self.calls.saturating_add(1);
+        if broken {
+            self.faults = self.faults.saturating_add(1);
+            return Err(Failed);
+        }
+        let count = self.copy_piece(buf);
         self.at += count;
         if count == 0 && !buf.is_empty() {
             self.ends = self.ends.saturating_add(1);
@@ -73,6 +198,7 @@ impl Source for SureSource {
 pub struct SureSink;
 
 impl SureSink {
+    /// A sink that never fails.
     pub fn new() -> SureSink {
         SureSink
     }
@@ -92,13 +218,6 @@ impl Sink for SureSink {
     }
 }
 
-/// Whether the number is in the list.
-fn is_among(numbers: &[u32], number: u64) -> bool
-    ensures { result ≡ list_any (λ n. n == number) numbers.now }
-{
-    numbers.iter().any(|n| u64::from(*n) == number)
-}
-
 /// A sink in memory with a room of its own, which tells its bytes and fails where it was told to.
 #[derive(Debug, Drop)]
 pub struct MemSink {
@@ -113,7 +232,7 @@ pub struct MemSink {
 impl Model for MemSink {
     ghost use Rattle.std.specs.Prelude.{◌≤◌, length};
     ghost use Rattle.std.specs.Vec.{vec_capacity};
-    ghost use Rattle.cet_top.specs.MemSink.{MemSinkState};
+    ghost use Rattle.cet_io.specs.MemSink.{MemSinkState};
 
     ghost Value = { MemSinkState };
 

@@ -1,0 +1,4 @@
+pub mod Stream
+pub mod SureSource
+pub mod MemSource
+pub mod MemSink

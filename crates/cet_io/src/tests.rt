@@ -1,0 +1,79 @@
+use super::*;
+use std::io;
+use std::test::Fail;
+
+#[test]
+fn sources_in_memory_are_read(rt: HostRuntime) -> Result<(), Fail> {
+    let alloc = rt.alloc();
+    let mut buf = [0; 4];
+    let mut sure = SureSource::new(alloc, b"abcdef")?;
+    assert_eq!(rt; sure.read(&mut buf), Ok(4));
+    assert_eq!(rt; buf.as_slice(), b"abcd".as_slice());
+    assert_eq!(rt; sure.read(&mut buf), Ok(2));
+    assert_eq!(rt; buf.as_slice(), b"efcd".as_slice());
+    assert_eq!(rt; sure.read(&mut buf), Ok(0));
+
+    // The second and the fourth call fail, and the others go on where the last one stopped.
+    let mut told = MemSource::new(alloc, b"abcdef", 3, &[2, 4])?;
+    assert_eq!(rt; told.read(&mut buf), Ok(3));
+    assert_eq!(rt; buf.as_slice(), b"abcd".as_slice());
+    assert_eq!(rt; told.read(&mut buf), Err(Failed));
+    assert_eq!(rt; told.left(), b"def".as_slice());
+    assert_eq!(rt; told.read(&mut buf[..2]), Ok(2));
+    assert_eq!(rt; told.read(&mut buf), Err(Failed));
+    assert_eq!(rt; told.read(&mut buf), Ok(1));
+    assert_eq!(rt; buf.as_slice(), b"fecd".as_slice());
+    assert_eq!(rt; told.read(&mut buf), Ok(0));
+    assert_eq!(rt; told.faults(), 2);
+    Ok(())
+}
+
+#[test]
+fn sinks_in_memory_are_written(rt: HostRuntime) -> Result<(), Fail> {
+    let alloc = rt.alloc();
+    let mut sink = MemSink::new(alloc, 20, 10, &[2])?;
+    assert_eq!(rt; sink.write(b"0123456789abcdef"), Ok(10));
+    assert_eq!(rt; sink.write(b"abcdef"), Err(Failed));
+    assert_eq!(rt; sink.bytes(), b"0123456789".as_slice());
+    assert_eq!(rt; sink.faults(), 1);
+
+    // The room is full at the fifth call.
+    assert_eq!(rt; sink.write(b"abc"), Ok(3));
+    assert_eq!(rt; sink.write(b"defghijklm"), Ok(7));
+    assert_eq!(rt; sink.write(b"n"), Err(Failed));
+    assert_eq!(rt; sink.write(b""), Ok(0));
+    assert_eq!(rt; sink.bytes(), b"0123456789abcdefghij".as_slice());
+    assert_eq!(rt; sink.faults(), 2);
+
+    assert_eq!(rt; SureSink::new().write(b"abc"), Ok(3));
+    Ok(())
+}
+
+#[test]
+fn readers_of_std_are_sources(rt: HostRuntime) -> Result<(), Fail> {
+    let mut buf = [0; 4];
+    let mut reader = StdSource::new(b"abcdef".as_slice());
+    assert_eq!(rt; reader.read(&mut buf), Ok(4));
+    assert_eq!(rt; buf.as_slice(), b"abcd".as_slice());
+    assert_eq!(rt; reader.read(&mut buf), Ok(2));
+    assert_eq!(rt; reader.read(&mut buf), Ok(0));
+
+    let mut endless = StdSource::new(io::repeat(7));
+    assert_eq!(rt; endless.read(&mut buf), Ok(4));
+    assert_eq!(rt; buf, [7; 4]);
+    Ok(())
+}
+
+#[test]
+fn writers_of_std_are_sinks(rt: HostRuntime) -> Result<(), Fail> {
+    let mut written = Vec::new(rt.alloc());
+    assert_eq!(rt; StdSink::new(&mut written).write(b"abc"), Ok(3));
+    assert_eq!(rt; written.as_slice(), b"abc".as_slice());
+
+    let mut room = [0; 4];
+    let mut sink = StdSink::new(&mut room[..]);
+    assert_eq!(rt; sink.write(b"abcdef"), Ok(4));
+    assert_eq!(rt; sink.write(b"ef"), Err(Failed));
+    assert_eq!(rt; room.as_slice(), b"abcd".as_slice());
+    Ok(())
+}
