@@ -1,9 +1,10 @@
 -- The words of registers, numbers and scales are read as what they name.
-use Rattle.std.proofs.Common.{◌≡◌, ℕ, ℤ, pos, negsuc, zero, suc, ◌<◌, ◌/◌, ◌%◌, ◌^◌, Bool, true, false, ◌||◌, cond, eqb, List, [], ◌∷◌, ◌++◌, codes, Option, Some, None, FitsSigned, w32, refl, sym, subst, ap, arith, lt-ltb}
+use Rattle.std.proofs.Common.{◌≡◌, ℕ, ℤ, pos, negsuc, zero, suc, ◌<◌, ◌/◌, ◌%◌, ◌^◌, Bool, true, false, ◌||◌, cond, eqb, List, [], ◌∷◌, ◌++◌, codes, Some, None, FitsSigned, w32, refl, sym, subst, arith, lt-ltb}
 use Rattle.std.specs.Fmt.{decimal, digits, digits_onto, digit_glyph}
 use Rattle.std.specs.List.{list_all}
 use Rattle.std.proofs.lemmas.Bool.{agree_below_at, eqb-true}
 use Rattle.cet_base.specs.NumberLaws.{number_of-hex}
+use Rattle.cet_base.specs.Numbers.{number_of}
 use Rattle.cet_encode.specs.Names.{register_name}
 use Rattle.cet_isa.specs.Spelled.{scale_ok}
 use Rattle.cet_isa.specs.declared.instructions.Reg.{Reg}
@@ -11,10 +12,10 @@ use Rattle.cet_isa.specs.declared.instructions.Reg.TheVariants as regs
 use Rattle.cet_isa.specs.declared.instructions.Size.{Size}
 use Rattle.cet_isa.specs.declared.instructions.Size.TheVariants as sizes
 use Rattle.cet_asm.specs.Tokens.{is_name_byte}
-use Rattle.cet_asm.specs.Words.{register_of, is_counter, is_pointer, Number, signed, number_place, word_place, dword_holds}
+use Rattle.cet_asm.specs.Words.{begins_decimal, is_plain, register_of, is_counter, is_pointer, Number, signed, number_place, word_place, dword_holds}
 use Rattle.cet_asm.specs.Operands.{scale_of, Register, Value, word_given}
 use Rattle.cet_asm.specs.Instructions.{Field, value_field}
-use Rattle.cet_asm.proofs.PieceTokens.{is_word}
+use Rattle.cet_asm.proofs.PieceTokens.{is_word, names_pass}
 
 -- ---- registers
 
@@ -94,9 +95,18 @@ pub hex_word : (n : ℕ) → is_word (hex n) ≡ true
 unfolding digits
 hex_word n = onto_names 64 n [] refl
 
-pub hex_place : (minus : Bool) (n : ℕ) → n < 2 ^ 64 → number_place minus (hex n) ≡ Some (Number (signed minus (Some n)))
+hex_plain : (n : ℕ) → list_all is_plain (hex n) ≡ true
+unfolding digits
+hex_plain n = names_pass is_plain (hex n) refl (hex_word n)
+
+-- a word of plain bytes that begins by a digit
+placed : (minus : Bool) (w : List ℕ) (n : ℕ) → begins_decimal w ≡ true → list_all is_plain w ≡ true → number_of w ≡ Some n
+    → number_place minus w ≡ Some (Number (signed minus (Some n)))
 unfolding number_place
-hex_place minus n h = ap (λ (o : Option ℕ). Some (Number (signed minus o))) (number_of-hex n h)
+placed minus w n first plain value = rw (first, plain, value) refl
+
+pub hex_place : (minus : Bool) (n : ℕ) → n < 2 ^ 64 → number_place minus (hex n) ≡ Some (Number (signed minus (Some n)))
+hex_place minus n h = placed minus (hex n) n refl (hex_plain n) (number_of-hex n h)
 
 pub hex_word_place : (n : ℕ) → n < 2 ^ 64 → word_place (hex n) ≡ Some (Number (Some (pos n)))
 unfolding word_place
