@@ -1,4 +1,4 @@
-//! Listings of code that no accepted file has today.
+//! Listings of segments that `asm` writes for no text.
 
 ghost use Rattle.std.specs.Prelude.{◌<◌, length};
 

@@ -292,7 +292,9 @@ fn faulty_words(rt: HostRuntime) -> Result<(), Fail> {
     is_usage(&rt, rt.alloc(), "", 1)?;
     is_usage(&rt, rt.alloc(), "walk", 1)?;
     is_usage(&rt, rt.alloc(), "run x", 2)?;
-    is_usage(&rt, rt.alloc(), "dis x", 2)
+    is_usage(&rt, rt.alloc(), "dis x", 2)?;
+    is_usage(&rt, rt.alloc(), "asm --runtime", 2)?;
+    is_usage(&rt, rt.alloc(), "check x", 2)
 }
 
 /// The first part of the report that stays where this write fails. Each takes at most so many bytes.

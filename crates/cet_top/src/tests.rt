@@ -104,6 +104,10 @@ fn words_are_read(rt: HostRuntime) -> Result<(), Fail> {
         ("dis run", Err(2)),
         ("run dis", Err(2)),
         ("disasm", Err(1)),
+        ("asm", Ok(Command::Asm)),
+        ("asm --runtime", Err(2)),
+        ("check", Ok(Command::Check)),
+        ("check x", Err(2)),
     ];
     for (text, answer) in lists {
         let mut words = Vec::new(alloc);
