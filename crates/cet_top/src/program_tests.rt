@@ -180,7 +180,9 @@ fn images_are_checked(rt: HostRuntime) -> Result<(), Fail> {
     checks(&rt, alloc, &bytes, Status::Done, "accepted\n")?;
 
     // A text that is writable and executable.
-    bytes[0x44] = 7;
+    if let Some(rights) = bytes.get_mut(0x44) {
+        *rights = 7;
+    }
     let refused = Status::Refused {
         rule: 11,
         offset: 64,
