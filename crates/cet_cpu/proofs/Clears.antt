@@ -1,10 +1,10 @@
 -- One more entry cleared, and what doesn't matter for the accesses of the gate's way out.
-use Rattle.std.proofs.Common.{◌∷◌, ◌≡◌, ℕ, zero, suc, ◌+◌, ◌-◌, ◌<◌, arith, refl, ap, sym, ◌∙◌, List, []}
+use Rattle.std.proofs.Common.{◌∷◌, ◌≡◌, ℕ, zero, suc, ◌+◌, ◌-◌, ◌<◌, arith, refl, List, []}
 use Rattle.cet_words.specs.Layout.{entry_word}
 use Rattle.cet_words.specs.Change.{Change}
-use Rattle.cet_cpu.specs.Script.{Script, done, ◌>>=◌, play, play_bind, resume}
-use Rattle.cet_cpu.specs.Parts.{store, store_as, load, load_as, exchange_as}
-use Rattle.cet_cpu.specs.Gate.{clears, gate_out, token_word, token}
+use Rattle.cet_page.specs.Script.{done, ◌>>=◌, play}
+use Rattle.cet_page.specs.Parts.{store, store_as, load_as, exchange_as}
+use Rattle.cet_page.specs.Gate.{clears, gate_out}
 
 clears_next : (left count page next : ℕ) → left ≡ suc count → next ≡ page + 1 → clears left page ≡ (store (entry_word page) 0 >>= λ _. clears count next)
 unfolding clears ◌>>=◌ store_as

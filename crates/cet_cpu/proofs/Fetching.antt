@@ -1,9 +1,9 @@
 -- One more byte that can be fetched, or none.
-use Rattle.std.proofs.Common.{◌≡◌, ℕ, zero, suc, ◌+◌, ◌-◌, ◌<◌, ◌≤◌, arith, refl, ap, sym, ◌∙◌, List, [], ◌∷◌, ◌++◌, Option, Some, None, take, length, set, length-set, append_assoc, append-nil}
+use Rattle.std.proofs.Common.{◌≡◌, ℕ, suc, ◌+◌, ◌-◌, ◌<◌, ◌≤◌, arith, refl, ap, sym, ◌∙◌, List, [], ◌∷◌, ◌++◌, Some, None, take, length, set, length-set, append_assoc, append-nil}
 use Rattle.std.proofs.lemmas.List.{take_more_set}
 use Rattle.cet_words.specs.declared.images.Segment.{Segment}
 use Rattle.cet_words.specs.Bytes.{code_byte}
-use Rattle.cet_cpu.specs.Fetch.{fetchable, joined}
+use Rattle.cet_page.specs.Fetch.{fetchable}
 
 next_byte : (segments : List Segment) (addr left most next b : ℕ) → left ≡ suc most → next ≡ addr + 1 → code_byte segments addr ≡ Some b → fetchable segments addr left ≡ b ∷ fetchable segments next most
 unfolding fetchable

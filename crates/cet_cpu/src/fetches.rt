@@ -1,13 +1,11 @@
 //! The fetch of an instruction.
 
 ghost use Rattle.std.specs.Prelude.{◌≡◌, ◌+◌, ◌-◌, ◌^◌, ◌<◌, ◌≤◌, take, length};
-ghost use Rattle.cet_cpu.specs.Script.{play};
-ghost use Rattle.cet_cpu.specs.Plays.{Comes};
-ghost use Rattle.cet_cpu.specs.Fetch.{fetchable, missing};
+ghost use Rattle.cet_page.specs.Script.{play};
+ghost use Rattle.cet_page.specs.Plays.{Comes};
+ghost use Rattle.cet_page.specs.Fetch.{fetchable, missing};
 
-use crate::checks::{Kind, Who, page_fault};
-use crate::cursors::{Cursor, Stop};
-use crate::rows::Finish;
+use cet_page::{Cursor, Finish, Kind, Stop, Who, page_fault};
 use cet_words::{Access, Image, code_byte, page_of};
 
 /// Puts the bytes that can be fetched at an address into the buffer, as many as it has room for; the
@@ -28,7 +26,7 @@ pub fn fetch(image: &Image, addr: u64, buffer: &mut [u8]) -> usize
 }
 
 /// The page fault of a fetch at an address whose byte can't be fetched, after a look at its page.
-#[tactic(auto, using(crate::specs::Script::play_bind), unfolding(crate::specs::Fetch::missing))]
+#[tactic(auto, using(cet_page::specs::Script::play_bind), unfolding(cet_page::specs::Fetch::missing))]
 pub fn missing(addr: u64, at: &mut Cursor) -> Result<Finish, Stop>
     ensures { Comes (play (missing addr) at.old.left at.old.rest.now) result at.new.left at.new.rest.now }
 {

@@ -2,13 +2,12 @@
 
 ghost use Rattle.std.specs.Prelude.{◌≡◌, ◌+◌, ◌-◌, ◌^◌, ◌<◌};
 ghost use Rattle.cet_isa.specs.Code.{reg_number};
-ghost use Rattle.cet_cpu.specs.Script.{play};
-ghost use Rattle.cet_cpu.specs.Plays.{Comes};
-ghost use Rattle.cet_cpu.specs.Flow.{moved, called, call, call_next, call_relative, returned, ret, return_differs};
+ghost use Rattle.cet_page.specs.Script.{play};
+ghost use Rattle.cet_page.specs.Plays.{Comes};
+ghost use Rattle.cet_page.specs.Flow.{moved, called, call, call_next, call_relative, returned, ret, return_differs};
 
-use crate::checks::{Kind, Who};
-use crate::cursors::{Cursor, Stop, general_protection, word_in};
 use cet_isa::{Arch, Fault, FaultName, Record, Reg, What, is_canonical};
+use cet_page::{Cursor, Kind, Stop, Who, general_protection, word_in};
 
 /// RSP's place among the registers.
 const RSP: usize = 4;
@@ -52,7 +51,7 @@ fn called(arch: &Arch, target: u64, sp: u64, ssp: u64) -> (Arch, Record)
 }
 
 /// A call that pushes the return address on both stacks.
-#[tactic(auto, using(crate::specs::Script::play_bind, crate::specs::Parts::play_store_as), unfolding(crate::specs::Flow::call))]
+#[tactic(auto, using(cet_page::specs::Script::play_bind, cet_page::specs::Parts::play_store_as), unfolding(cet_page::specs::Flow::call))]
 fn call(arch: &Arch, back: u64, target: u64, at: &mut Cursor) -> Result<(Arch, Record), Stop>
     requires { arch.now.count < 2 ^ 32 - 1 }
     ensures { Comes (play (call arch.now back target) at.old.left at.old.rest.now) result at.new.left at.new.rest.now }
@@ -68,7 +67,7 @@ fn call(arch: &Arch, back: u64, target: u64, at: &mut Cursor) -> Result<(Arch, R
 }
 
 /// A call to the next instruction, which pushes on the program stack alone.
-#[tactic(auto, using(crate::specs::Script::play_bind), unfolding(crate::specs::Flow::call_next))]
+#[tactic(auto, using(cet_page::specs::Script::play_bind), unfolding(cet_page::specs::Flow::call_next))]
 fn call_next(arch: &Arch, back: u64, at: &mut Cursor) -> Result<(Arch, Record), Stop>
     requires { arch.now.count < 2 ^ 32 - 1 }
     ensures { Comes (play (call_next arch.now back) at.old.left at.old.rest.now) result at.new.left at.new.rest.now }
@@ -129,7 +128,7 @@ fn return_differs(word: u64, shadow_word: u64) -> Fault
 }
 
 /// A near return.
-#[tactic(auto, using(crate::specs::Script::play_bind, crate::specs::Parts::play_load_as), unfolding(crate::specs::Flow::ret))]
+#[tactic(auto, using(cet_page::specs::Script::play_bind, cet_page::specs::Parts::play_load_as), unfolding(cet_page::specs::Flow::ret))]
 pub fn ret(arch: &Arch, at: &mut Cursor) -> Result<(Arch, Record), Stop>
     requires { arch.now.count < 2 ^ 32 - 1 }
     ensures { Comes (play (ret arch.now) at.old.left at.old.rest.now) result at.new.left at.new.rest.now }

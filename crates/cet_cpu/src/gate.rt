@@ -2,14 +2,13 @@
 
 ghost use Rattle.std.specs.Prelude.{◌≡◌, ◌+◌, ◌-◌, ◌*◌, ◌%◌, ◌^◌, ◌<◌, ◌≤◌, [], ◌∷◌};
 ghost use Rattle.cet_words.specs.Change.{Ended};
-ghost use Rattle.cet_cpu.specs.Script.{play};
-ghost use Rattle.cet_cpu.specs.Plays.{Comes};
-ghost use Rattle.cet_cpu.specs.Finish.{IsMade, counted};
-ghost use Rattle.cet_cpu.specs.Gate.{token, token_page, token_word, stack_of, gate_in, gate_out, found_busy, sys_record, served, clears, made_page, exit_status, exit, no_call, service, syscall, signal_of, killed, kill, deliver};
+ghost use Rattle.cet_page.specs.Script.{play};
+ghost use Rattle.cet_page.specs.Plays.{Comes};
+ghost use Rattle.cet_page.specs.Finish.{IsMade, counted};
+ghost use Rattle.cet_page.specs.Gate.{token, token_page, token_word, stack_of, gate_in, gate_out, found_busy, sys_record, served, clears, made_page, exit_status, exit, no_call, service, syscall, signal_of, killed, kill, deliver};
 
-use crate::cursors::{Cursor, Stop};
-use crate::rows::Finish;
 use cet_isa::{Arch, Fault, FaultName, Record, What};
+use cet_page::{Cursor, Finish, Stop};
 use cet_words::Job;
 
 const RAX: usize = 0;
@@ -66,7 +65,7 @@ pub fn token_word(k: u8) -> u32
 }
 
 /// The gate's way in. Where the supervisor stack is busy, the word found.
-#[tactic(auto, using(crate::specs::Script::play_bind, crate::specs::Parts::play_exchange_as), unfolding(crate::specs::Gate::gate_in))]
+#[tactic(auto, using(cet_page::specs::Script::play_bind, cet_page::specs::Parts::play_exchange_as), unfolding(cet_page::specs::Gate::gate_in))]
 fn gate_in(k: u8, at: &mut Cursor) -> Result<Option<u64>, Stop>
     requires { k < 8 }
     ensures { Comes (play (gate_in k) at.old.left at.old.rest.now) result at.new.left at.new.rest.now }
@@ -82,7 +81,7 @@ fn gate_in(k: u8, at: &mut Cursor) -> Result<Option<u64>, Stop>
 }
 
 /// The gate's way out. What follows is the same whatever it finds.
-#[tactic(auto, using(crate::specs::Script::play_bind, crate::specs::Parts::play_exchange_as), unfolding(crate::specs::Gate::gate_out))]
+#[tactic(auto, using(cet_page::specs::Script::play_bind, cet_page::specs::Parts::play_exchange_as), unfolding(cet_page::specs::Gate::gate_out))]
 fn gate_out(k: u8, at: &mut Cursor) -> Result<(), Stop>
     requires { k < 8 }
     ensures { Comes (play (gate_out [] k) at.old.left at.old.rest.now) result at.new.left at.new.rest.now }
@@ -145,7 +144,7 @@ fn served(arch: &Arch, next: u64, outcome: u64) -> Arch
 }
 
 /// Stores of 0 to the entries of so many pages, the lowest first.
-#[tactic(auto, using(crate::specs::Script::play_bind, crate::proofs::Clears::clears_more, crate::proofs::Clears::clears_none))]
+#[tactic(auto, using(cet_page::specs::Script::play_bind, crate::proofs::Clears::clears_more, crate::proofs::Clears::clears_none))]
 fn clears(count: u32, page: u32, at: &mut Cursor) -> Result<(), Stop>
     requires { page + count ≤ 3154 }
     ensures { Comes (play (clears count page) at.old.left at.old.rest.now) result at.new.left at.new.rest.now }
@@ -157,7 +156,7 @@ fn clears(count: u32, page: u32, at: &mut Cursor) -> Result<(), Stop>
 }
 
 /// The service exit, which ends the thread.
-#[tactic(auto, using(crate::specs::Script::play_bind, crate::proofs::Clears::play_gate_out), unfolding(crate::specs::Gate::exit))]
+#[tactic(auto, using(cet_page::specs::Script::play_bind, crate::proofs::Clears::play_gate_out), unfolding(cet_page::specs::Gate::exit))]
 fn exit(arch: &Arch, k: u8, at: &mut Cursor) -> Result<Finish, Stop>
     requires stack { k < 8 }
     requires count { arch.now.count < 2 ^ 32 - 1 }
@@ -171,7 +170,7 @@ fn exit(arch: &Arch, k: u8, at: &mut Cursor) -> Result<Finish, Stop>
 }
 
 /// A kernel call that isn't there.
-#[tactic(auto, using(crate::specs::Script::play_bind), unfolding(crate::specs::Gate::no_call))]
+#[tactic(auto, using(cet_page::specs::Script::play_bind), unfolding(cet_page::specs::Gate::no_call))]
 fn no_call(arch: &Arch, next: u64, k: u8, at: &mut Cursor) -> Result<Finish, Stop>
     requires stack { k < 8 }
     requires count { arch.now.count < 2 ^ 32 - 1 }
@@ -195,7 +194,7 @@ fn service(arch: &Arch, next: u64, k: u8, at: &mut Cursor) -> Result<Finish, Sto
 }
 
 /// SYSCALL, with the address of the next instruction.
-#[tactic(auto, using(crate::specs::Script::play_bind), unfolding(crate::specs::Gate::syscall))]
+#[tactic(auto, using(cet_page::specs::Script::play_bind), unfolding(cet_page::specs::Gate::syscall))]
 pub fn syscall(job: &Job, arch: &Arch, next: u64, at: &mut Cursor) -> Result<Finish, Stop>
     requires count { arch.now.count < 2 ^ 32 - 1 }
     requires made { IsMade arch.now.made }
@@ -240,7 +239,7 @@ fn killed(arch: &Arch, signal: u8, before: u64) -> Finish
 }
 
 /// The kill of the process by a signal.
-#[tactic(auto, using(crate::specs::Script::play_bind), unfolding(crate::specs::Gate::kill))]
+#[tactic(auto, using(cet_page::specs::Script::play_bind), unfolding(cet_page::specs::Gate::kill))]
 fn kill(arch: &Arch, signal: u8, k: u8, at: &mut Cursor) -> Result<Finish, Stop>
     requires signal { signal < 32 }
     requires stack { k < 8 }
@@ -254,7 +253,7 @@ fn kill(arch: &Arch, signal: u8, k: u8, at: &mut Cursor) -> Result<Finish, Stop>
 }
 
 /// The delivery of a due fault.
-#[tactic(auto, using(crate::specs::Script::play_bind), unfolding(crate::specs::Gate::deliver))]
+#[tactic(auto, using(cet_page::specs::Script::play_bind), unfolding(cet_page::specs::Gate::deliver))]
 pub fn deliver(job: &Job, arch: &Arch, fault: &Fault, at: &mut Cursor) -> Result<Finish, Stop>
     requires { arch.now.count < 2 ^ 32 - 1 }
     ensures { Comes (play (deliver job.now arch.now fault.now) at.old.left at.old.rest.now) result at.new.left at.new.rest.now }

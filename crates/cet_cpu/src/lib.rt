@@ -1,18 +1,15 @@
 //! One thread of the machine, access by access.
 //!
 //! What a thread does is written as a script of accesses for each instruction, kernel call and
-//! delivery (`specs/`). The functions here run such a script over the answers that the thread has
-//! kept since its last record.
+//! delivery (the `specs/` of cet_page). The functions here run such a script over the answers that the
+//! thread has kept since its last record.
 #![tactic(auto)]
 
-mod checks;
-mod cursors;
 mod fetches;
 mod flow;
 mod gate;
 mod rows;
 mod threads;
-mod vals;
 
 pub use cet_isa::End;
 pub use threads::{Cpu, Taken, first};

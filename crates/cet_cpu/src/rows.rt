@@ -3,31 +3,18 @@
 ghost use Rattle.std.specs.Prelude.{◌≡◌, ◌+◌, ◌-◌, ◌^◌, ◌<◌};
 ghost use Rattle.cet_decode.specs.Decoded.{decoding};
 ghost use Rattle.cet_isa.specs.Reading.{decoded};
-ghost use Rattle.cet_cpu.specs.Script.{play};
-ghost use Rattle.cet_cpu.specs.Plays.{Comes};
-ghost use Rattle.cet_cpu.specs.Finish.{IsMade};
-ghost use Rattle.cet_cpu.specs.Row.{row, row_from, boundary, instruction, execute, move};
+ghost use Rattle.cet_page.specs.Script.{play};
+ghost use Rattle.cet_page.specs.Plays.{Comes};
+ghost use Rattle.cet_page.specs.Finish.{IsMade};
+ghost use Rattle.cet_page.specs.Row.{row, row_from, boundary, instruction, execute, move};
 
-use crate::cursors::{Cursor, Stop, general_protection, invalid_opcode};
 use crate::fetches::{fetch, missing};
 use crate::flow::{call_relative, moved, ret};
 use crate::gate::{EXIT_WORD, FIRST_PEND_WORD, deliver, syscall};
 use cet_decode::{Decoded, decode};
 use cet_isa::{Arch, Instr, Operand, Record, Size, is_canonical};
+use cet_page::{Cursor, Finish, Stop, general_protection, invalid_opcode};
 use cet_words::Job;
-
-/// What a row comes to.
-#[derive(Clone, Copy, Debug, PartialEq, Eq)]
-pub enum Finish {
-    /// The new state and the record.
-    Noted(Arch, Record),
-    /// The new state after the posting of a listed signal, which gives no record.
-    Posted(Arch),
-    /// The new state, the record and the status of the service exit.
-    Exited(Arch, Record, u8),
-    /// The process has ended.
-    Stopped,
-}
 
 fn execute_move(
     arch: &Arch,
@@ -50,7 +37,7 @@ fn execute_move(
 }
 
 /// An instruction, with the address of the next one.
-#[tactic(auto, using(crate::specs::Script::play_bind))]
+#[tactic(auto, using(cet_page::specs::Script::play_bind))]
 fn execute(
     job: &Job,
     arch: &Arch,
@@ -85,7 +72,7 @@ fn read(bytes: &[u8]) -> Decoded
 }
 
 /// The instruction at RIP.
-#[tactic(auto, unfolding(crate::specs::Row::instruction))]
+#[tactic(auto, unfolding(cet_page::specs::Row::instruction))]
 fn instruction(job: &Job, arch: &Arch, at: &mut Cursor) -> Result<Finish, Stop>
     requires count { arch.now.count < 2 ^ 32 - 1 }
     requires made { IsMade arch.now.made }
@@ -110,7 +97,7 @@ fn instruction(job: &Job, arch: &Arch, at: &mut Cursor) -> Result<Finish, Stop>
 }
 
 /// What a thread does between instructions, and then the instruction.
-#[tactic(auto, using(crate::specs::Script::play_bind), unfolding(crate::specs::Row::boundary))]
+#[tactic(auto, using(cet_page::specs::Script::play_bind), unfolding(cet_page::specs::Row::boundary))]
 fn boundary(job: &Job, arch: &Arch, at: &mut Cursor) -> Result<Finish, Stop>
     requires count { arch.now.count < 2 ^ 32 - 1 }
     requires made { IsMade arch.now.made }

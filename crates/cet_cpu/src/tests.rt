@@ -1,5 +1,5 @@
 ghost use Rattle.std.specs.Prelude.{◌≤◌, length};
-ghost use Rattle.cet_cpu.specs.Within.{IsCore};
+ghost use Rattle.cet_page.specs.Within.{IsCore};
 
 use super::*;
 use cet_isa::{Record, What};

@@ -5,15 +5,14 @@ ghost use Rattle.cet_words.specs.Access.{InRange};
 ghost use Rattle.cet_words.specs.declared.accesses.Access.{Access};
 ghost use Rattle.cet_isa.specs.declared.threads.End.{End};
 ghost use Rattle.cet_isa.specs.declared.threads.FaultName.{FaultName};
-ghost use Rattle.cet_cpu.specs.Faults.{Faults};
-ghost use Rattle.cet_cpu.specs.Within.{IsCore};
-ghost use Rattle.cet_cpu.specs.Core.{core_at, first_core, next_access, taken, held_after, unheld, kept_by, recorded, fault_record, faulted};
+ghost use Rattle.cet_page.specs.Faults.{Faults};
+ghost use Rattle.cet_page.specs.Within.{IsCore};
+ghost use Rattle.cet_page.specs.Core.{core_at, first_core, next_access, taken, held_after, unheld, kept_by, recorded, fault_record, faulted};
 
-use crate::cursors::Stop;
 use crate::gate::{stack_of, token, token_word};
-use crate::rows::{Finish, row};
-use crate::vals::Vals;
+use crate::rows::row;
 use cet_isa::{Arch, End, Fault, Record, What};
+use cet_page::{Finish, Stop, Vals};
 use cet_words::{Access, Job};
 use std::marker::Model;
 
@@ -26,7 +25,7 @@ pub struct Cpu {
 }
 
 impl Model for Cpu {
-    ghost use Rattle.cet_cpu.specs.Core.{Core};
+    ghost use Rattle.cet_page.specs.Core.{Core};
 
     ghost Value = { Core };
 
@@ -148,7 +147,7 @@ impl Cpu {
     }
 
     /// The thread's next access, or none where it has ended.
-    #[tactic(auto, using(crate::specs::Within::goes, crate::specs::Within::stops), unfolding(crate::specs::Core::next_access))]
+    #[tactic(auto, using(cet_page::specs::Within::goes, cet_page::specs::Within::stops), unfolding(cet_page::specs::Core::next_access))]
     pub fn next(&self, job: &Job) -> Option<Access>
         requires state { IsCore job.now self.now }
         ensures access { result ≡ next_access job.now self.now }
@@ -166,7 +165,7 @@ impl Cpu {
     }
 
     /// Takes the answer to the thread's next access.
-    #[tactic(auto, using(crate::specs::Within::room, crate::specs::Within::taken_at, crate::specs::Within::no_child, crate::specs::Faults::faults_of))]
+    #[tactic(auto, using(cet_page::specs::Within::room, cet_page::specs::Within::taken_at, cet_page::specs::Within::no_child, cet_page::specs::Faults::faults_of))]
     pub fn take(&mut self, job: &Job, answer: u64) -> Taken
         requires state { IsCore job.now self.old }
         requires going { self.old.over ≡ None }
@@ -187,7 +186,7 @@ impl Cpu {
         }
     }
 
-    #[tactic(auto, unfolding(crate::specs::Core::taken, crate::specs::Core::next_access))]
+    #[tactic(auto, unfolding(cet_page::specs::Core::taken, cet_page::specs::Core::next_access))]
     fn answered(&mut self, job: &Job, answer: u64) -> Option<Record>
         requires state { IsCore job.now self.old }
         requires going { self.old.over ≡ None }

@@ -14,14 +14,14 @@ use Rattle.cet_book.specs.Relies.{Relies, owns_current}
 use Rattle.cet_book.specs.Stack.{slot}
 use Rattle.cet_book.specs.Top.{relist_top}
 use Rattle.cet_book.specs.Ways.{called_way}
-use Rattle.cet_cpu.specs.Core.{kept_by}
-use Rattle.cet_cpu.specs.Script.{done, ◌>>=◌}
-use Rattle.cet_cpu.specs.Finish.{below, rsp}
-use Rattle.cet_cpu.specs.Flow.{called, call, call_next}
-use Rattle.cet_cpu.specs.Parts.{store_as}
-use Rattle.cet_cpu.specs.declared.checks.Kind.TheVariants as kind
-use Rattle.cet_cpu.specs.declared.rows.Finish.{Finish}
-use Rattle.cet_cpu.specs.declared.rows.Finish.TheVariants.{Noted, Posted, Exited, Stopped}
+use Rattle.cet_page.specs.Core.{kept_by}
+use Rattle.cet_page.specs.Script.{done, ◌>>=◌}
+use Rattle.cet_page.specs.Finish.{below, rsp}
+use Rattle.cet_page.specs.Flow.{called, call, call_next}
+use Rattle.cet_page.specs.Parts.{store_as}
+use Rattle.cet_page.specs.declared.checks.Kind.TheVariants as kind
+use Rattle.cet_page.specs.declared.finishes.Finish.{Finish}
+use Rattle.cet_page.specs.declared.finishes.Finish.TheVariants.{Noted, Posted, Exited, Stopped}
 use Rattle.cet_own.specs.Safe.{IsElsewhere, ReturnsBy}
 use Rattle.cet_own.specs.Holds.{In, IsOut}
 use Rattle.cet_own.specs.Standing.{stacked, AtRest, rest_kept, HasNone}

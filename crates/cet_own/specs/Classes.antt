@@ -9,7 +9,7 @@ use Rattle.cet_book.specs.Book.{Entry, Current, Book, region, top, current_of, s
 use Rattle.cet_book.specs.Addresses.{IsReturn}
 use Rattle.cet_book.specs.Relies.{Relies, relies_same, relies_then}
 use Rattle.cet_book.specs.Stack.{slot, word_of, tops}
-use Rattle.cet_cpu.specs.Gate.{token, token_word}
+use Rattle.cet_page.specs.Gate.{token, token_word}
 use Rattle.cet_own.specs.Frame.{Rules}
 use Rattle.cet_own.specs.Holds.{Sound, LiesIn, IsEntry, busy, IsOut}
 use Rattle.cet_own.specs.Standing.{Free}

@@ -5,10 +5,10 @@ use Rattle.cet_words.specs.Change.{Change}
 use Rattle.cet_words.specs.Job.{JobData}
 use Rattle.cet_words.specs.declared.accesses.Access.{Access}
 use Rattle.cet_book.specs.Book.{Book, first_book, book_after}
-use Rattle.cet_cpu.specs.Core.{Core, next_access, unheld}
-use Rattle.cet_cpu.specs.Machine.{Machine, Thread, step}
-use Rattle.cet_cpu.specs.Row.{row}
-use Rattle.cet_cpu.specs.Script.{changes_at}
+use Rattle.cet_page.specs.Core.{Core, next_access, unheld}
+use Rattle.cet_page.specs.Machine.{Machine, Thread, step}
+use Rattle.cet_page.specs.Row.{row}
+use Rattle.cet_page.specs.Script.{changes_at}
 
 -- a change of the book, and the thread that made it
 pub record Event : Type 0 where

@@ -12,10 +12,10 @@ use Rattle.cet_book.specs.Addresses.{first_returns}
 use Rattle.cet_book.specs.Edits.{current_holds}
 use Rattle.cet_book.specs.First.{first_empty, first_current, first_is_book}
 use Rattle.cet_book.specs.Stack.{Stack, tops}
-use Rattle.cet_cpu.specs.Core.{first_core, unheld}
-use Rattle.cet_cpu.specs.Gate.{token, token_word}
-use Rattle.cet_cpu.specs.Machine.{Machine, Thread, Starts}
-use Rattle.cet_cpu.specs.Within.{first_waits}
+use Rattle.cet_page.specs.Core.{first_core, unheld}
+use Rattle.cet_page.specs.Gate.{token, token_word}
+use Rattle.cet_page.specs.Machine.{Machine, Thread, Starts}
+use Rattle.cet_page.specs.Within.{first_waits}
 use Rattle.cet_own.specs.Holds.{LiesIn, IsEntry, Pages, busy, Gates, Holds}
 use Rattle.cet_own.specs.Standing.{Free, AtRest, HasNone}
 use Rattle.cet_own.specs.Held.{held_free}

@@ -7,9 +7,9 @@ use Rattle.cet_words.specs.Change.{Change}
 use Rattle.cet_words.specs.declared.accesses.Access.{Access}
 use Rattle.cet_words.specs.declared.accesses.Access.TheVariants as access
 use Rattle.cet_isa.specs.declared.threads.Fault.{Fault}
-use Rattle.cet_cpu.specs.Script.{Script, done, fault, ask, tell, ◌>>=◌, Came, Over, Faulted, Wants, play, changes_at}
-use Rattle.cet_cpu.specs.Seen.{keeps, kept_after}
-use Rattle.cet_cpu.specs.Orderly.{writes, Orderly}
+use Rattle.cet_page.specs.Script.{Script, done, fault, ask, tell, ◌>>=◌, Came, Over, Faulted, Wants, play, changes_at}
+use Rattle.cet_page.specs.Seen.{keeps, kept_after}
+use Rattle.cet_page.specs.Orderly.{writes, Orderly}
 
 -- a thread's view of a kind of book
 pub record Rules (B : Type 0) : Type 1 where

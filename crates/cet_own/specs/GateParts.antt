@@ -12,9 +12,9 @@ use Rattle.cet_book.specs.Edits.{Owned, owned, current_holds}
 use Rattle.cet_book.specs.Hand.{hand, end_none}
 use Rattle.cet_book.specs.Supervisor.{stack_of-put_stack, current_of-put_stack}
 use Rattle.cet_book.specs.Ways.{busied_way, freed_way, ended_way}
-use Rattle.cet_cpu.specs.Script.{Script, ◌>>=◌}
-use Rattle.cet_cpu.specs.Parts.{exchange_as}
-use Rattle.cet_cpu.specs.Gate.{token, token_page, token_word, kernel_return, gate_in, gate_out}
+use Rattle.cet_page.specs.Script.{Script, ◌>>=◌}
+use Rattle.cet_page.specs.Parts.{exchange_as}
+use Rattle.cet_page.specs.Gate.{token, token_page, token_word, kernel_return, gate_in, gate_out}
 use Rattle.cet_own.specs.Holds.{IsOut, busy}
 use Rattle.cet_own.specs.Standing.{Stacked, Free, AtRest, rest_kept, Inside, inside_kept, HasNone}
 use Rattle.cet_own.specs.Held.{held_given}

@@ -13,8 +13,8 @@ use Rattle.cet_book.specs.Hand.{hand}
 use Rattle.cet_book.specs.Removes.{returned_is, shortened}
 use Rattle.cet_book.specs.Supervisor.{stack_of-put_stack}
 use Rattle.cet_book.specs.Ways.{with_current_at, called_way, ended_way, freed_way, busied_way}
-use Rattle.cet_cpu.specs.Core.{held_after}
-use Rattle.cet_cpu.specs.Gate.{token, token_word}
+use Rattle.cet_page.specs.Core.{held_after}
+use Rattle.cet_page.specs.Gate.{token, token_word}
 use Rattle.cet_own.specs.Holds.{Holds}
 use Rattle.cet_own.specs.Standing.{Free}
 use Rattle.cet_own.specs.Classes.{Owed, looks, loads, stores, exchanges, clears, pushes, pops, refused, enters, leaves, exits}

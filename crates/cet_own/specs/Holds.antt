@@ -6,7 +6,7 @@ use Rattle.cet_book.specs.Book.{Book, Region, region, top, stack_of}
 use Rattle.cet_book.specs.Shape.{IsBook}
 use Rattle.cet_book.specs.Addresses.{Returns}
 use Rattle.cet_book.specs.Stack.{Stack, tops}
-use Rattle.cet_cpu.specs.Gate.{token, token_word}
+use Rattle.cet_page.specs.Gate.{token, token_word}
 
 -- the facts on the book alone
 pub record Sound (b : Book) : Type 0 where

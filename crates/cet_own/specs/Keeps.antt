@@ -16,7 +16,7 @@ use Rattle.cet_book.specs.Kept.{NoneBorn, others_rely}
 use Rattle.cet_book.specs.Relies.{Relies}
 use Rattle.cet_book.specs.Stack.{slot}
 use Rattle.cet_book.specs.Ways.{with_current_at, called_way, ended_way, freed_way, busied_way}
-use Rattle.cet_cpu.specs.Gate.{token, token_word}
+use Rattle.cet_page.specs.Gate.{token, token_word}
 use Rattle.cet_own.specs.Holds.{Sound, busy, Holds}
 use Rattle.cet_own.specs.Kept.{holds_out, holds_clear}
 use Rattle.cet_own.specs.Own.{holds_push, holds_pop}

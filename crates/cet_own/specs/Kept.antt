@@ -9,7 +9,7 @@ use Rattle.cet_book.specs.Shape.{Shape}
 use Rattle.cet_book.specs.Edits.{SameBounds}
 use Rattle.cet_book.specs.Supervisor.{stack_of-put_stack}
 use Rattle.cet_book.specs.Stack.{Stack, tops}
-use Rattle.cet_cpu.specs.Gate.{token, token_word}
+use Rattle.cet_page.specs.Gate.{token, token_word}
 use Rattle.cet_own.specs.Holds.{LiesIn, IsEntry, Pages, busy, Gates, Holds, IsOut}
 use Rattle.cet_own.specs.Writes.{stack_agrees, top_even, list_out}
 

@@ -13,7 +13,7 @@ use Rattle.cet_book.specs.Hand.{hand, hand_all, hand_same, ends}
 use Rattle.cet_book.specs.Addresses.{ChangeReturns}
 use Rattle.cet_book.specs.Kept.{book_kept}
 use Rattle.cet_book.specs.Stack.{slot, word_of, Stack, tops}
-use Rattle.cet_cpu.specs.Gate.{token, token_word}
+use Rattle.cet_page.specs.Gate.{token, token_word}
 use Rattle.cet_own.specs.Holds.{Sound, IsEntry, busy, Holds}
 use Rattle.cet_own.specs.Kept.{size_kept, lists_out, pages_out, pages_same, gates_set, gates_same}
 use Rattle.cet_own.specs.Classes.{HeadWord, Known}

@@ -11,14 +11,14 @@ use Rattle.cet_isa.specs.declared.threads.Arch.{Arch}
 use Rattle.cet_isa.specs.declared.threads.Fault.{Fault}
 use Rattle.cet_book.specs.Book.{Book, book_after, region, top}
 use Rattle.cet_book.specs.Relies.{Relies}
-use Rattle.cet_cpu.specs.Script.{Script, done, fault, ◌>>=◌}
-use Rattle.cet_cpu.specs.Page.{allows, page_fault}
-use Rattle.cet_cpu.specs.Parts.{tested, look_in, look, peek, load_as, load, store_as, store, exchange_as, exchange, misaligned}
-use Rattle.cet_cpu.specs.Gate.{clears}
-use Rattle.cet_cpu.specs.declared.checks.Kind.{Kind}
-use Rattle.cet_cpu.specs.declared.checks.Kind.TheVariants as kind
-use Rattle.cet_cpu.specs.declared.checks.Who.{Who}
-use Rattle.cet_cpu.specs.declared.checks.Who.TheVariants.{User}
+use Rattle.cet_page.specs.Script.{Script, done, fault, ◌>>=◌}
+use Rattle.cet_page.specs.Page.{allows, page_fault}
+use Rattle.cet_page.specs.Parts.{tested, look_in, look, peek, load_as, load, store_as, store, exchange_as, exchange, misaligned}
+use Rattle.cet_page.specs.Gate.{clears}
+use Rattle.cet_page.specs.declared.checks.Kind.{Kind}
+use Rattle.cet_page.specs.declared.checks.Kind.TheVariants as kind
+use Rattle.cet_page.specs.declared.checks.Who.{Who}
+use Rattle.cet_page.specs.declared.checks.Who.TheVariants.{User}
 use Rattle.cet_own.specs.Safe.{AtReturn, IsReturnFault}
 use Rattle.cet_own.specs.Frame.{Steady, steady_bind, steady_cond}
 use Rattle.cet_own.specs.Holds.{In, IsOut}

@@ -10,11 +10,11 @@ use Rattle.cet_words.specs.Layout.{page_at, word_in, entry_of, entry_with, no_ex
 use Rattle.cet_book.specs.Book.{Book, region, top}
 use Rattle.cet_book.specs.Shape.{Shape}
 use Rattle.cet_book.specs.Stack.{slot}
-use Rattle.cet_cpu.specs.Page.{allows}
-use Rattle.cet_cpu.specs.Finish.{above, below}
-use Rattle.cet_cpu.specs.declared.checks.Kind.{Kind}
-use Rattle.cet_cpu.specs.declared.checks.Kind.TheVariants as kind
-use Rattle.cet_cpu.specs.declared.checks.Who.TheVariants.{User}
+use Rattle.cet_page.specs.Page.{allows}
+use Rattle.cet_page.specs.Finish.{above, below}
+use Rattle.cet_page.specs.declared.checks.Kind.{Kind}
+use Rattle.cet_page.specs.declared.checks.Kind.TheVariants as kind
+use Rattle.cet_page.specs.declared.checks.Who.TheVariants.{User}
 use Rattle.cet_own.specs.Holds.{In, LiesIn, IsEntry}
 use Rattle.cet_own.specs.Writes.{in_there}
 

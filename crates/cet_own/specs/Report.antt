@@ -4,7 +4,7 @@ use Rattle.cet_words.specs.Job.{JobData}
 use Rattle.cet_isa.specs.declared.threads.End.TheVariants as ending
 use Rattle.cet_book.specs.Book.{Current, Lost, Book, Region, top}
 use Rattle.cet_book.specs.Stack.{Stack, tops}
-use Rattle.cet_cpu.specs.Machine.{Machine, Thread, run}
+use Rattle.cet_page.specs.Machine.{Machine, Thread, run}
 use Rattle.cet_own.specs.Event.{book_of}
 use Rattle.cet_own.specs.Safe.{KeepsStack}
 

@@ -8,7 +8,7 @@ use Rattle.cet_isa.specs.declared.threads.End.TheVariants as ending
 use Rattle.cet_book.specs.Book.{Current, Lost, Book, Region, nowhere, region, current_of, book_after, books_after, first_book}
 use Rattle.cet_book.specs.Edits.{current_holds}
 use Rattle.cet_book.specs.Stack.{tops}
-use Rattle.cet_cpu.specs.Machine.{Machine, Thread, step, run, Starts}
+use Rattle.cet_page.specs.Machine.{Machine, Thread, step, run, Starts}
 use Rattle.cet_own.specs.Event.{Event, events_by, turn_changes, events, book_by}
 use Rattle.cet_own.specs.Safe.{KeepsStack}
 use Rattle.cet_own.specs.Report.{LastBook}

@@ -17,12 +17,12 @@ use Rattle.cet_book.specs.Stack.{slot, tops}
 use Rattle.cet_book.specs.Top.{AtTop, removal_top}
 use Rattle.cet_book.specs.Unlink.{Linked, left_there}
 use Rattle.cet_book.specs.Ways.{with_current_at}
-use Rattle.cet_cpu.specs.Script.{done, fault, ◌>>=◌}
-use Rattle.cet_cpu.specs.Finish.{above, rsp}
-use Rattle.cet_cpu.specs.Flow.{returned, returned_if, return_differs, ret}
-use Rattle.cet_cpu.specs.Parts.{general_protection, load_as}
-use Rattle.cet_cpu.specs.declared.checks.Kind.TheVariants as kind
-use Rattle.cet_cpu.specs.declared.checks.Who.TheVariants.{User}
+use Rattle.cet_page.specs.Script.{done, fault, ◌>>=◌}
+use Rattle.cet_page.specs.Finish.{above, rsp}
+use Rattle.cet_page.specs.Flow.{returned, returned_if, return_differs, ret}
+use Rattle.cet_page.specs.Parts.{general_protection, load_as}
+use Rattle.cet_page.specs.declared.checks.Kind.TheVariants as kind
+use Rattle.cet_page.specs.declared.checks.Who.TheVariants.{User}
 use Rattle.cet_own.specs.Safe.{GoesRight}
 use Rattle.cet_own.specs.Holds.{In}
 use Rattle.cet_own.specs.Standing.{stacked, Free, AtRest, rest_kept}

@@ -18,13 +18,13 @@ use Rattle.cet_isa.specs.declared.instructions.Size.TheVariants as size
 use Rattle.cet_isa.specs.declared.threads.Arch.{Arch}
 use Rattle.cet_isa.specs.declared.threads.Fault.{Fault}
 use Rattle.cet_book.specs.Addresses.{IsReturn}
-use Rattle.cet_cpu.specs.Script.{◌>>=◌}
-use Rattle.cet_cpu.specs.Fetch.{fetchable, joined, missing, missing_in}
-use Rattle.cet_cpu.specs.Finish.{Row, noted, above, rax, IsMade}
-use Rattle.cet_cpu.specs.Flow.{call_relative, relative}
-use Rattle.cet_cpu.specs.Gate.{exit_word, pend_word, handler_word, made_page, clears, exit, no_call, service, syscall, inside, signal_of, kill, deliver}
-use Rattle.cet_cpu.specs.Parts.{invalid_opcode}
-use Rattle.cet_cpu.specs.Row.{move, execute, fetched, instruction, instruction_bytes, boundary, row, row_from}
+use Rattle.cet_page.specs.Script.{◌>>=◌}
+use Rattle.cet_page.specs.Fetch.{fetchable, joined, missing, missing_in}
+use Rattle.cet_page.specs.Finish.{Row, noted, above, rax, IsMade}
+use Rattle.cet_page.specs.Flow.{call_relative, relative}
+use Rattle.cet_page.specs.Gate.{exit_word, pend_word, handler_word, made_page, clears, exit, no_call, service, syscall, inside, signal_of, kill, deliver}
+use Rattle.cet_page.specs.Parts.{invalid_opcode}
+use Rattle.cet_page.specs.Row.{move, execute, fetched, instruction, instruction_bytes, boundary, row, row_from}
 use Rattle.cet_own.specs.Safe.{IsElsewhere, IsNearReturn}
 use Rattle.cet_own.specs.Holds.{IsOut}
 use Rattle.cet_own.specs.Standing.{AtRest, rest_kept, Inside, inside_kept}

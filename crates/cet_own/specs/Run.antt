@@ -4,8 +4,8 @@ use Rattle.std.specs.Prelude.{slice_get}
 use Rattle.cet_words.specs.Job.{JobData, IsJob}
 use Rattle.cet_isa.specs.declared.threads.End.{End}
 use Rattle.cet_book.specs.Book.{region, books_after, first_book}
-use Rattle.cet_cpu.specs.Core.{wanted, access_of, next_access}
-use Rattle.cet_cpu.specs.Machine.{Thread, Machine, step, Starts}
+use Rattle.cet_page.specs.Core.{wanted, access_of, next_access}
+use Rattle.cet_page.specs.Machine.{Thread, Machine, step, Starts}
 use Rattle.cet_own.specs.Event.{turn_changes}
 use Rattle.cet_own.specs.Safe.{AccessReturns, TurnReturns, Safe}
 use Rattle.cet_own.specs.Ages.{Ages, ages_none}

@@ -17,9 +17,9 @@ use Rattle.cet_isa.specs.declared.threads.Record.{Record}
 use Rattle.cet_isa.specs.declared.threads.What.{What}
 use Rattle.cet_isa.specs.declared.threads.What.TheVariants as what
 use Rattle.cet_book.specs.Book.{Entry, Call, Restorer, Frame, Previous, Blank, Current, Book, region, top, stack_of, books_after}
-use Rattle.cet_cpu.specs.Core.{Core, After, next_access, taken}
-use Rattle.cet_cpu.specs.Machine.{Machine, Thread, step}
-use Rattle.cet_cpu.specs.Row.{instruction_bytes}
+use Rattle.cet_page.specs.Core.{Core, After, next_access, taken}
+use Rattle.cet_page.specs.Machine.{Machine, Thread, step}
+use Rattle.cet_page.specs.Row.{instruction_bytes}
 use Rattle.cet_own.specs.Event.{turn_changes}
 
 -- ---- where returns go

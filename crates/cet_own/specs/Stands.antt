@@ -7,14 +7,14 @@ use Rattle.cet_isa.specs.declared.threads.End.{End}
 use Rattle.cet_isa.specs.declared.threads.End.TheVariants as ending
 use Rattle.cet_book.specs.Book.{Book}
 use Rattle.cet_book.specs.Relies.{Relies}
-use Rattle.cet_cpu.specs.Script.{Came, Over, Faulted, Wants}
-use Rattle.cet_cpu.specs.Seen.{Seen, nothing_seen}
-use Rattle.cet_cpu.specs.Row.{row}
-use Rattle.cet_cpu.specs.Core.{Core, After, unheld, kept_by, faulted, core_by, noted_by}
-use Rattle.cet_cpu.specs.Within.{Waits, CoreAt, IsCore}
-use Rattle.cet_cpu.specs.Machine.{Thread}
-use Rattle.cet_cpu.specs.declared.rows.Finish.{Finish}
-use Rattle.cet_cpu.specs.declared.rows.Finish.TheVariants.{Noted, Posted, Exited, Stopped}
+use Rattle.cet_page.specs.Script.{Came, Over, Faulted, Wants}
+use Rattle.cet_page.specs.Seen.{Seen, nothing_seen}
+use Rattle.cet_page.specs.Row.{row}
+use Rattle.cet_page.specs.Core.{Core, After, unheld, kept_by, faulted, core_by, noted_by}
+use Rattle.cet_page.specs.Within.{Waits, CoreAt, IsCore}
+use Rattle.cet_page.specs.Machine.{Thread}
+use Rattle.cet_page.specs.declared.finishes.Finish.{Finish}
+use Rattle.cet_page.specs.declared.finishes.Finish.TheVariants.{Noted, Posted, Exited, Stopped}
 use Rattle.cet_own.specs.Safe.{NotedReturns}
 use Rattle.cet_own.specs.Frame.{SteadyAt, others_at, OnCame}
 use Rattle.cet_own.specs.Standing.{stacked_kept, AtRest, rest_kept, HasNone, none_kept}

@@ -6,15 +6,15 @@ use Rattle.cet_words.specs.declared.accesses.Access.{Access}
 use Rattle.cet_book.specs.Book.{books_after}
 use Rattle.cet_book.specs.Relies.{Relies}
 use Rattle.cet_isa.specs.declared.threads.Arch.{Arch}
-use Rattle.cet_cpu.specs.Script.{Came, Over, Faulted, Wants}
-use Rattle.cet_cpu.specs.declared.rows.Finish.{Finish}
-use Rattle.cet_cpu.specs.declared.rows.Finish.TheVariants.{Noted, Posted, Exited, Stopped}
-use Rattle.cet_cpu.specs.Seen.{Seen, seen_after}
-use Rattle.cet_cpu.specs.Row.{row}
-use Rattle.cet_cpu.specs.Core.{Core, After, unheld, come, held_after, core_by, answered, taken, child_of}
-use Rattle.cet_cpu.specs.OrderlyRows.{Ends, orderly_row}
-use Rattle.cet_cpu.specs.Orderly.{Results}
-use Rattle.cet_cpu.specs.Within.{IsCore, taken_is}
+use Rattle.cet_page.specs.Script.{Came, Over, Faulted, Wants}
+use Rattle.cet_page.specs.declared.finishes.Finish.{Finish}
+use Rattle.cet_page.specs.declared.finishes.Finish.TheVariants.{Noted, Posted, Exited, Stopped}
+use Rattle.cet_page.specs.Seen.{Seen, seen_after}
+use Rattle.cet_page.specs.Row.{row}
+use Rattle.cet_page.specs.Core.{Core, After, unheld, come, held_after, core_by, answered, taken, child_of}
+use Rattle.cet_page.specs.OrderlyRows.{Ends, orderly_row}
+use Rattle.cet_page.specs.Orderly.{Results}
+use Rattle.cet_page.specs.Within.{IsCore, taken_is}
 use Rattle.cet_own.specs.Event.{changes_of}
 use Rattle.cet_own.specs.Safe.{NotedReturns}
 use Rattle.cet_own.specs.Frame.{goes, on_came}

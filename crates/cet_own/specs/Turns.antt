@@ -12,11 +12,11 @@ use Rattle.cet_isa.specs.declared.threads.End.TheVariants as ending
 use Rattle.cet_book.specs.Book.{Book, Current, region, current_of, stack_of, books_after}
 use Rattle.cet_book.specs.Shape.{Shape}
 use Rattle.cet_book.specs.Edits.{is_there, current_holds}
-use Rattle.cet_cpu.specs.Core.{Core, unheld, come, taken}
-use Rattle.cet_cpu.specs.Row.{row}
-use Rattle.cet_cpu.specs.Script.{Wants}
-use Rattle.cet_cpu.specs.Machine.{Thread, Machine, thread_after, with_child, act, step_by}
-use Rattle.cet_cpu.specs.Within.{no_child}
+use Rattle.cet_page.specs.Core.{Core, unheld, come, taken}
+use Rattle.cet_page.specs.Row.{row}
+use Rattle.cet_page.specs.Script.{Wants}
+use Rattle.cet_page.specs.Machine.{Thread, Machine, thread_after, with_child, act, step_by}
+use Rattle.cet_page.specs.Within.{no_child}
 use Rattle.cet_own.specs.Event.{changes_of, access_changes, thread_changes}
 use Rattle.cet_own.specs.Safe.{AccessReturns, ThreadReturns, KeepsStack, HasStack, IsSafeAt}
 use Rattle.cet_own.specs.Frame.{during_at}

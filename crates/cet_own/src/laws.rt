@@ -1,7 +1,7 @@
 ghost use Rattle.std.specs.Prelude.{ℕ, List};
 ghost use Rattle.cet_words.specs.Job.{JobData, IsJob};
 ghost use Rattle.cet_book.specs.Book.{first_book};
-ghost use Rattle.cet_cpu.specs.Machine.{Machine, Starts};
+ghost use Rattle.cet_page.specs.Machine.{Machine, Starts};
 ghost use Rattle.cet_own.specs.Safe.{Safe};
 
 /// In every run of every job, whatever thread has which turn: no shadow stack is current on two

@@ -7,8 +7,8 @@ use Rattle.cet_isa.specs.declared.threads.End.{End}
 use Rattle.cet_isa.specs.declared.threads.End.TheVariants as ending
 use Rattle.cet_book.specs.Book.{Entry, Holder, Current, Lost, Region, Book, first_book, nowhere, region, top, starting_at}
 use Rattle.cet_book.specs.Stack.{tops, word_of, words_of, Stack}
-use Rattle.cet_cpu.specs.Gate.{exit_word}
-use Rattle.cet_cpu.specs.Machine.{Machine, Thread, Starts, machine, run}
+use Rattle.cet_page.specs.Gate.{exit_word}
+use Rattle.cet_page.specs.Machine.{Machine, Thread, Starts, machine, run}
 use Rattle.cet_own.specs.Report.{LastBook}
 use Rattle.cet_own.specs.Safe.{KeepsStack, Safe}
 use Rattle.cet_top.specs.Answer.{SafeRun, outcome_of}

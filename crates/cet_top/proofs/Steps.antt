@@ -6,10 +6,10 @@ use Rattle.std.proofs.lemmas.Option.{get_or_from_slice_get}
 use Rattle.cet_words.specs.Access.{answer, after}
 use Rattle.cet_words.specs.declared.accesses.Access.{Access}
 use Rattle.cet_words.specs.Job.{JobData}
-use Rattle.cet_cpu.specs.Core.{Core, next_access, taken}
-use Rattle.cet_cpu.specs.Left.{falls}
-use Rattle.cet_cpu.specs.Machine.{Machine, Thread, machine, thread_after, with_child, act, made_by, step_by, step, run}
-use Rattle.cet_cpu.specs.Within.{IsCore, Waits, no_child}
+use Rattle.cet_page.specs.Core.{Core, next_access, taken}
+use Rattle.cet_page.specs.Left.{falls}
+use Rattle.cet_page.specs.Machine.{Machine, Thread, machine, thread_after, with_child, act, made_by, step_by, step, run}
+use Rattle.cet_page.specs.Within.{IsCore, Waits, no_child}
 use Rattle.cet_top.specs.Schedule.{IsRobin, next_turn}
 use Rattle.cet_top.specs.Turns.{AllCores, IsGoing, Robined, Leads, thread_left, total_left}
 

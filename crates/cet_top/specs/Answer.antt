@@ -6,8 +6,8 @@ use Rattle.cet_asm.specs.declared.program.Program.{Program}
 use Rattle.cet_elf.specs.Accepts.{Accepts, FirstBroken, image_of}
 use Rattle.cet_elf.specs.Written.{written}
 use Rattle.cet_book.specs.Book.{Book, first_book}
-use Rattle.cet_cpu.specs.Gate.{exit_word}
-use Rattle.cet_cpu.specs.Machine.{Machine, Starts, run}
+use Rattle.cet_page.specs.Gate.{exit_word}
+use Rattle.cet_page.specs.Machine.{Machine, Starts, run}
 use Rattle.cet_own.specs.Event.{book_of}
 use Rattle.cet_own.specs.Safe.{Safe}
 use Rattle.cet_top.specs.Listing.{IsListing}

@@ -2,8 +2,8 @@
 use Rattle.std.proofs.Common.{zero, suc}
 use Rattle.std.specs.Prelude.{ℕ, ◌+◌, ◌-◌, ◌/◌, ◌≤◌, List, [], ◌∷◌, map, unwrap_or, slice_index}
 use Rattle.cet_book.specs.Stack.{slot_word}
-use Rattle.cet_cpu.specs.Gate.{exit_word}
-use Rattle.cet_cpu.specs.Machine.{Thread}
+use Rattle.cet_page.specs.Gate.{exit_word}
+use Rattle.cet_page.specs.Machine.{Thread}
 use Rattle.cet_top.specs.Outcome.{thread_out, process_end}
 use Rattle.cet_top.specs.declared.outcomes.Outcome.{Outcome}
 use Rattle.cet_isa.specs.declared.threads.End.{End}

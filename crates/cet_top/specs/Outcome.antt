@@ -2,7 +2,7 @@
 use Rattle.std.specs.Prelude.{ℕ, ◌+◌, ◌%◌, ◌==◌, nat_lt, if◌then◌else◌, List, [], ◌∷◌, Option, Some, None, unwrap_or}
 use Rattle.cet_isa.specs.declared.threads.End.{End}
 use Rattle.cet_isa.specs.declared.threads.End.TheVariants as ending
-use Rattle.cet_cpu.specs.Machine.{Thread}
+use Rattle.cet_page.specs.Machine.{Thread}
 use Rattle.cet_top.specs.declared.outcomes.ProcessEnd.{ProcessEnd}
 use Rattle.cet_top.specs.declared.outcomes.ProcessEnd.TheVariants as process
 use Rattle.cet_top.specs.declared.outcomes.ThreadOut.{ThreadOut}

@@ -2,7 +2,7 @@
 use Rattle.std.specs.Prelude.{◌≡◌, ℕ, ◌+◌, ◌*◌, ◌/◌, ◌%◌, ◌^◌, Bool, true, false, cond, List, [], ◌∷◌, ◌++◌, length, drop, Option, Some, None, slice_get, All, IsSome}
 use Rattle.cet_words.specs.Job.{JobData}
 use Rattle.cet_isa.specs.declared.threads.End.{End}
-use Rattle.cet_cpu.specs.Machine.{Machine, Thread, step, run}
+use Rattle.cet_page.specs.Machine.{Machine, Thread, step, run}
 
 abbrev pub goes_on : Option End → Bool
 goes_on None = true

@@ -7,7 +7,7 @@ use Rattle.cet_isa.specs.declared.threads.What.{What}
 use Rattle.cet_isa.specs.declared.threads.What.TheVariants as what
 use Rattle.cet_book.specs.Book.{Holder, Maker, Current, Parked, Left, Lost, Region, Book, region, top, starting_at}
 use Rattle.cet_book.specs.Stack.{tops, words_of}
-use Rattle.cet_cpu.specs.Machine.{Thread}
+use Rattle.cet_page.specs.Machine.{Thread}
 use Rattle.cet_top.specs.declared.outcomes.Shown.{Shown}
 use Rattle.cet_top.specs.declared.outcomes.Shown.TheVariants as shown
 use Rattle.cet_top.specs.declared.outcomes.StackReport.{StackReport}

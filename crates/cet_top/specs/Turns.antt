@@ -1,9 +1,9 @@
 -- A run by Robin, from one machine to another. Source: own.
 use Rattle.std.specs.Prelude.{◌≡◌, ℕ, ◌++◌, List, Option, Some, None, slice_get, All, sum_by}
 use Rattle.cet_words.specs.Job.{JobData}
-use Rattle.cet_cpu.specs.Left.{left_of}
-use Rattle.cet_cpu.specs.Machine.{Machine, Thread, run}
-use Rattle.cet_cpu.specs.Within.{IsCore}
+use Rattle.cet_page.specs.Left.{left_of}
+use Rattle.cet_page.specs.Machine.{Machine, Thread, run}
+use Rattle.cet_page.specs.Within.{IsCore}
 use Rattle.cet_top.specs.Schedule.{IsRobin}
 
 -- each is a thread of the job

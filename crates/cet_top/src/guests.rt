@@ -3,9 +3,9 @@
 ghost use Rattle.std.specs.Prelude.{◌≡◌, [], Some, None, OnOk};
 ghost use Rattle.cet_words.specs.Access.{answer, after};
 ghost use Rattle.cet_words.specs.declared.accesses.Access.{Access};
-ghost use Rattle.cet_cpu.specs.Core.{next_access, taken};
-ghost use Rattle.cet_cpu.specs.Machine.{thread_after};
-ghost use Rattle.cet_cpu.specs.Within.{IsCore};
+ghost use Rattle.cet_page.specs.Core.{next_access, taken};
+ghost use Rattle.cet_page.specs.Machine.{thread_after};
+ghost use Rattle.cet_page.specs.Within.{IsCore};
 ghost use Rattle.cet_top.specs.Outcome.{thread_out};
 
 use crate::outcomes::{Records, ThreadOut};
@@ -23,7 +23,7 @@ pub struct Guest {
 }
 
 impl Model for Guest {
-    ghost use Rattle.cet_cpu.specs.Machine.{Thread};
+    ghost use Rattle.cet_page.specs.Machine.{Thread};
 
     ghost Value = { Thread };
 

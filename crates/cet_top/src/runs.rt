@@ -1,7 +1,7 @@
 //! A run of a job by Robin.
 
 ghost use Rattle.std.specs.Prelude.{◌≡◌, ◌≤◌, length, IfOk};
-ghost use Rattle.cet_cpu.specs.Machine.{Starts, machine};
+ghost use Rattle.cet_page.specs.Machine.{Starts, machine};
 ghost use Rattle.cet_top.specs.Answer.{SafeRun};
 ghost use Rattle.cet_top.specs.FirstStack.{KeepsFirsts, first_stacks, read_outcome};
 ghost use Rattle.cet_top.specs.Schedule.{ByRobin};

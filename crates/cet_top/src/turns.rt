@@ -2,7 +2,7 @@
 
 ghost use Rattle.std.specs.Prelude.{◌≡◌, ℕ, ◌+◌, ◌<◌, ◌≤◌, List, length, drop, Some, None, OnOk, IfSome};
 ghost use Rattle.cet_words.specs.Job.{JobData};
-ghost use Rattle.cet_cpu.specs.Machine.{machine, step};
+ghost use Rattle.cet_page.specs.Machine.{machine, step};
 ghost use Rattle.cet_top.specs.Schedule.{first_live, next_turn};
 ghost use Rattle.cet_top.specs.Turns.{AllCores, IsGoing, Robined, total_left};
 

@@ -1,5 +1,5 @@
 use Rattle.std.proofs.Common.{arith, ◌∙◌, ap, sym}
-use Rattle.cet_cpu.specs.Fetch.{fetchable}
+use Rattle.cet_page.specs.Fetch.{fetchable}
 use Rattle.cet_cpu.proofs.Fetching.{fetch_more, fetch_none, fetch_full}
 use Rattle.cet_cpu.proofs.fetches.fetch.Goals as goal
 

@@ -1,7 +1,7 @@
 -- what is left of the script, from where the loop stands, comes to what all of it comes to
 use Rattle.std.proofs.Common.{◌≡◌, ◌+◌, ◌-◌}
-use Rattle.cet_cpu.specs.Script.{play}
-use Rattle.cet_cpu.specs.Gate.{clears}
+use Rattle.cet_page.specs.Script.{play}
+use Rattle.cet_page.specs.Gate.{clears}
 use Rattle.cet_cpu.proofs.gate.clears.Given as goal
 
 abbrev pub invariant-loop-k : goal.invariant-loop-k

@@ -1,6 +1,6 @@
 use Rattle.std.proofs.Common.{ℕ, List, length, ◌<◌}
 use Rattle.std.specs.Prelude.{IfSome}
-use Rattle.cet_cpu.specs.Machine.{machine}
+use Rattle.cet_page.specs.Machine.{machine}
 use Rattle.cet_top.specs.Turns.{AllCores, Leads, total_left}
 use Rattle.cet_top.proofs.turns.robin.Given as goal
 

@@ -2,7 +2,7 @@ use Rattle.std.proofs.Common.{◌≡◌, Some, None, sym, ap, ◌∙◌}
 use Rattle.std.specs.Prelude.{slice_get}
 use Rattle.std.proofs.lemmas.Result.{on_ok_weaker}
 use Rattle.std.proofs.lemmas.Option.{slice_get-get_or}
-use Rattle.cet_cpu.specs.Within.{waiting}
+use Rattle.cet_page.specs.Within.{waiting}
 use Rattle.cet_top.proofs.Steps.{turn_step, turn_falls, over_here, core_here}
 use Rattle.cet_top.proofs.turns.turn.Goals as goal
 

@@ -1,7 +1,7 @@
 use Rattle.std.proofs.Common.{ap, ◌∙◌}
-use Rattle.cet_cpu.specs.Core.{next_access}
-use Rattle.cet_cpu.specs.Machine.{Thread}
-use Rattle.cet_cpu.specs.Within.{wants}
+use Rattle.cet_page.specs.Core.{next_access}
+use Rattle.cet_page.specs.Machine.{Thread}
+use Rattle.cet_page.specs.Within.{wants}
 use Rattle.cet_top.proofs.guests.Guest.step.Goals as goal
 
 -- a thread that hasn't ended has a next access

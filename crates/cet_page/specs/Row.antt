@@ -1,6 +1,6 @@
 -- The row of a thread: what it does from a boundary, or from a due fault, to its next record. Source: Intel SDM volume 2
 -- for the instructions, own for the order. That `decoded` is exactly the table of spellings is what the contract of `decode` says.
-use Rattle.std.specs.Prelude.{◌≡◌, ℕ, ◌+◌, List, length, Bool, Option, Some, None, ◌==◌, if◌then◌else◌, ℤ}
+use Rattle.std.specs.Prelude.{ℕ, ◌+◌, List, length, Option, Some, None, ◌==◌, if◌then◌else◌}
 use Rattle.std.specs.Int.{w32, cast_unsigned}
 use Rattle.cet_words.specs.Job.{JobData}
 use Rattle.cet_isa.specs.Address.{canonical}
@@ -14,14 +14,14 @@ use Rattle.cet_isa.specs.declared.instructions.Size.{Size}
 use Rattle.cet_isa.specs.declared.instructions.Size.TheVariants as size
 use Rattle.cet_isa.specs.declared.threads.Fault.{Fault}
 use Rattle.cet_isa.specs.declared.threads.Arch.{Arch}
-use Rattle.cet_cpu.specs.Script.{Script, done, fault, ◌>>=◌}
-use Rattle.cet_cpu.specs.Parts.{general_protection, invalid_opcode, load}
-use Rattle.cet_cpu.specs.Finish.{Row, noted, above}
-use Rattle.cet_cpu.specs.Flow.{moved, call_relative, ret}
-use Rattle.cet_cpu.specs.Gate.{exit_word, pend_word, syscall, deliver}
-use Rattle.cet_cpu.specs.Fetch.{fetchable, missing}
-use Rattle.cet_cpu.specs.declared.rows.Finish.{Finish}
-use Rattle.cet_cpu.specs.declared.rows.Finish.TheVariants as finish
+use Rattle.cet_page.specs.Script.{Script, done, fault, ◌>>=◌}
+use Rattle.cet_page.specs.Parts.{general_protection, invalid_opcode, load}
+use Rattle.cet_page.specs.Finish.{noted, above}
+use Rattle.cet_page.specs.Flow.{moved, call_relative, ret}
+use Rattle.cet_page.specs.Gate.{exit_word, pend_word, syscall, deliver}
+use Rattle.cet_page.specs.Fetch.{fetchable, missing}
+use Rattle.cet_page.specs.declared.finishes.Finish.{Finish}
+use Rattle.cet_page.specs.declared.finishes.Finish.TheVariants as finish
 
 -- MOV; its forms but that of an immediate to a 32-bit register aren't built
 abbrev pub move : Arch → Size → Operand → Operand → (next : ℕ) → Script Finish

@@ -1,6 +1,5 @@
 -- A thread without its trace, and what one access does to it. Source: own: this is the atomic step of the machine.
-use Rattle.std.proofs.Common.{zero, suc}
-use Rattle.std.specs.Prelude.{◌≡◌, ℕ, ◌+◌, ◌%◌, ◌^◌, List, [], ◌∷◌, Bool, ◌&&◌, Option, Some, None, ◌==◌, if◌then◌else◌, slice_index, slice_set}
+use Rattle.std.specs.Prelude.{ℕ, ◌+◌, List, [], ◌∷◌, Option, Some, None, ◌==◌, if◌then◌else◌, slice_index, slice_set}
 use Rattle.cet_words.specs.Job.{JobData}
 use Rattle.cet_words.specs.declared.accesses.Access.{Access}
 use Rattle.cet_words.specs.declared.accesses.Access.TheVariants as access
@@ -11,13 +10,13 @@ use Rattle.cet_isa.specs.declared.threads.Arch.{Arch}
 use Rattle.cet_isa.specs.declared.threads.End.{End}
 use Rattle.cet_isa.specs.declared.threads.End.TheVariants as ending
 use Rattle.cet_words.specs.Change.{Change}
-use Rattle.cet_cpu.specs.Script.{Script, Came, Over, Faulted, Wants, play, changes_at, birth}
-use Rattle.cet_cpu.specs.Seen.{Seen, nothing_seen, seen_after}
-use Rattle.cet_cpu.specs.Finish.{above, counted}
-use Rattle.cet_cpu.specs.Gate.{stack_of, token, token_word}
-use Rattle.cet_cpu.specs.Row.{row}
-use Rattle.cet_cpu.specs.declared.rows.Finish.{Finish}
-use Rattle.cet_cpu.specs.declared.rows.Finish.TheVariants.{Noted, Posted, Exited, Stopped}
+use Rattle.cet_page.specs.Script.{Came, Over, Faulted, Wants, play, changes_at, birth}
+use Rattle.cet_page.specs.Seen.{Seen, nothing_seen, seen_after}
+use Rattle.cet_page.specs.Finish.{above}
+use Rattle.cet_page.specs.Gate.{stack_of, token, token_word}
+use Rattle.cet_page.specs.Row.{row}
+use Rattle.cet_page.specs.declared.finishes.Finish.{Finish}
+use Rattle.cet_page.specs.declared.finishes.Finish.TheVariants.{Noted, Posted, Exited, Stopped}
 
 -- the state, what was seen in the present row, and the end
 pub record Core : Type 0 where

@@ -1,10 +1,10 @@
 -- What rows come to, and the arithmetic of addresses. Source: own.
-use Rattle.std.specs.Prelude.{◌≡◌, ℕ, ◌+◌, ◌-◌, ◌%◌, ◌^◌, ◌≤◌, List, slice_index}
+use Rattle.std.specs.Prelude.{◌≡◌, ℕ, ◌+◌, ◌-◌, ◌%◌, ◌^◌, ◌≤◌, slice_index}
 use Rattle.cet_isa.specs.declared.threads.Arch.{Arch}
 use Rattle.cet_isa.specs.declared.threads.Record.{Record}
-use Rattle.cet_cpu.specs.declared.rows.Finish.{Finish}
-use Rattle.cet_cpu.specs.declared.rows.Finish.TheVariants as finish
-use Rattle.cet_cpu.specs.Script.{Script, done}
+use Rattle.cet_page.specs.declared.finishes.Finish.{Finish}
+use Rattle.cet_page.specs.declared.finishes.Finish.TheVariants as finish
+use Rattle.cet_page.specs.Script.{Script, done}
 
 -- an instruction that ends in a record: the state after it, and the record
 abbrev pub Row : Type 0

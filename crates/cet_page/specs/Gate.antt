@@ -1,7 +1,7 @@
 -- The gate into the kernel, the service exit, and the kill. Source: Intel SDM volume 1 (supervisor shadow-stack tokens,
 -- SETSSBSY and CLRSSBSY) for the token; Linux for the calls' numbers and errors; the fixed order is own.
 use Rattle.std.proofs.Common.{zero, suc}
-use Rattle.std.specs.Prelude.{◌≡◌, ℕ, ◌+◌, ◌-◌, ◌*◌, ◌/◌, ◌%◌, ◌^◌, List, [], ◌∷◌, ◌++◌, Option, Some, None, ◌==◌, if◌then◌else◌, slice_index, slice_set}
+use Rattle.std.specs.Prelude.{ℕ, ◌+◌, ◌-◌, ◌*◌, ◌/◌, ◌%◌, ◌^◌, List, [], ◌∷◌, ◌++◌, Option, Some, None, ◌==◌, if◌then◌else◌, slice_set}
 use Rattle.cet_words.specs.Layout.{entry_word}
 use Rattle.cet_words.specs.Job.{JobData}
 use Rattle.cet_isa.specs.declared.threads.Fault.{Fault}
@@ -11,11 +11,11 @@ use Rattle.cet_isa.specs.declared.threads.Record.{Record}
 use Rattle.cet_isa.specs.declared.threads.What.TheVariants as what
 use Rattle.cet_isa.specs.declared.threads.Arch.{Arch}
 use Rattle.cet_words.specs.Change.{Change, Busied, Freed, Ended}
-use Rattle.cet_cpu.specs.Script.{Script, done, tell, ◌>>=◌}
-use Rattle.cet_cpu.specs.Parts.{peek, load, store, exchange, exchange_as}
-use Rattle.cet_cpu.specs.Finish.{rax, rdi, counted}
-use Rattle.cet_cpu.specs.declared.rows.Finish.{Finish}
-use Rattle.cet_cpu.specs.declared.rows.Finish.TheVariants as finish
+use Rattle.cet_page.specs.Script.{Script, done, tell, ◌>>=◌}
+use Rattle.cet_page.specs.Parts.{peek, load, store, exchange, exchange_as}
+use Rattle.cet_page.specs.Finish.{rax, rdi, counted}
+use Rattle.cet_page.specs.declared.finishes.Finish.{Finish}
+use Rattle.cet_page.specs.declared.finishes.Finish.TheVariants as finish
 
 -- ---- the kernel's words
 

@@ -1,12 +1,12 @@
 -- The page check. Source: Intel SDM volume 3A, paging access rights and page-fault error codes, with the rules for
 -- shadow-stack pages.
-use Rattle.std.specs.Prelude.{◌≡◌, ℕ, ◌+◌, ◌<◌, Bool, true, ◌==◌, ◌&&◌, bit_and, if◌then◌else◌, nat_lt, Result, Ok, Err}
+use Rattle.std.specs.Prelude.{ℕ, ◌+◌, ◌/◌, ◌%◌, Bool, true, ◌==◌, ◌&&◌, bit_and, if◌then◌else◌, nat_lt, Result, Ok, Err}
 use Rattle.cet_isa.specs.declared.threads.Fault.{Fault}
 use Rattle.cet_isa.specs.declared.threads.FaultName.TheVariants.{Pf}
-use Rattle.cet_cpu.specs.declared.checks.Kind.{Kind}
-use Rattle.cet_cpu.specs.declared.checks.Kind.TheVariants as kind
-use Rattle.cet_cpu.specs.declared.checks.Who.{Who}
-use Rattle.cet_cpu.specs.declared.checks.Who.TheVariants as who
+use Rattle.cet_page.specs.declared.checks.Kind.{Kind}
+use Rattle.cet_page.specs.declared.checks.Kind.TheVariants as kind
+use Rattle.cet_page.specs.declared.checks.Who.{Who}
+use Rattle.cet_page.specs.declared.checks.Who.TheVariants as who
 
 -- a bit of the mask is set
 abbrev pub has : ℕ → ℕ → Bool
@@ -54,3 +54,7 @@ page_fault entry k w addr =
 -- the page check
 abbrev pub checked : ℕ → Kind → Who → ℕ → Result (Unit {0}) Fault
 checked entry k w addr = if allows entry k w then Ok tt else Err (page_fault entry k w addr)
+
+-- the index of an address in the last table of pages: bits 20 to 12 (Intel SDM volume 3, 4-level paging)
+abbrev pub index_at : ℕ → ℕ
+index_at addr = addr / 4096 % 512

@@ -1,7 +1,7 @@
 //! The values read so far in a row.
 
 ghost use Rattle.std.specs.Prelude.{◌≡◌, ◌<◌, length, slice_index};
-ghost use Rattle.cet_cpu.specs.Seen.{seen_after, nothing_seen};
+ghost use Rattle.cet_page.specs.Seen.{seen_after, nothing_seen};
 
 use crate::cursors::Cursor;
 use cet_words::Access;
@@ -21,7 +21,7 @@ pub struct Vals {
 
 impl Model for Vals {
     ghost use Rattle.std.specs.Prelude.{take, ◌≤◌};
-    ghost use Rattle.cet_cpu.specs.Seen.{Seen};
+    ghost use Rattle.cet_page.specs.Seen.{Seen};
 
     ghost Value = { Seen };
 
@@ -56,6 +56,28 @@ impl Vals {
                 self.used += 1;
             }
         }
+    }
+
+    /// The number of accesses.
+    pub fn done(&self) -> u32
+        ensures { result ≡ self.now.count }
+    {
+        self.accesses
+    }
+
+    /// The number of values kept.
+    pub fn count(&self) -> u32
+        ensures { result ≡ length self.now.kept }
+    {
+        self.used as u32
+    }
+
+    /// The value kept at this place, counted from 0.
+    pub fn value(&self, at: u32) -> u64
+        requires { at < length self.now.kept }
+        ensures { result ≡ slice_index self.now.kept at }
+    {
+        self.kept[at as usize]
     }
 
     /// The place before the first access.

@@ -1,18 +1,17 @@
 -- The parts that scripts are made of. Source: own; the faults are those of the Intel SDM (volume 3A, the chapter on
 -- interrupts and exceptions), but a stack address that isn't canonical is #GP too, and every data access is aligned.
 use Rattle.std.proofs.Common.{zero, suc}
-use Rattle.std.specs.Prelude.{◌≡◌, ℕ, ◌+◌, ◌%◌, List, [], ◌∷◌, refl, Bool, Option, Some, None, ◌==◌, if◌then◌else◌}
-use Rattle.cet_words.specs.Layout.{page_at, word_in}
-use Rattle.cet_words.specs.declared.accesses.Access.{Access}
+use Rattle.std.specs.Prelude.{◌≡◌, ℕ, ◌%◌, List, [], ◌∷◌, refl, Option, Some, None, ◌==◌, if◌then◌else◌}
+use Rattle.cet_words.specs.Layout.{page_at}
 use Rattle.cet_words.specs.declared.accesses.Access.TheVariants as access
 use Rattle.cet_isa.specs.Address.{canonical}
 use Rattle.cet_isa.specs.declared.threads.Fault.{Fault}
 use Rattle.cet_isa.specs.declared.threads.FaultName.TheVariants.{Gp, Ac, Ud}
 use Rattle.cet_words.specs.Change.{Change}
-use Rattle.cet_cpu.specs.Script.{Script, done, fault, ask, tell, play, silent}
-use Rattle.cet_cpu.specs.Page.{allows, page_fault}
-use Rattle.cet_cpu.specs.declared.checks.Kind.{Kind}
-use Rattle.cet_cpu.specs.declared.checks.Who.{Who}
+use Rattle.cet_page.specs.Script.{Script, done, fault, ask, tell, play, silent}
+use Rattle.cet_page.specs.Page.{allows, page_fault}
+use Rattle.cet_page.specs.declared.checks.Kind.{Kind}
+use Rattle.cet_page.specs.declared.checks.Who.{Who}
 
 abbrev pub general_protection : Fault
 general_protection = record { name = Gp; code = 0; a = 0; b = 0 }

@@ -1,5 +1,5 @@
 ghost use Rattle.std.specs.Prelude.{◌≡◌};
-ghost use Rattle.cet_cpu.specs.Page.{checked, page_fault, kind_allows, who_allows, is_shadow_page};
+ghost use Rattle.cet_page.specs.Page.{checked, index_at, page_fault, kind_allows, who_allows, is_shadow_page};
 
 use cet_isa::{Fault, FaultName};
 
@@ -90,4 +90,11 @@ pub fn check(entry: u64, kind: Kind, who: Who, addr: u64) -> Result<(), Fault>
     } else {
         Err(page_fault(entry, kind, who, addr))
     }
+}
+
+/// The index of an address in the last table of its page walk: bits 20 to 12.
+pub fn index_of(addr: u64) -> u16
+    ensures { result ≡ index_at addr }
+{
+    (addr / 4096 % 512) as u16
 }

@@ -1,7 +1,7 @@
 -- Every row is orderly: at most 4,096 accesses and 31 kept answers, and it begins with an access. Source: own.
-use Rattle.std.proofs.Common.{zero, suc, true, false, cond, refl}
+use Rattle.std.proofs.Common.{true, false, cond, refl}
 use Rattle.std.specs.Prelude.{◌≡◌, ℕ, ◌+◌, ◌-◌, Bool, ◌||◌, ◌&&◌, ◌==◌, nat_le, List, [], ◌∷◌, ◌++◌, length, Option, Some, None, ℤ}
-use Rattle.std.specs.Int.{w32, w64, cast_unsigned}
+use Rattle.std.specs.Int.{w64, cast_unsigned}
 use Rattle.cet_words.specs.Job.{JobData}
 use Rattle.cet_words.specs.Layout.{page_at}
 use Rattle.cet_words.specs.declared.accesses.Access.{Access}
@@ -18,17 +18,17 @@ use Rattle.cet_isa.specs.declared.threads.Record.{Record}
 use Rattle.cet_isa.specs.declared.threads.Arch.{Arch}
 use Rattle.cet_isa.specs.declared.threads.What.{What}
 use Rattle.cet_isa.specs.declared.threads.What.TheVariants as what
-use Rattle.cet_words.specs.Change.{Change, Busied, Returned, Freed, Ended}
-use Rattle.cet_cpu.specs.Script.{Script, done, fault, ask, tell, ◌>>=◌, Wants, play, birth}
-use Rattle.cet_cpu.specs.Parts.{load_as, peek, exchange_as}
-use Rattle.cet_cpu.specs.Finish.{Row, noted, above, rax}
-use Rattle.cet_cpu.specs.Flow.{call, call_next, call_relative, ret, returned_if}
-use Rattle.cet_cpu.specs.Gate.{gate_in, gate_out, inside, clears, exit, no_call, service, syscall, kill, deliver, stack_of, signal_of, token, busied_if}
-use Rattle.cet_cpu.specs.Fetch.{missing, missing_in}
-use Rattle.cet_cpu.specs.Row.{move, execute, fetched, instruction, instruction_bytes, boundary, row, row_from}
-use Rattle.cet_cpu.specs.Orderly.{Orderly, Results, orderly_bind, orderly_cond, tested_then, look_then, peek_then, load_then, store_then, exchange_then}
-use Rattle.cet_cpu.specs.declared.rows.Finish.{Finish}
-use Rattle.cet_cpu.specs.declared.rows.Finish.TheVariants.{Noted, Posted, Exited, Stopped}
+use Rattle.cet_words.specs.Change.{Change, Busied, Returned, Freed}
+use Rattle.cet_page.specs.Script.{Script, ◌>>=◌, Wants, play, birth}
+use Rattle.cet_page.specs.Parts.{load_as, peek}
+use Rattle.cet_page.specs.Finish.{Row, noted, above, rax}
+use Rattle.cet_page.specs.Flow.{call, call_next, call_relative, ret}
+use Rattle.cet_page.specs.Gate.{gate_in, gate_out, clears, exit, no_call, service, syscall, kill, deliver, stack_of, signal_of, token}
+use Rattle.cet_page.specs.Fetch.{missing, missing_in}
+use Rattle.cet_page.specs.Row.{move, execute, fetched, instruction, instruction_bytes, boundary, row, row_from}
+use Rattle.cet_page.specs.Orderly.{Orderly, Results, orderly_bind, orderly_cond, tested_then, look_then, peek_then, load_then, store_then, exchange_then}
+use Rattle.cet_page.specs.declared.finishes.Finish.{Finish}
+use Rattle.cet_page.specs.declared.finishes.Finish.TheVariants.{Noted, Posted, Exited, Stopped}
 
 -- the record tells of no new shadow stack
 abbrev pub names_no_stack : What → Bool

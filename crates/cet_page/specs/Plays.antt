@@ -1,11 +1,9 @@
 -- What a function over a cursor comes to is what a script comes to. Source: own.
-use Rattle.std.specs.Prelude.{◌≡◌, ℕ, List, Result, Ok, Err, Option, Some}
+use Rattle.std.specs.Prelude.{◌≡◌, ℕ, List, Result, Ok, Err}
 use Rattle.cet_words.specs.Access.{InRange}
-use Rattle.cet_isa.specs.declared.threads.Arch.{Arch}
-use Rattle.cet_isa.specs.declared.threads.Record.{Record}
-use Rattle.cet_cpu.specs.Script.{Script, Came, Over, Faulted, Wants, play}
-use Rattle.cet_cpu.specs.declared.cursors.Stop.{Stop}
-use Rattle.cet_cpu.specs.declared.cursors.Stop.TheVariants as stop
+use Rattle.cet_page.specs.Script.{Came, Over, Faulted, Wants}
+use Rattle.cet_page.specs.declared.cursors.Stop.{Stop}
+use Rattle.cet_page.specs.declared.cursors.Stop.TheVariants as stop
 
 -- a stop at a wanted access, which is in range, or at a fault
 abbrev pub Stopped : {A : Type 0} → Came A → Stop → Type 0

@@ -1,7 +1,7 @@
 -- What a fault leaves: the instruction has done nothing, and can be tried again. Source: Intel SDM volume 3 (exceptions that
 -- are faults); own for the accesses.
-use Rattle.std.proofs.Common.{zero, suc, true, false, cond, ap, sym, ◌∙◌, subst}
-use Rattle.std.specs.Prelude.{◌≡◌, ℕ, ◌+◌, ◌-◌, Bool, ◌||◌, ◌==◌, List, [], ◌∷◌, Option, Some, None, refl, slice_index, slice_set}
+use Rattle.std.proofs.Common.{zero, suc, true, false, ap, sym, ◌∙◌, subst}
+use Rattle.std.specs.Prelude.{◌≡◌, ℕ, ◌+◌, ◌-◌, Bool, ◌||◌, List, [], ◌∷◌, Option, Some, None, refl}
 use Rattle.cet_words.specs.Access.{answer, after}
 use Rattle.cet_words.specs.Job.{JobData}
 use Rattle.cet_words.specs.declared.accesses.Access.{Access}
@@ -12,14 +12,14 @@ use Rattle.cet_isa.specs.declared.threads.Fault.{Fault}
 use Rattle.cet_isa.specs.declared.threads.FaultName.{FaultName}
 use Rattle.cet_isa.specs.declared.threads.Record.{Record}
 use Rattle.cet_isa.specs.declared.threads.What.TheVariants as what
-use Rattle.cet_cpu.specs.Script.{Script, done, fault, ask, tell, Came, Over, Faulted, Wants, play}
-use Rattle.cet_cpu.specs.Seen.{Seen, seen_after}
-use Rattle.cet_cpu.specs.Row.{row}
-use Rattle.cet_cpu.specs.Core.{Core, After, unheld, come, wanted, access_of, next_access, held_after, kept_by, fault_record, core_by, noted_by, answered, taken}
-use Rattle.cet_cpu.specs.Orderly.{Orderly, OnOver, Results, over_play, writes}
-use Rattle.cet_cpu.specs.OrderlyRows.{Ends, tells, orderly_row}
-use Rattle.cet_cpu.specs.declared.rows.Finish.{Finish}
-use Rattle.cet_cpu.specs.declared.rows.Finish.TheVariants.{Noted, Posted, Exited, Stopped}
+use Rattle.cet_page.specs.Script.{Script, done, fault, ask, tell, Came, Over, Faulted, Wants, play}
+use Rattle.cet_page.specs.Seen.{Seen, seen_after}
+use Rattle.cet_page.specs.Row.{row}
+use Rattle.cet_page.specs.Core.{Core, unheld, come, wanted, access_of, next_access, fault_record, core_by, noted_by, answered, taken}
+use Rattle.cet_page.specs.Orderly.{Orderly, OnOver, over_play, writes}
+use Rattle.cet_page.specs.OrderlyRows.{Ends, tells, orderly_row}
+use Rattle.cet_page.specs.declared.finishes.Finish.{Finish}
+use Rattle.cet_page.specs.declared.finishes.Finish.TheVariants.{Noted, Posted, Exited, Stopped}
 
 -- whether one of the first accesses of a script changed a word, where these answers were kept
 abbrev pub written : {A : Type 0} → (wrote : Bool) → Script A → ℕ → List ℕ → Bool

@@ -1,24 +1,22 @@
 -- What holds of a thread of a job between two of its accesses. Source: own.
 use Rattle.std.proofs.lemmas.Bool.Decides.{nat_tests}
-use Rattle.std.proofs.Common.{add-one, zero, suc, true, false, arith, cond, ◌∙◌, ap, sym, subst}
-use Rattle.std.specs.Prelude.{◌≡◌, ℕ, ◌+◌, ◌-◌, ◌*◌, ◌%◌, ◌<◌, ◌≤◌, Bool, List, [], Option, Some, None, refl, ◌==◌, length, if◌then◌else◌}
+use Rattle.std.proofs.Common.{add-one, true, false, arith, ◌∙◌, ap, sym, subst}
+use Rattle.std.specs.Prelude.{◌≡◌, ℕ, ◌+◌, ◌<◌, ◌≤◌, Bool, Option, Some, None, refl, ◌==◌, length, if◌then◌else◌}
 use Rattle.cet_words.specs.declared.accesses.Access.{Access}
 use Rattle.cet_words.specs.Job.{JobData, IsJob}
-use Rattle.cet_isa.specs.declared.threads.Fault.{Fault}
 use Rattle.cet_isa.specs.declared.threads.Record.{Record}
 use Rattle.cet_isa.specs.declared.threads.Arch.{Arch}
 use Rattle.cet_isa.specs.declared.threads.End.{End}
 use Rattle.cet_isa.specs.declared.threads.End.TheVariants as ending
-use Rattle.cet_cpu.specs.Script.{Script, Came, Over, Faulted, Wants, play, changes_at, birth}
-use Rattle.cet_cpu.specs.Seen.{Seen, nothing_seen, seen_after}
-use Rattle.cet_cpu.specs.Finish.{IsMade}
-use Rattle.cet_cpu.specs.Gate.{stack_of}
-use Rattle.cet_cpu.specs.Row.{row}
-use Rattle.cet_cpu.specs.Core.{Core, After, first_core, unheld, come, wanted, access_of, next_access, held_after, kept_by, recorded, faulted, core_by, noted_by, answered, taken, child_of, born}
-use Rattle.cet_cpu.specs.Orderly.{Spent, Results, OnOver, spent_more, spent_fits, over_play, unborn}
-use Rattle.cet_cpu.specs.OrderlyRows.{Ends, names_no_stack, tells_no_stack, orderly_row, row_begins}
-use Rattle.cet_cpu.specs.declared.rows.Finish.{Finish}
-use Rattle.cet_cpu.specs.declared.rows.Finish.TheVariants.{Noted, Posted, Exited, Stopped}
+use Rattle.cet_page.specs.Script.{Came, Over, Faulted, Wants}
+use Rattle.cet_page.specs.Seen.{Seen, nothing_seen, seen_after}
+use Rattle.cet_page.specs.Finish.{IsMade}
+use Rattle.cet_page.specs.Row.{row}
+use Rattle.cet_page.specs.Core.{Core, first_core, unheld, come, wanted, access_of, next_access, kept_by, recorded, faulted, core_by, noted_by, answered, taken, born}
+use Rattle.cet_page.specs.Orderly.{Spent, OnOver, spent_more, spent_fits, over_play, unborn}
+use Rattle.cet_page.specs.OrderlyRows.{Ends, names_no_stack, tells_no_stack, orderly_row, row_begins}
+use Rattle.cet_page.specs.declared.finishes.Finish.{Finish}
+use Rattle.cet_page.specs.declared.finishes.Finish.TheVariants.{Noted, Posted, Exited, Stopped}
 
 -- the thread has a number, and eight pages that the kernel made for it
 pub record IsState (arch : Arch) : Type 0 where

@@ -1,21 +1,21 @@
 -- Each access brings a thread nearer to its end. Source: own.
-use Rattle.std.proofs.Common.{zero, suc, true, false, arith, cond, ◌∙◌, ap, sym, subst}
-use Rattle.std.specs.Prelude.{◌≡◌, ℕ, ◌+◌, ◌-◌, ◌*◌, ◌<◌, ◌≤◌, Bool, List, [], Option, Some, None, refl, ◌==◌, if◌then◌else◌}
+use Rattle.std.proofs.Common.{true, false, arith, sym, subst}
+use Rattle.std.specs.Prelude.{◌≡◌, ℕ, ◌+◌, ◌-◌, ◌*◌, ◌<◌, Bool, Option, Some, None, refl, ◌==◌, if◌then◌else◌}
 use Rattle.cet_words.specs.Job.{JobData}
 use Rattle.cet_words.specs.declared.accesses.Access.{Access}
 use Rattle.cet_isa.specs.declared.threads.Arch.{Arch}
 use Rattle.cet_isa.specs.declared.threads.End.{End}
 use Rattle.cet_isa.specs.declared.threads.End.TheVariants as ending
-use Rattle.cet_cpu.specs.Script.{Came, Over, Faulted, Wants}
-use Rattle.cet_cpu.specs.Seen.{Seen, nothing_seen, seen_after}
-use Rattle.cet_cpu.specs.Row.{row}
-use Rattle.cet_cpu.specs.Core.{Core, unheld, come, held_after, kept_by, recorded, faulted, core_by, answered, taken}
-use Rattle.cet_cpu.specs.Gate.{stack_of}
-use Rattle.cet_cpu.specs.Orderly.{OnOver, spent_fits, over_play}
-use Rattle.cet_cpu.specs.OrderlyRows.{Ends, orderly_row}
-use Rattle.cet_cpu.specs.Within.{Waits}
-use Rattle.cet_cpu.specs.declared.rows.Finish.{Finish}
-use Rattle.cet_cpu.specs.declared.rows.Finish.TheVariants.{Noted, Posted, Exited, Stopped}
+use Rattle.cet_page.specs.Script.{Came, Over, Faulted, Wants}
+use Rattle.cet_page.specs.Seen.{Seen, nothing_seen, seen_after}
+use Rattle.cet_page.specs.Row.{row}
+use Rattle.cet_page.specs.Core.{Core, unheld, come, held_after, kept_by, faulted, core_by, answered, taken}
+use Rattle.cet_page.specs.Gate.{stack_of}
+use Rattle.cet_page.specs.Orderly.{OnOver, spent_fits, over_play}
+use Rattle.cet_page.specs.OrderlyRows.{Ends, orderly_row}
+use Rattle.cet_page.specs.Within.{Waits}
+use Rattle.cet_page.specs.declared.finishes.Finish.{Finish}
+use Rattle.cet_page.specs.declared.finishes.Finish.TheVariants.{Noted, Posted, Exited, Stopped}
 
 -- the accesses that a thread may still make, at most: 4,096 for each record that it may still make, less those of the
 -- present row

@@ -1,15 +1,15 @@
 -- The fetch of an instruction. Source: Intel SDM volume 3A (instruction fetches); that code is never stored to, and so
 -- costs no access, is own.
 use Rattle.std.proofs.Common.{zero, suc}
-use Rattle.std.specs.Prelude.{◌≡◌, ℕ, ◌+◌, List, [], ◌∷◌, Option, Some, None}
+use Rattle.std.specs.Prelude.{ℕ, ◌+◌, List, [], ◌∷◌, Option, Some, None}
 use Rattle.cet_words.specs.declared.images.Segment.{Segment}
 use Rattle.cet_words.specs.Layout.{page_at}
 use Rattle.cet_words.specs.Bytes.{code_byte}
 use Rattle.cet_words.specs.declared.accesses.Access.TheVariants as access
-use Rattle.cet_cpu.specs.Script.{Script, fault, ask, silent}
-use Rattle.cet_cpu.specs.Page.{page_fault}
-use Rattle.cet_cpu.specs.declared.checks.Kind.TheVariants as kind
-use Rattle.cet_cpu.specs.declared.checks.Who.TheVariants.{User}
+use Rattle.cet_page.specs.Script.{Script, fault, ask, silent}
+use Rattle.cet_page.specs.Page.{page_fault}
+use Rattle.cet_page.specs.declared.checks.Kind.TheVariants as kind
+use Rattle.cet_page.specs.declared.checks.Who.TheVariants.{User}
 
 -- one byte before the bytes that follow it, where there is one
 abbrev pub joined : Option ℕ → List ℕ → List ℕ

@@ -1,7 +1,7 @@
 -- MOV of an immediate, CALL and RET. Source: Intel SDM volume 2 (MOV, CALL, RET), own orders: all looks come before the
 -- first write, and the program stack before the shadow stack.
-use Rattle.std.specs.Prelude.{◌≡◌, ℕ, ◌+◌, ◌-◌, ◌%◌, ◌^◌, List, [], ◌∷◌, ◌&&◌, Bool, ◌==◌, if◌then◌else◌, slice_index, slice_set, ℤ}
-use Rattle.std.specs.Int.{w32, w64, cast_unsigned}
+use Rattle.std.specs.Prelude.{ℕ, ◌+◌, ◌%◌, ◌^◌, List, [], ◌∷◌, ◌&&◌, ◌==◌, if◌then◌else◌, slice_set, ℤ}
+use Rattle.std.specs.Int.{w64, cast_unsigned}
 use Rattle.cet_words.specs.Layout.{word_in}
 use Rattle.cet_isa.specs.Address.{canonical}
 use Rattle.cet_isa.specs.declared.threads.Fault.{Fault}
@@ -10,11 +10,11 @@ use Rattle.cet_isa.specs.declared.threads.Record.{Record}
 use Rattle.cet_isa.specs.declared.threads.What.TheVariants as what
 use Rattle.cet_isa.specs.declared.threads.Arch.{Arch}
 use Rattle.cet_words.specs.Change.{Change, Called, Returned}
-use Rattle.cet_cpu.specs.Script.{Script, done, fault, ◌>>=◌}
-use Rattle.cet_cpu.specs.Parts.{general_protection, tested, look, load, load_as, store, store_as}
-use Rattle.cet_cpu.specs.Finish.{Row, above, below, rsp}
-use Rattle.cet_cpu.specs.declared.checks.Kind.TheVariants as kind
-use Rattle.cet_cpu.specs.declared.checks.Who.TheVariants.{User}
+use Rattle.cet_page.specs.Script.{done, fault, ◌>>=◌}
+use Rattle.cet_page.specs.Parts.{general_protection, tested, look, load, load_as, store, store_as}
+use Rattle.cet_page.specs.Finish.{Row, above, below, rsp}
+use Rattle.cet_page.specs.declared.checks.Kind.TheVariants as kind
+use Rattle.cet_page.specs.declared.checks.Who.TheVariants.{User}
 
 -- MOV of an immediate to a 32-bit register; the upper half of the whole register is cleared
 abbrev pub moved : Arch → (reg value next : ℕ) → Arch × Record

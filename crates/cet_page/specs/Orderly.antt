@@ -2,19 +2,18 @@
 -- what it comes to. Source: own.
 use Rattle.std.proofs.Common.{zero, suc, true, false, arith, cond, subst, ap, sym, ◌∙◌}
 use Rattle.std.proofs.lemmas.Bool.{leb-true}
-use Rattle.std.specs.Prelude.{◌≡◌, ℕ, ◌+◌, ◌-◌, ◌<◌, ◌≤◌, ◌%◌, Bool, ◌||◌, ◌==◌, nat_le, List, [], ◌∷◌, ◌++◌, length, Option, Some, None, refl, if◌then◌else◌}
+use Rattle.std.specs.Prelude.{◌≡◌, ℕ, ◌-◌, ◌<◌, ◌≤◌, ◌%◌, Bool, ◌||◌, ◌==◌, nat_le, List, [], ◌∷◌, ◌++◌, length, Option, Some, None, refl}
 use Rattle.cet_words.specs.Layout.{page_at}
 use Rattle.cet_words.specs.declared.accesses.Access.{Access}
 use Rattle.cet_words.specs.declared.accesses.Access.TheVariants as access
 use Rattle.cet_isa.specs.Address.{canonical}
-use Rattle.cet_isa.specs.declared.threads.Fault.{Fault}
 use Rattle.cet_words.specs.Change.{Change}
-use Rattle.cet_cpu.specs.Script.{Script, done, fault, ask, tell, ◌>>=◌, Came, Over, Faulted, Wants, play, changes_at, birth, silent}
-use Rattle.cet_cpu.specs.Seen.{keeps, kept_after}
-use Rattle.cet_cpu.specs.Page.{allows, page_fault}
-use Rattle.cet_cpu.specs.Parts.{tested, look_in, look, peek, load_as, store_as, exchange_as, misaligned, general_protection}
-use Rattle.cet_cpu.specs.declared.checks.Kind.{Kind}
-use Rattle.cet_cpu.specs.declared.checks.Who.{Who}
+use Rattle.cet_page.specs.Script.{Script, done, fault, ask, tell, ◌>>=◌, Came, Over, Faulted, Wants, play, changes_at, birth}
+use Rattle.cet_page.specs.Seen.{keeps, kept_after}
+use Rattle.cet_page.specs.Page.{allows, page_fault}
+use Rattle.cet_page.specs.Parts.{tested, look_in, look, peek, load_as, store_as, exchange_as, misaligned}
+use Rattle.cet_page.specs.declared.checks.Kind.{Kind}
+use Rattle.cet_page.specs.declared.checks.Who.{Who}
 
 -- the access changes a word, where it answers this
 abbrev pub writes : Access → (answer : ℕ) → Bool

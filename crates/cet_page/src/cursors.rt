@@ -3,9 +3,9 @@
 ghost use Rattle.std.specs.Prelude.{◌≡◌, ◌+◌, ◌*◌, ◌/◌, ◌%◌, ◌<◌, [], IfOk, Some};
 ghost use Rattle.cet_words.specs.Access.{InRange};
 ghost use Rattle.cet_words.specs.Layout.{word_in};
-ghost use Rattle.cet_cpu.specs.Script.{play, ask, tell, done, silent};
-ghost use Rattle.cet_cpu.specs.Plays.{Comes};
-ghost use Rattle.cet_cpu.specs.Parts.{general_protection, invalid_opcode, tested, look, look_in, peek, load, store, exchange};
+ghost use Rattle.cet_page.specs.Script.{play, ask, tell, done, silent};
+ghost use Rattle.cet_page.specs.Plays.{Comes};
+ghost use Rattle.cet_page.specs.Parts.{general_protection, invalid_opcode, tested, look, look_in, peek, load, store, exchange};
 
 use crate::checks::{Kind, Who, check, page_fault};
 use cet_isa::{Fault, FaultName, is_canonical};

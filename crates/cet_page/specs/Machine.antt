@@ -5,7 +5,7 @@ use Rattle.cet_words.specs.Job.{JobData}
 use Rattle.cet_words.specs.Start.{IsStart}
 use Rattle.cet_words.specs.declared.accesses.Access.{Access}
 use Rattle.cet_isa.specs.declared.threads.Record.{Record}
-use Rattle.cet_cpu.specs.Core.{Core, After, first_core, next_access, taken}
+use Rattle.cet_page.specs.Core.{Core, After, first_core, next_access, taken}
 
 -- a thread and its trace, the oldest record first
 pub record Thread : Type 0 where

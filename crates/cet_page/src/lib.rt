@@ -1,0 +1,18 @@
+//! Pages and their check, the values read in a row, and the parts that rows are made of.
+//!
+//! What a thread does is written as a script of accesses for each instruction, kernel call and
+//! delivery (`specs/`). The crates above run such a script over the answers that the thread has kept
+//! since its last record.
+#![tactic(auto)]
+
+mod checks;
+mod cursors;
+mod finishes;
+#[cfg(test)]
+mod tests;
+mod vals;
+
+pub use checks::{Kind, Who, check, index_of, page_fault};
+pub use cursors::{Cursor, Stop, general_protection, invalid_opcode, word_in};
+pub use finishes::Finish;
+pub use vals::Vals;
