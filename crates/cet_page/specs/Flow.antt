@@ -1,27 +1,31 @@
--- MOV of an immediate, CALL and RET. Source: Intel SDM volume 2 (MOV, CALL, RET), own orders: all looks come before the
--- first write, and the program stack before the shadow stack.
-use Rattle.std.specs.Prelude.{ℕ, ◌+◌, ◌%◌, ◌^◌, List, [], ◌∷◌, ◌&&◌, ◌==◌, if◌then◌else◌, slice_set, ℤ}
+-- Calls, returns, pushes, pops and jumps. Source: Intel SDM volume 2 (CALL, RET, PUSH, POP, LEAVE, JMP, Jcc) and volume 1 (shadow
+-- stacks); own orders: all looks come before the first write, and the program stack before the shadow stack.
+use Rattle.std.specs.Prelude.{ℕ, ◌+◌, ◌%◌, ◌^◌, List, [], ◌∷◌, ◌&&◌, ◌==◌, if◌then◌else◌, slice_index, slice_set, ℤ}
 use Rattle.std.specs.Int.{w64, cast_unsigned}
 use Rattle.cet_words.specs.Layout.{word_in}
 use Rattle.cet_isa.specs.Address.{canonical}
+use Rattle.cet_isa.specs.Code.{reg_number}
+use Rattle.cet_isa.specs.declared.instructions.Cond.{Cond}
+use Rattle.cet_isa.specs.declared.instructions.Instr.{Instr}
+use Rattle.cet_isa.specs.declared.instructions.Instr.TheVariants as instr
+use Rattle.cet_isa.specs.declared.instructions.Operand.{Operand}
+use Rattle.cet_isa.specs.declared.instructions.Reg.{Reg}
+use Rattle.cet_isa.specs.declared.instructions.Size.TheVariants as size
 use Rattle.cet_isa.specs.declared.threads.Fault.{Fault}
 use Rattle.cet_isa.specs.declared.threads.FaultName.TheVariants.{Cp}
 use Rattle.cet_isa.specs.declared.threads.Record.{Record}
 use Rattle.cet_isa.specs.declared.threads.What.TheVariants as what
 use Rattle.cet_isa.specs.declared.threads.Arch.{Arch}
 use Rattle.cet_words.specs.Change.{Change, Called, Returned}
+use Rattle.cet_page.specs.Flags.{status, holds}
+use Rattle.cet_page.specs.Operands.{load_at, store_at, read_operand, stepped}
 use Rattle.cet_page.specs.Script.{done, fault, ◌>>=◌}
-use Rattle.cet_page.specs.Parts.{general_protection, tested, look, load, load_as, store, store_as}
+use Rattle.cet_page.specs.Parts.{general_protection, invalid_opcode, tested, look, load, load_as, store, store_as}
 use Rattle.cet_page.specs.Finish.{Row, above, below, rsp}
 use Rattle.cet_page.specs.declared.checks.Kind.TheVariants as kind
 use Rattle.cet_page.specs.declared.checks.Who.TheVariants.{User}
 
--- MOV of an immediate to a 32-bit register; the upper half of the whole register is cleared
-abbrev pub moved : Arch → (reg value next : ℕ) → Arch × Record
-moved arch reg value next = (
-  record arch { regs = slice_set arch.regs reg value; rip = next; count = arch.count + 1 },
-  record { rip = arch.rip; what = what.Step; code = 0; a = value; b = arch.flags },
-)
+-- ---- calls
 
 -- after a call: the return address lies at sp, and the shadow stack's top is ssp
 abbrev pub called : Arch → (target sp ssp : ℕ) → Arch × Record
@@ -59,9 +63,21 @@ abbrev pub call_relative : Arch → ℤ → (next : ℕ) → Row
 call_relative arch disp next =
     if cast_unsigned w64 disp == 0 then call_next arch next else call arch next (relative next disp)
 
-abbrev pub returned : Arch → (target : ℕ) → Arch × Record
-returned arch target = (
-  record arch { regs = slice_set arch.regs 4 (above (rsp arch) 8); rip = target; ssp = above arch.ssp 8; count = arch.count + 1 },
+-- an indirect call or jump is tested before anything is written
+abbrev pub call_to : Arch → (back target : ℕ) → Row
+call_to arch back target = if canonical target then call arch back target else fault general_protection
+
+unfoldable pub call_indirect : Arch → Operand → (next : ℕ) → Row
+call_indirect arch src next = do
+  target ← read_operand arch size.Qword src next
+  call_to arch next target
+
+-- ---- returns
+
+-- RET with an immediate takes so many bytes more off the program stack
+abbrev pub returned : Arch → (bytes target : ℕ) → Arch × Record
+returned arch bytes target = (
+  record arch { regs = slice_set arch.regs 4 (above (rsp arch) (8 + bytes)); rip = target; ssp = above arch.ssp 8; count = arch.count + 1 },
   record { rip = arch.rip; what = what.Ret; code = 0; a = target; b = above arch.ssp 8 },
 )
 
@@ -73,13 +89,69 @@ return_differs word shadow_word = record { name = Cp; code = 1; a = word; b = sh
 abbrev pub returned_if : ℕ → ℕ → List Change
 returned_if word shadow_word = if (word == shadow_word) && canonical word then Returned ∷ [] else []
 
-unfoldable pub ret : Arch → Row
-ret arch = do
+unfoldable pub ret : Arch → (bytes : ℕ) → Row
+ret arch bytes = do
   _ ← tested (rsp arch) 8
   page ← look User kind.Load (rsp arch)
   shadow ← look User kind.ShadowLoad arch.ssp
   word ← load (word_in page (rsp arch))
   shadow_word ← load_as (returned_if word) (word_in shadow arch.ssp)
   if word == shadow_word
-      then (if canonical word then done (returned arch word) else fault general_protection)
+      then (if canonical word then done (returned arch bytes word) else fault general_protection)
       else fault (return_differs word shadow_word)
+
+-- ---- pushes and pops, of 64 bits
+
+-- the value is read before RSP changes
+unfoldable pub push : Arch → Operand → (next : ℕ) → Row
+push arch src next = do
+  value ← read_operand arch size.Qword src next
+  _ ← store_at (below (rsp arch) 8) value
+  done (stepped arch (slice_set arch.regs 4 (below (rsp arch) 8)) next arch.flags value)
+
+-- POP of RSP leaves the value
+unfoldable pub pop : Arch → Reg → (next : ℕ) → Row
+pop arch r next = do
+  value ← load_at (rsp arch) 8
+  done (stepped arch (slice_set (slice_set arch.regs 4 (above (rsp arch) 8)) (reg_number r) value) next arch.flags value)
+
+abbrev pub rbp : Arch → ℕ
+rbp arch = slice_index arch.regs 5
+
+-- RSP becomes RBP, and RBP is popped
+unfoldable pub leave : Arch → (next : ℕ) → Row
+leave arch next = do
+  value ← load_at (rbp arch) 8
+  done (stepped arch (slice_set (slice_set arch.regs 4 (above (rbp arch) 8)) 5 value) next arch.flags value)
+
+-- ---- jumps
+
+abbrev pub jumped : Arch → (target : ℕ) → Arch × Record
+jumped arch target = stepped arch arch.regs target arch.flags target
+
+abbrev pub jump_to : Arch → (target : ℕ) → Row
+jump_to arch target = if canonical target then done (jumped arch target) else fault general_protection
+
+unfoldable pub jump_indirect : Arch → Operand → (next : ℕ) → Row
+jump_indirect arch src next = do
+  target ← read_operand arch size.Qword src next
+  jump_to arch target
+
+-- where a conditional jump goes
+abbrev pub jump_target : Arch → Cond → ℤ → (next : ℕ) → ℕ
+jump_target arch c disp next = if holds c (status arch.flags) then relative next disp else next
+
+-- ---- the instructions; NOTRACK has no effect without branch tracking
+
+abbrev pub transfer : Arch → Instr → (next : ℕ) → Row
+transfer arch (instr.CallRel disp) next = call_relative arch disp next
+transfer arch (instr.CallInd target notrack) next = call_indirect arch target next
+transfer arch instr.Ret next = ret arch 0
+transfer arch (instr.RetImm bytes) next = ret arch bytes
+transfer arch (instr.Push src) next = push arch src next
+transfer arch (instr.Pop r) next = pop arch r next
+transfer arch instr.Leave next = leave arch next
+transfer arch (instr.JmpRel disp) next = done (jumped arch (relative next disp))
+transfer arch (instr.JmpInd target notrack) next = jump_indirect arch target next
+transfer arch (instr.Jcc c disp) next = done (jumped arch (jump_target arch c disp next))
+transfer arch i next = fault invalid_opcode

@@ -1,6 +1,5 @@
 -- The gate into the kernel, the service exit, and the kill. Source: Intel SDM volume 1 (supervisor shadow-stack tokens,
 -- SETSSBSY and CLRSSBSY) for the token; Linux for the calls' numbers and errors; the fixed order is own.
-use Rattle.std.proofs.Common.{zero, suc}
 use Rattle.std.specs.Prelude.{ℕ, ◌+◌, ◌-◌, ◌*◌, ◌/◌, ◌%◌, ◌^◌, List, [], ◌∷◌, ◌++◌, Option, Some, None, ◌==◌, if◌then◌else◌, slice_set}
 use Rattle.cet_words.specs.Layout.{entry_word}
 use Rattle.cet_words.specs.Job.{JobData}
@@ -11,8 +10,8 @@ use Rattle.cet_isa.specs.declared.threads.Record.{Record}
 use Rattle.cet_isa.specs.declared.threads.What.TheVariants as what
 use Rattle.cet_isa.specs.declared.threads.Arch.{Arch}
 use Rattle.cet_words.specs.Change.{Change, Busied, Freed, Ended}
-use Rattle.cet_page.specs.Script.{Script, done, tell, ◌>>=◌}
-use Rattle.cet_page.specs.Parts.{peek, load, store, exchange, exchange_as}
+use Rattle.cet_page.specs.Script.{Script, done, ◌>>=◌}
+use Rattle.cet_page.specs.Parts.{peek, load, store, stores, exchange, exchange_as}
 use Rattle.cet_page.specs.Finish.{rax, rdi, counted}
 use Rattle.cet_page.specs.declared.finishes.Finish.{Finish}
 use Rattle.cet_page.specs.declared.finishes.Finish.TheVariants as finish
@@ -95,9 +94,8 @@ served arch next result =
     record arch { regs = slice_set (slice_set (slice_set arch.regs 1 next) 11 arch.flags) 0 result; rip = next; count = arch.count + 1 }
 
 -- stores of 0 to the entries of so many pages, the lowest first
-unfoldable pub clears : (count page : ℕ) → Script (Unit {0})
-clears zero page = done tt
-clears (suc count) page = tell (entry_word page) 0 [] (clears count (page + 1))
+abbrev pub clears : (count page : ℕ) → Script (Unit {0})
+clears count page = stores count (entry_word page) 0 0
 
 -- the first page of the shadow stack that the kernel made
 abbrev pub made_page : Arch → ℕ
@@ -113,6 +111,14 @@ exit arch k = do
   _ ← gate_out (Ended ∷ []) k
   done (finish.Exited (counted arch) (sys_record arch (exit_status arch)) (exit_status arch))
 
+-- The process ends with the low byte of the status: EXIT becomes that byte and 256, where no thread has ended the process before.
+-- The thread goes on to its next boundary.
+unfoldable pub exit_group : Arch → (next k : ℕ) → Script Finish
+exit_group arch next k = do
+  _ ← exchange exit_word 0 (0x100 + exit_status arch)
+  _ ← gate_out [] k
+  done (finish.Noted (served arch next (exit_status arch)) (sys_record arch (exit_status arch)))
+
 -- every number that isn't built
 unfoldable pub no_call : Arch → (next k : ℕ) → Script Finish
 no_call arch next k = do
@@ -121,7 +127,10 @@ no_call arch next k = do
 
 -- the service whose number is in RAX
 abbrev pub service : Arch → (next k : ℕ) → Script Finish
-service arch next k = if rax arch == 60 then exit arch k else no_call arch next k
+service arch next k =
+    if rax arch == 60 then exit arch k
+    else if rax arch == 231 then exit_group arch next k
+    else no_call arch next k
 
 -- SYSCALL
 unfoldable pub syscall : JobData → Arch → (next : ℕ) → Script Finish

@@ -3,6 +3,11 @@ pub mod Seen
 pub mod Page
 pub mod Parts
 pub mod Finish
+pub mod Flags
+pub mod Values
+pub mod Operands
+pub mod Arithmetic
+pub mod Family
 pub mod Flow
 pub mod Gate
 pub mod Fetch

@@ -1,17 +1,24 @@
 -- What holds of every row, whatever its accesses answer: it is short, a fault comes only before its first write, and
 -- what it comes to. Source: own.
 use Rattle.std.proofs.Common.{zero, suc, true, false, arith, cond, subst, ap, sym, ◌∙◌}
-use Rattle.std.proofs.lemmas.Bool.{leb-true}
+use Rattle.std.proofs.lemmas.Bool.{leb-true, le-leb}
 use Rattle.std.specs.Prelude.{◌≡◌, ℕ, ◌-◌, ◌<◌, ◌≤◌, ◌%◌, Bool, ◌||◌, ◌==◌, nat_le, List, [], ◌∷◌, ◌++◌, length, Option, Some, None, refl}
-use Rattle.cet_words.specs.Layout.{page_at}
+use Rattle.cet_words.specs.Layout.{page_at, word_in}
 use Rattle.cet_words.specs.declared.accesses.Access.{Access}
 use Rattle.cet_words.specs.declared.accesses.Access.TheVariants as access
+use Rattle.std.specs.Int.{cast_unsigned}
 use Rattle.cet_isa.specs.Address.{canonical}
+use Rattle.cet_isa.specs.declared.instructions.Operand.{Operand}
+use Rattle.cet_isa.specs.declared.instructions.Operand.TheVariants as operand
+use Rattle.cet_isa.specs.declared.instructions.Size.{Size}
+use Rattle.cet_isa.specs.declared.threads.Arch.{Arch}
 use Rattle.cet_words.specs.Change.{Change}
 use Rattle.cet_page.specs.Script.{Script, done, fault, ask, tell, ◌>>=◌, Came, Over, Faulted, Wants, play, changes_at, birth}
 use Rattle.cet_page.specs.Seen.{keeps, kept_after}
 use Rattle.cet_page.specs.Page.{allows, page_fault}
-use Rattle.cet_page.specs.Parts.{tested, look_in, look, peek, load_as, store_as, exchange_as, misaligned}
+use Rattle.cet_page.specs.Parts.{tested, look_in, look, peek, load_as, store_as, exchange_as, swap, fetch_add_as, misaligned}
+use Rattle.cet_page.specs.Values.{limit, width}
+use Rattle.cet_page.specs.Operands.{register, effective, byte_count, bytes_at, load_word, load_at, write_place, store_at, read_operand}
 use Rattle.cet_page.specs.declared.checks.Kind.{Kind}
 use Rattle.cet_page.specs.declared.checks.Who.{Who}
 
@@ -35,6 +42,10 @@ Orderly n k wrote Q (ask a changes f) =
     (keeps a ≡ true) × (nat_le 1 n ≡ true) × (nat_le 1 k ≡ true) × ((v : ℕ) → (birth (changes v) ≡ None) × Orderly (n - 1) (k - 1) (wrote || writes a v) Q (f v))
 Orderly n k wrote Q (tell word value changes s) =
     (nat_le 1 n ≡ true) × (birth changes ≡ None) × Orderly (n - 1) k true Q s
+
+-- a fact of each result
+abbrev pub Results : {A : Type 0} → (A → Type 0) → ℕ → ℕ → Bool → A → Type 0
+Results P n k wrote x = P x
 
 pub orderly_bind : {A B : Type 0} (n k : ℕ) (wrote : Bool) (Q : ℕ → ℕ → Bool → B → Type 0) (m : Script A) (f : A → Script B) → Orderly n k wrote (λ n' k' w x. Orderly n' k' w Q (f x)) m → Orderly n k wrote Q (m >>= f)
 unfolding ◌>>=◌
@@ -82,6 +93,63 @@ store_then n k wrote Q changes word value f p b h = orderly_bind n k wrote Q (st
 pub exchange_then : {A : Type 0} (n k : ℕ) (wrote : Bool) (Q : ℕ → ℕ → Bool → A → Type 0) (changes : ℕ → List Change) (word expected value : ℕ) (f : ℕ → Script A) → nat_le 1 n ≡ true → nat_le 1 k ≡ true → ((v : ℕ) → (birth (changes v) ≡ None) × Orderly (n - 1) (k - 1) (wrote || (v == expected)) Q (f v)) → Orderly n k wrote Q (exchange_as changes word expected value >>= f)
 unfolding exchange_as
 exchange_then n k wrote Q changes word expected value f p q h = orderly_bind n k wrote Q (exchange_as changes word expected value) f (refl, p, q, h)
+
+pub swap_then : {A : Type 0} (n k : ℕ) (wrote : Bool) (Q : ℕ → ℕ → Bool → A → Type 0) (word value : ℕ) (f : ℕ → Script A) → nat_le 1 n ≡ true → nat_le 1 k ≡ true → ((v : ℕ) → Orderly (n - 1) (k - 1) (wrote || true) Q (f v)) → Orderly n k wrote Q (swap word value >>= f)
+unfolding swap
+swap_then n k wrote Q word value f p q h = orderly_bind n k wrote Q (swap word value) f (refl, p, q, λ v. (refl, h v))
+
+pub fetch_add_then : {A : Type 0} (n k : ℕ) (wrote : Bool) (Q : ℕ → ℕ → Bool → A → Type 0) (changes : ℕ → List Change) (word value : ℕ) (f : ℕ → Script A) → nat_le 1 n ≡ true → nat_le 1 k ≡ true → ((v : ℕ) → (birth (changes v) ≡ None) × Orderly (n - 1) (k - 1) (wrote || true) Q (f v)) → Orderly n k wrote Q (fetch_add_as changes word value >>= f)
+unfolding fetch_add_as
+fetch_add_then n k wrote Q changes word value f p q h = orderly_bind n k wrote Q (fetch_add_as changes word value) f (refl, p, q, h)
+
+-- room for more accesses and answers does no harm
+pub orderly_more : {A : Type 0} (P : A → Type 0) (n k n' k' : ℕ) (wrote : Bool) (s : Script A) → n ≤ n' → k ≤ k' → Orderly n k wrote (Results P) s → Orderly n' k' wrote (Results P) s
+orderly_more P n k n' k' wrote (done x) l m h = h
+orderly_more P n k n' k' wrote (fault e) l m h = h
+orderly_more P n k n' k' wrote (ask a changes f) l m h =
+    let p : 1 ≤ n = leb-true 1 n h.1 in
+    let q : 1 ≤ k = leb-true 1 k h.2 in
+    (h.0, le-leb 1 n' (omega arith), le-leb 1 k' (omega arith), λ v. let g = h.3 v in (g.0, orderly_more P (n - 1) (k - 1) (n' - 1) (k' - 1) (wrote || writes a v) (f v) (omega arith) (omega arith) g.1))
+orderly_more P n k n' k' wrote (tell word value changes s) l m h =
+    let p : 1 ≤ n = leb-true 1 n h.0 in
+    (le-leb 1 n' (omega arith), h.1, orderly_more P (n - 1) k (n' - 1) k' true s (omega arith) m h.2)
+
+-- ---- operands, with what follows them
+
+-- room for two, and so for one and for one more
+first_of : (n : ℕ) → nat_le 2 n ≡ true → nat_le 1 n ≡ true
+first_of n p = let l : 2 ≤ n = leb-true 2 n p in le-leb 1 n (omega arith)
+
+second_of : (n : ℕ) → nat_le 2 n ≡ true → nat_le 1 (n - 1) ≡ true
+second_of n p = let l : 2 ≤ n = leb-true 2 n p in le-leb 1 (n - 1) (omega arith)
+
+pub load_at_then : {A : Type 0} (n k : ℕ) (P : A → Type 0) (addr count : ℕ) (f : ℕ → Script A) → nat_le 2 n ≡ true → nat_le 2 k ≡ true → ((v : ℕ) → Orderly (n - 1 - 1) (k - 1 - 1) false (Results P) (f v)) → Orderly n k false (Results P) (load_at addr count >>= f)
+unfolding load_at load_word load_as
+load_at_then n k P addr count f p q h =
+    orderly_bind n k false (Results P) (load_at addr count) f
+    (orderly_bind n k false _ (load_word addr count) _
+    (tested_then n k _ addr count _
+    (look_then n k _ _ _ addr _ (first_of n p) (first_of k q) (λ page.
+    (refl, second_of n p, second_of k q, λ word. (refl, h (bytes_at addr count word)))))))
+
+place_orderly : (n k : ℕ) (Q : ℕ → ℕ → Bool → ℕ → Type 0) (addr : ℕ) → nat_le 1 n ≡ true → nat_le 1 k ≡ true → ((word : ℕ) → Q (n - 1) (k - 1) false word) → Orderly n k false Q (write_place addr)
+unfolding write_place
+place_orderly n k Q addr p q h = tested_then n k Q addr 8 _ (look_then n k Q _ _ addr _ p q (λ page. h (word_in page addr)))
+
+pub write_place_then : {A : Type 0} (n k : ℕ) (Q : ℕ → ℕ → Bool → A → Type 0) (addr : ℕ) (f : ℕ → Script A) → nat_le 1 n ≡ true → nat_le 1 k ≡ true → ((word : ℕ) → Orderly (n - 1) (k - 1) false Q (f word)) → Orderly n k false Q (write_place addr >>= f)
+write_place_then n k Q addr f p q h = orderly_bind n k false Q (write_place addr) f (place_orderly n k _ addr p q h)
+
+pub store_at_then : {A : Type 0} (n k : ℕ) (Q : ℕ → ℕ → Bool → A → Type 0) (addr value : ℕ) (f : Unit {0} → Script A) → nat_le 2 n ≡ true → nat_le 1 k ≡ true → Orderly (n - 1 - 1) (k - 1) true Q (f tt) → Orderly n k false Q (store_at addr value >>= f)
+unfolding store_at store_as
+store_at_then n k Q addr value f p q h =
+    orderly_bind n k false Q (store_at addr value) f
+    (write_place_then n k _ addr _ (first_of n p) q (λ word. (second_of n p, refl, h)))
+
+pub read_operand_then : {A : Type 0} (n k : ℕ) (P : A → Type 0) (arch : Arch) (s : Size) (o : Operand) (next : ℕ) (f : ℕ → Script A) → nat_le 2 n ≡ true → nat_le 2 k ≡ true → ((v : ℕ) → Orderly (n - 1 - 1) (k - 1 - 1) false (Results P) (f v)) → Orderly n k false (Results P) (read_operand arch s o next >>= f)
+unfolding read_operand ◌>>=◌
+read_operand_then n k P arch s (operand.Reg r) next f p q h = orderly_more P (n - 1 - 1) (k - 1 - 1) n k false (f (register arch r % limit s)) (omega arith) (omega arith) (h (register arch r % limit s))
+read_operand_then n k P arch s (operand.Imm z) next f p q h = orderly_more P (n - 1 - 1) (k - 1 - 1) n k false (f (cast_unsigned (width s) z)) (omega arith) (omega arith) (h (cast_unsigned (width s) z))
+read_operand_then n k P arch s (operand.Mem m) next f p q h = load_at_then n k P (effective arch m next) (byte_count s) f p q h
 
 -- ---- what it tells of a script that was played
 
@@ -153,10 +221,6 @@ abbrev pub OnOver : {A : Type 0} → (A → Type 0) → Came A → Type 0
 OnOver P (Over x left values) = P x
 OnOver P (Faulted e) = Unit {0}
 OnOver P (Wants a) = Unit {0}
-
--- a fact of each result
-abbrev pub Results : {A : Type 0} → (A → Type 0) → ℕ → ℕ → Bool → A → Type 0
-Results P n k wrote x = P x
 
 pub over_play : {A : Type 0} (P : A → Type 0) (wrote : Bool) (s : Script A) (n k i : ℕ) (vs : List ℕ) → Orderly n k wrote (Results P) s → OnOver P (play s i vs)
 over_play P wrote (done x) n k i vs h = h

@@ -1,12 +1,17 @@
 -- Every row is orderly: at most 4,096 accesses and 31 kept answers, and it begins with an access. Source: own.
-use Rattle.std.proofs.Common.{true, false, cond, refl}
-use Rattle.std.specs.Prelude.{◌≡◌, ℕ, ◌+◌, ◌-◌, Bool, ◌||◌, ◌&&◌, ◌==◌, nat_le, List, [], ◌∷◌, ◌++◌, length, Option, Some, None, ℤ}
+use Rattle.std.proofs.Common.{true, false, cond, refl, arith}
+use Rattle.std.specs.Prelude.{◌≡◌, ℕ, ◌+◌, ◌-◌, ◌%◌, ◌≤◌, Bool, ◌||◌, ◌&&◌, ◌==◌, nat_le, List, [], ◌∷◌, ◌++◌, length, Option, Some, None, ℤ}
 use Rattle.std.specs.Int.{w64, cast_unsigned}
 use Rattle.cet_words.specs.Job.{JobData}
 use Rattle.cet_words.specs.Layout.{page_at}
 use Rattle.cet_words.specs.declared.accesses.Access.{Access}
 use Rattle.cet_isa.specs.Address.{canonical}
 use Rattle.cet_isa.specs.Reading.{Decoding, Read, Short, Unknown, decoded}
+use Rattle.cet_isa.specs.declared.instructions.AluOp.{AluOp}
+use Rattle.cet_isa.specs.declared.instructions.AluOp.TheVariants as ops
+use Rattle.cet_isa.specs.declared.instructions.Cond.{Cond}
+use Rattle.cet_isa.specs.declared.instructions.Mem.{Mem}
+use Rattle.cet_isa.specs.declared.instructions.Reg.{Reg}
 use Rattle.cet_isa.specs.declared.instructions.Instr.{Instr}
 use Rattle.cet_isa.specs.declared.instructions.Instr.TheVariants as instr
 use Rattle.cet_isa.specs.declared.instructions.Operand.{Operand}
@@ -20,13 +25,20 @@ use Rattle.cet_isa.specs.declared.threads.What.{What}
 use Rattle.cet_isa.specs.declared.threads.What.TheVariants as what
 use Rattle.cet_words.specs.Change.{Change, Busied, Returned, Freed}
 use Rattle.cet_page.specs.Script.{Script, ◌>>=◌, Wants, play, birth}
-use Rattle.cet_page.specs.Parts.{load_as, peek}
+use Rattle.cet_page.specs.Parts.{load_as, peek, stores}
 use Rattle.cet_page.specs.Finish.{Row, noted, above, rax}
-use Rattle.cet_page.specs.Flow.{call, call_next, call_relative, ret}
-use Rattle.cet_page.specs.Gate.{gate_in, gate_out, clears, exit, no_call, service, syscall, kill, deliver, stack_of, signal_of, token}
+use Rattle.cet_page.specs.declared.families.Family.{Family}
+use Rattle.cet_page.specs.declared.families.Family.TheVariants as families
+use Rattle.cet_page.specs.declared.flags.Computed.{Computed}
+use Rattle.cet_page.specs.Family.{family_of}
+use Rattle.cet_page.specs.Values.{limit, shifted_left, shifted_right, shifted_signed}
+use Rattle.cet_page.specs.Operands.{register, assigned, settled}
+use Rattle.cet_page.specs.Arithmetic.{operated, alu, test, multiply, move, move_zero, move_sign, move_if, xchg, lock_xadd, lock_cmpxchg, shift_count, arithmetic}
+use Rattle.cet_page.specs.Flow.{call, call_next, call_relative, call_to, call_indirect, ret, push, pop, leave, jump_indirect, transfer}
+use Rattle.cet_page.specs.Gate.{gate_in, gate_out, clears, exit, exit_group, no_call, service, syscall, kill, deliver, stack_of, signal_of, token}
 use Rattle.cet_page.specs.Fetch.{missing, missing_in}
-use Rattle.cet_page.specs.Row.{move, execute, fetched, instruction, instruction_bytes, boundary, row, row_from}
-use Rattle.cet_page.specs.Orderly.{Orderly, Results, orderly_bind, orderly_cond, tested_then, look_then, peek_then, load_then, store_then, exchange_then}
+use Rattle.cet_page.specs.Row.{execute_family, fetched, instruction, instruction_bytes, boundary, row, row_from}
+use Rattle.cet_page.specs.Orderly.{Orderly, Results, orderly_bind, orderly_cond, orderly_more, tested_then, look_then, peek_then, load_then, store_then, exchange_then, swap_then, fetch_add_then, load_at_then, write_place_then, store_at_then, read_operand_then}
 use Rattle.cet_page.specs.declared.finishes.Finish.{Finish}
 use Rattle.cet_page.specs.declared.finishes.Finish.TheVariants.{Noted, Posted, Exited, Stopped}
 
@@ -94,10 +106,10 @@ no_birth_busied : (k : ℕ) (b : Bool) → birth (cond b (Busied k ∷ []) []) �
 no_birth_busied k true = refl
 no_birth_busied k false = refl
 
-orderly_noted : (n k : ℕ) (w : Bool) (arch : Arch) (m : Row) → Orderly n k w (λ n' k' w' x. EndsRow arch x) m → Orderly n k w (Results (Ends arch)) (m >>= noted)
+orderly_noted : (n k : ℕ) (w : Bool) (arch : Arch) (m : Row) → Orderly n k w (Results (EndsRow arch)) m → Orderly n k w (Results (Ends arch)) (m >>= noted)
 orderly_noted n k w arch m h = orderly_bind n k w (Results (Ends arch)) m noted h
 
-orderly_call : (arch : Arch) (back target : ℕ) → Orderly 4094 29 false (λ n k w x. EndsRow arch x) (call arch back target)
+orderly_call : (arch : Arch) (back target : ℕ) → Orderly 4094 29 false (Results (EndsRow arch)) (call arch back target)
 unfolding call
 orderly_call arch back target =
     tested_then 4094 29 _ _ 8 _
@@ -106,20 +118,20 @@ orderly_call arch back target =
     store_then 4092 27 false _ _ _ _ _ refl refl
     (store_then 4091 27 true _ _ _ _ _ refl refl (refl, refl, refl)))))
 
-orderly_call_next : (arch : Arch) (back : ℕ) → Orderly 4094 29 false (λ n k w x. EndsRow arch x) (call_next arch back)
+orderly_call_next : (arch : Arch) (back : ℕ) → Orderly 4094 29 false (Results (EndsRow arch)) (call_next arch back)
 unfolding call_next
 orderly_call_next arch back =
     tested_then 4094 29 _ _ 8 _
     (look_then 4094 29 _ _ _ _ _ refl refl (λ page.
     store_then 4093 28 false _ _ _ _ _ refl refl (refl, refl, refl)))
 
-orderly_call_relative : (arch : Arch) (disp : ℤ) (next : ℕ) → Orderly 4094 29 false (λ n k w x. EndsRow arch x) (call_relative arch disp next)
+orderly_call_relative : (arch : Arch) (disp : ℤ) (next : ℕ) → Orderly 4094 29 false (Results (EndsRow arch)) (call_relative arch disp next)
 orderly_call_relative arch disp next =
     orderly_cond 4094 29 false _ (cast_unsigned w64 disp == 0) _ _ (λ _. orderly_call_next arch next) (λ _. orderly_call arch next _)
 
-orderly_ret : (arch : Arch) → Orderly 4094 29 false (λ n k w x. EndsRow arch x) (ret arch)
+orderly_ret : (arch : Arch) (bytes : ℕ) → Orderly 4094 29 false (Results (EndsRow arch)) (ret arch bytes)
 unfolding ret
-orderly_ret arch =
+orderly_ret arch bytes =
     tested_then 4094 29 _ _ 8 _
     (look_then 4094 29 _ _ _ _ _ refl refl (λ page.
     look_then 4093 28 _ _ _ _ _ refl refl (λ shadow.
@@ -132,6 +144,150 @@ orderly_ret arch =
             (λ _. refl),
       )),
     )))))
+
+orderly_call_to : (arch : Arch) (back target n k : ℕ) → 4092 ≤ n → 27 ≤ k → Orderly n k false (Results (EndsRow arch)) (call_to arch back target)
+unfolding call
+orderly_call_to arch back target n k l m =
+    orderly_more (EndsRow arch) 4092 27 n k false _ l m
+    (orderly_cond 4092 27 false _ (canonical target) _ _
+    (λ _. tested_then 4092 27 _ _ 8 _
+    (look_then 4092 27 _ _ _ _ _ refl refl (λ page.
+    look_then 4091 26 _ _ _ _ _ refl refl (λ shadow.
+    store_then 4090 25 false _ _ _ _ _ refl refl
+    (store_then 4089 25 true _ _ _ _ _ refl refl (refl, refl, refl))))))
+    (λ _. refl))
+
+orderly_call_indirect : (arch : Arch) (src : Operand) (next : ℕ) → Orderly 4094 29 false (Results (EndsRow arch)) (call_indirect arch src next)
+unfolding call_indirect
+orderly_call_indirect arch src next =
+    read_operand_then 4094 29 (EndsRow arch) arch size.Qword src next _ refl refl (λ target. orderly_call_to arch next target 4092 27 (omega arith) (omega arith))
+
+orderly_push : (arch : Arch) (src : Operand) (next : ℕ) → Orderly 4094 29 false (Results (EndsRow arch)) (push arch src next)
+unfolding push
+orderly_push arch src next =
+    read_operand_then 4094 29 (EndsRow arch) arch size.Qword src next _ refl refl (λ value.
+    store_at_then 4092 27 _ _ value _ refl refl (refl, refl, refl))
+
+orderly_pop : (arch : Arch) (r : Reg) (next : ℕ) → Orderly 4094 29 false (Results (EndsRow arch)) (pop arch r next)
+unfolding pop
+orderly_pop arch r next = load_at_then 4094 29 (EndsRow arch) _ 8 _ refl refl (λ value. (refl, refl, refl))
+
+orderly_leave : (arch : Arch) (next : ℕ) → Orderly 4094 29 false (Results (EndsRow arch)) (leave arch next)
+unfolding leave
+orderly_leave arch next = load_at_then 4094 29 (EndsRow arch) _ 8 _ refl refl (λ value. (refl, refl, refl))
+
+orderly_jump_indirect : (arch : Arch) (src : Operand) (next : ℕ) → Orderly 4094 29 false (Results (EndsRow arch)) (jump_indirect arch src next)
+unfolding jump_indirect
+orderly_jump_indirect arch src next =
+    read_operand_then 4094 29 (EndsRow arch) arch size.Qword src next _ refl refl (λ target.
+    orderly_cond 4092 27 false _ (canonical target) _ _ (λ _. (refl, refl, refl)) (λ _. refl))
+
+orderly_transfer : (arch : Arch) (i : Instr) (next : ℕ) → Orderly 4094 29 false (Results (EndsRow arch)) (transfer arch i next)
+orderly_transfer arch (instr.CallRel disp) next = orderly_call_relative arch disp next
+orderly_transfer arch (instr.CallInd target notrack) next = orderly_call_indirect arch target next
+orderly_transfer arch instr.Ret next = orderly_ret arch 0
+orderly_transfer arch (instr.RetImm bytes) next = orderly_ret arch bytes
+orderly_transfer arch (instr.Push src) next = orderly_push arch src next
+orderly_transfer arch (instr.Pop r) next = orderly_pop arch r next
+orderly_transfer arch instr.Leave next = orderly_leave arch next
+orderly_transfer arch (instr.JmpRel disp) next = (refl, refl, refl)
+orderly_transfer arch (instr.JmpInd target notrack) next = orderly_jump_indirect arch target next
+orderly_transfer arch (instr.Jcc c disp) next = (refl, refl, refl)
+orderly_transfer arch i next = refl
+
+-- ---- moves, arithmetic, tests, shifts and locked operations
+
+orderly_operated : (arch : Arch) (op : AluOp) (dst : Operand) (c : Computed) (next : ℕ) → Orderly 4090 25 false (Results (EndsRow arch)) (operated arch op dst c next)
+orderly_operated arch ops.Cmp dst c next = (refl, refl, refl)
+orderly_operated arch op (operand.Reg r) c next = (refl, refl, refl)
+orderly_operated arch op dst c next = refl
+
+orderly_alu : (arch : Arch) (op : AluOp) (s : Size) (dst src : Operand) (next : ℕ) → Orderly 4094 29 false (Results (EndsRow arch)) (alu arch op s dst src next)
+unfolding alu
+orderly_alu arch op s dst src next =
+    read_operand_then 4094 29 (EndsRow arch) arch s dst next _ refl refl (λ x.
+    read_operand_then 4092 27 (EndsRow arch) arch s src next _ refl refl (λ y.
+    orderly_operated arch op dst _ next))
+
+orderly_test : (arch : Arch) (s : Size) (dst src : Operand) (next : ℕ) → Orderly 4094 29 false (Results (EndsRow arch)) (test arch s dst src next)
+unfolding test
+orderly_test arch s dst src next =
+    read_operand_then 4094 29 (EndsRow arch) arch s dst next _ refl refl (λ x.
+    read_operand_then 4092 27 (EndsRow arch) arch s src next _ refl refl (λ y. (refl, refl, refl)))
+
+orderly_multiply : (arch : Arch) (s : Size) (r : Reg) (src : Operand) (next : ℕ) → Orderly 4094 29 false (Results (EndsRow arch)) (multiply arch s r src next)
+unfolding multiply
+orderly_multiply arch s r src next = read_operand_then 4094 29 (EndsRow arch) arch s src next _ refl refl (λ y. (refl, refl, refl))
+
+orderly_move : (arch : Arch) (s : Size) (dst src : Operand) (next : ℕ) → Orderly 4094 29 false (Results (EndsRow arch)) (move arch s dst src next)
+unfolding move
+orderly_move arch s (operand.Reg r) src next = read_operand_then 4094 29 (EndsRow arch) arch s src next _ refl refl (λ value. (refl, refl, refl))
+orderly_move arch size.Qword (operand.Mem m) src next =
+    read_operand_then 4094 29 (EndsRow arch) arch size.Qword src next _ refl refl (λ value.
+    store_at_then 4092 27 _ _ value _ refl refl (refl, refl, refl))
+orderly_move arch size.Dword (operand.Mem m) src next = refl
+orderly_move arch size.Dword (operand.Imm z) src next = refl
+orderly_move arch size.Qword (operand.Imm z) src next = refl
+
+orderly_move_zero : (arch : Arch) (r : Reg) (m : Mem) (next : ℕ) → Orderly 4094 29 false (Results (EndsRow arch)) (move_zero arch r m next)
+unfolding move_zero
+orderly_move_zero arch r m next = load_at_then 4094 29 (EndsRow arch) _ 1 _ refl refl (λ value. (refl, refl, refl))
+
+orderly_move_sign : (arch : Arch) (r : Reg) (src : Operand) (next : ℕ) → Orderly 4094 29 false (Results (EndsRow arch)) (move_sign arch r src next)
+unfolding move_sign
+orderly_move_sign arch r src next = read_operand_then 4094 29 (EndsRow arch) arch size.Dword src next _ refl refl (λ value. (refl, refl, refl))
+
+orderly_move_if : (arch : Arch) (c : Cond) (s : Size) (r : Reg) (src : Operand) (next : ℕ) → Orderly 4094 29 false (Results (EndsRow arch)) (move_if arch c s r src next)
+unfolding move_if
+orderly_move_if arch c s r src next = read_operand_then 4094 29 (EndsRow arch) arch s src next _ refl refl (λ value. (refl, refl, refl))
+
+orderly_xchg : (arch : Arch) (dst : Operand) (r : Reg) (next : ℕ) → Orderly 4094 29 false (Results (EndsRow arch)) (xchg arch dst r next)
+unfolding xchg
+orderly_xchg arch (operand.Reg d) r next = (refl, refl, refl)
+orderly_xchg arch (operand.Mem m) r next =
+    write_place_then 4094 29 _ _ _ refl refl (λ word. swap_then 4093 28 false _ word _ _ refl refl (λ found. (refl, refl, refl)))
+orderly_xchg arch (operand.Imm z) r next = refl
+
+orderly_lock_xadd : (arch : Arch) (m : Mem) (r : Reg) (next : ℕ) → Orderly 4094 29 false (Results (EndsRow arch)) (lock_xadd arch m r next)
+unfolding lock_xadd
+orderly_lock_xadd arch m r next =
+    write_place_then 4094 29 _ _ _ refl refl (λ word. fetch_add_then 4093 28 false _ _ word _ _ refl refl (λ found. (refl, (refl, refl, refl))))
+
+orderly_lock_cmpxchg : (arch : Arch) (m : Mem) (r : Reg) (next : ℕ) → Orderly 4094 29 false (Results (EndsRow arch)) (lock_cmpxchg arch m r next)
+unfolding lock_cmpxchg
+orderly_lock_cmpxchg arch m r next =
+    write_place_then 4094 29 _ _ _ refl refl (λ word. exchange_then 4093 28 false _ _ word _ _ _ refl refl (λ found. (refl, (refl, refl, refl))))
+
+shift_ends : (arch : Arch) (s : Size) (r : Reg) (c : Computed) (next : ℕ) (b : Bool) → EndsRow arch (cond b (assigned arch r (register arch r % limit s) next) (settled arch r c next))
+shift_ends arch s r c next true = (refl, refl, refl)
+shift_ends arch s r c next false = (refl, refl, refl)
+
+orderly_arithmetic : (arch : Arch) (i : Instr) (next : ℕ) → Orderly 4094 29 false (Results (EndsRow arch)) (arithmetic arch i next)
+orderly_arithmetic arch (instr.Alu op s dst src) next = orderly_alu arch op s dst src next
+orderly_arithmetic arch (instr.Test s dst src) next = orderly_test arch s dst src next
+orderly_arithmetic arch (instr.Mov s dst src) next = orderly_move arch s dst src next
+orderly_arithmetic arch (instr.MovWide r value) next = (refl, refl, refl)
+orderly_arithmetic arch (instr.MovZero8 r m) next = orderly_move_zero arch r m next
+orderly_arithmetic arch (instr.MovSign32 r src) next = orderly_move_sign arch r src next
+orderly_arithmetic arch (instr.Lea s r m) next = (refl, refl, refl)
+orderly_arithmetic arch (instr.Xchg dst r) next = orderly_xchg arch dst r next
+orderly_arithmetic arch (instr.LockXadd m r) next = orderly_lock_xadd arch m r next
+orderly_arithmetic arch (instr.LockCmpxchg m r) next = orderly_lock_cmpxchg arch m r next
+orderly_arithmetic arch (instr.Inc s r) next = (refl, refl, refl)
+orderly_arithmetic arch (instr.Dec s r) next = (refl, refl, refl)
+orderly_arithmetic arch (instr.Not s r) next = (refl, refl, refl)
+orderly_arithmetic arch (instr.Neg s r) next = (refl, refl, refl)
+orderly_arithmetic arch (instr.Imul s r src) next = orderly_multiply arch s r src next
+orderly_arithmetic arch (instr.Shl s r c) next = shift_ends arch s r (shifted_left s (register arch r % limit s) (shift_count arch s c)) next (shift_count arch s c == 0)
+orderly_arithmetic arch (instr.Shr s r c) next = shift_ends arch s r (shifted_right s (register arch r % limit s) (shift_count arch s c)) next (shift_count arch s c == 0)
+orderly_arithmetic arch (instr.Sar s r c) next = shift_ends arch s r (shifted_signed s (register arch r % limit s) (shift_count arch s c)) next (shift_count arch s c == 0)
+orderly_arithmetic arch (instr.Cmov c s r src) next = orderly_move_if arch c s r src next
+orderly_arithmetic arch instr.Nop next = (refl, refl, refl)
+orderly_arithmetic arch instr.Pause next = (refl, refl, refl)
+orderly_arithmetic arch instr.Endbr64 next = (refl, refl, refl)
+orderly_arithmetic arch instr.Stc next = (refl, refl, refl)
+orderly_arithmetic arch instr.Clc next = (refl, refl, refl)
+orderly_arithmetic arch i next = refl
 
 -- ---- within the gate nothing faults, so whether something was written doesn't matter
 
@@ -165,7 +321,7 @@ orderly_gate_out n k wrote Q ends s f b p q r t h =
     )))
 
 orderly_clears : (wrote : Bool) (Q : ℕ → ℕ → Bool → Unit {0} → Type 0) (page : ℕ) → Q 4083 27 true tt → Orderly 4091 27 wrote Q (clears 8 page)
-unfolding clears
+unfolding stores
 orderly_clears wrote Q page h =
     (refl, refl, (refl, refl, (refl, refl, (refl, refl, (refl, refl, (refl, refl, (refl, refl, (refl, refl, h))))))))
 
@@ -175,12 +331,21 @@ orderly_exit arch k w =
     orderly_bind 4091 27 w _ (clears 8 _) _ (orderly_clears w _ _
     (orderly_gate_out 4083 27 true _ _ _ _ refl refl refl refl refl (λ w'. (refl, refl, refl))))
 
+orderly_exit_group : (arch : Arch) (next k : ℕ) (w : Bool) → Orderly 4091 27 w (Results (Ends arch)) (exit_group arch next k)
+unfolding exit_group
+orderly_exit_group arch next k w =
+    exchange_then 4091 27 w _ _ _ _ _ _ refl refl (λ before. (
+      refl,
+      orderly_gate_out 4090 26 (w || (before == 0)) _ _ _ _ refl refl refl refl refl (λ w'. (refl, refl, refl)),
+    ))
+
 orderly_no_call : (arch : Arch) (next k : ℕ) (w : Bool) → Orderly 4091 27 w (Results (Ends arch)) (no_call arch next k)
 unfolding no_call
 orderly_no_call arch next k w = orderly_gate_out 4091 27 w _ _ _ _ refl refl refl refl refl (λ w'. (refl, refl, refl))
 
 orderly_service : (arch : Arch) (next k : ℕ) (w : Bool) → Orderly 4091 27 w (Results (Ends arch)) (service arch next k)
-orderly_service arch next k w = orderly_cond 4091 27 w _ (rax arch == 60) _ _ (λ _. orderly_exit arch k w) (λ _. orderly_no_call arch next k w)
+orderly_service arch next k w = orderly_cond 4091 27 w _ (rax arch == 60) _ _ (λ _. orderly_exit arch k w)
+    (λ _. orderly_cond 4091 27 w _ (rax arch == 231) _ _ (λ _. orderly_exit_group arch next k w) (λ _. orderly_no_call arch next k w))
 
 orderly_syscall : (job : JobData) (arch : Arch) (next : ℕ) → Orderly 4094 29 false (Results (Ends arch)) (syscall job arch next)
 unfolding syscall
@@ -207,20 +372,11 @@ orderly_deliver job arch e =
 
 -- ---- the instruction and the boundary
 
-orderly_move : (arch : Arch) (s : Size) (dst src : Operand) (next : ℕ) → Orderly 4094 29 false (Results (Ends arch)) (move arch s dst src next)
-orderly_move arch size.Dword (operand.Reg r) (operand.Imm z) next = (refl, refl, refl)
-orderly_move arch size.Dword (operand.Reg r) (operand.Reg q) next = refl
-orderly_move arch size.Dword (operand.Reg r) (operand.Mem m) next = refl
-orderly_move arch size.Dword (operand.Mem m) src next = refl
-orderly_move arch size.Dword (operand.Imm z) src next = refl
-orderly_move arch size.Qword dst src next = refl
-
-orderly_execute : (job : JobData) (arch : Arch) (i : Instr) (next : ℕ) → Orderly 4094 29 false (Results (Ends arch)) (execute job arch i next)
-orderly_execute job arch (instr.Mov s dst src) next = orderly_move arch s dst src next
-orderly_execute job arch (instr.CallRel disp) next = orderly_noted 4094 29 false arch _ (orderly_call_relative arch disp next)
-orderly_execute job arch instr.Ret next = orderly_noted 4094 29 false arch _ (orderly_ret arch)
-orderly_execute job arch instr.Syscall next = orderly_syscall job arch next
-orderly_execute job arch i next = refl
+orderly_family : (job : JobData) (arch : Arch) (i : Instr) (next : ℕ) (p : Family) → Orderly 4094 29 false (Results (Ends arch)) (execute_family job arch i next p)
+orderly_family job arch i next families.Arithmetic = orderly_noted 4094 29 false arch _ (orderly_arithmetic arch i next)
+orderly_family job arch i next families.Transfer = orderly_noted 4094 29 false arch _ (orderly_transfer arch i next)
+orderly_family job arch i next families.KernelCall = orderly_syscall job arch next
+orderly_family job arch i next families.Unbuilt = refl
 
 orderly_missing : (Q : ℕ → ℕ → Bool → Finish → Type 0) (at : Option ℕ) (addr : ℕ) → Orderly 4094 29 false Q (missing_in at addr)
 orderly_missing Q None addr = refl
@@ -228,7 +384,7 @@ orderly_missing Q (Some page) addr = (refl, refl, refl, λ v. (refl, refl))
 
 orderly_fetched : (job : JobData) (arch : Arch) (bytes : List ℕ) (d : Decoding) → Orderly 4094 29 false (Results (Ends arch)) (fetched job arch bytes d)
 unfolding missing
-orderly_fetched job arch bytes (Read i len) = orderly_execute job arch i (above arch.rip len)
+orderly_fetched job arch bytes (Read i len) = orderly_family job arch i (above arch.rip len) (family_of i)
 orderly_fetched job arch bytes Short = orderly_missing (Results (Ends arch)) (page_at (arch.rip + length bytes)) (arch.rip + length bytes)
 orderly_fetched job arch bytes Unknown = refl
 

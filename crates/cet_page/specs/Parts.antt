@@ -1,14 +1,14 @@
 -- The parts that scripts are made of. Source: own; the faults are those of the Intel SDM (volume 3A, the chapter on
 -- interrupts and exceptions), but a stack address that isn't canonical is #GP too, and every data access is aligned.
-use Rattle.std.proofs.Common.{zero, suc}
-use Rattle.std.specs.Prelude.{◌≡◌, ℕ, ◌%◌, List, [], ◌∷◌, refl, Option, Some, None, ◌==◌, if◌then◌else◌}
+use Rattle.std.proofs.Common.{zero, suc, arith, ap, ◌∙◌, mul-suc}
+use Rattle.std.specs.Prelude.{◌≡◌, ℕ, ◌+◌, ◌-◌, ◌*◌, ◌%◌, ◌<◌, ◌≤◌, List, [], ◌∷◌, refl, Option, Some, None, ◌==◌, if◌then◌else◌}
 use Rattle.cet_words.specs.Layout.{page_at}
 use Rattle.cet_words.specs.declared.accesses.Access.TheVariants as access
 use Rattle.cet_isa.specs.Address.{canonical}
 use Rattle.cet_isa.specs.declared.threads.Fault.{Fault}
 use Rattle.cet_isa.specs.declared.threads.FaultName.TheVariants.{Gp, Ac, Ud}
 use Rattle.cet_words.specs.Change.{Change}
-use Rattle.cet_page.specs.Script.{Script, done, fault, ask, tell, play, silent}
+use Rattle.cet_page.specs.Script.{Script, done, fault, ask, tell, play, silent, Came, Over, Wants}
 use Rattle.cet_page.specs.Page.{allows, page_fault}
 use Rattle.cet_page.specs.declared.checks.Kind.{Kind}
 use Rattle.cet_page.specs.declared.checks.Who.{Who}
@@ -64,7 +64,30 @@ exchange_as changes word expected value = ask (access.CompareExchange word expec
 abbrev pub exchange : (word expected value : ℕ) → Script ℕ
 exchange word expected value = exchange_as silent word expected value
 
--- the changes don't matter for the accesses
+-- the exchange of a word, with the word found as result
+unfoldable pub swap : (word value : ℕ) → Script ℕ
+swap word value = ask (access.Swap word value) silent done
+
+-- the fetch-and-add of a word, with its changes for each answer and the word found as result
+unfoldable pub fetch_add_as : (ℕ → List Change) → (word value : ℕ) → Script ℕ
+fetch_add_as changes word value = ask (access.FetchAdd word value) changes done
+
+abbrev pub fetch_add : (word value : ℕ) → Script ℕ
+fetch_add word value = fetch_add_as silent word value
+
+-- the fetch-and-or and the fetch-and-and of a word
+unfoldable pub fetch_or : (word value : ℕ) → Script ℕ
+fetch_or word value = ask (access.FetchOr word value) silent done
+
+unfoldable pub fetch_and : (word value : ℕ) → Script ℕ
+fetch_and word value = ask (access.FetchAnd word value) silent done
+
+-- Stores to so many words, the lowest first: the first gets the value, and each further one the value before and the step.
+unfoldable pub stores : (count word value step : ℕ) → Script (Unit {0})
+stores zero word value step = done tt
+stores (suc count) word value step = tell word value [] (stores count (word + 1) (value + step) step)
+
+-- The changes don't matter for the accesses.
 pub play_load_as : (changes : ℕ → List Change) (word n : ℕ) (values : List ℕ) → play (load_as changes word) n values ≡ play (load word) n values
 unfolding load_as
 play_load_as changes word zero values = refl
@@ -81,3 +104,38 @@ unfolding exchange_as
 play_exchange_as changes word expected value zero values = refl
 play_exchange_as changes word expected value (suc n) [] = refl
 play_exchange_as changes word expected value (suc n) (v ∷ values) = refl
+
+pub play_fetch_add_as : (changes : ℕ → List Change) (word value n : ℕ) (values : List ℕ) → play (fetch_add_as changes word value) n values ≡ play (fetch_add word value) n values
+unfolding fetch_add_as
+play_fetch_add_as changes word value zero values = refl
+play_fetch_add_as changes word value (suc n) [] = refl
+play_fetch_add_as changes word value (suc n) (v ∷ values) = refl
+
+abbrev pub wants_store : (word value : ℕ) → Came (Unit {0})
+wants_store word value = Wants (access.Store word value)
+
+abbrev pub stored : (left : ℕ) → List ℕ → Came (Unit {0})
+stored left values = Over tt left values
+
+-- a run of stores that is over
+pub play_stores_over : (count word value step n : ℕ) (values : List ℕ) → count ≤ n → play (stores count word value step) n values ≡ stored (n - count) values
+unfolding stores
+play_stores_over zero word value step n values l = ap (λ k. stored k values) (omega arith)
+play_stores_over (suc count) word value step zero values l = absurd (omega arith)
+play_stores_over (suc count) word value step (suc n) values l =
+    let k : n - count ≡ suc n - suc count = omega arith in
+    play_stores_over count (word + 1) (value + step) step n values (omega arith) ∙ ap (λ k. stored k values) k
+
+-- one that isn't goes on with the store whose index is the number of accesses
+pub play_stores_wants : (count word value step n : ℕ) (values : List ℕ) → n < count → play (stores count word value step) n values ≡ wants_store (word + n) (value + step * n)
+unfolding stores
+play_stores_wants zero word value step n values l = absurd (omega arith)
+play_stores_wants (suc count) word value step zero values l =
+    let w : word ≡ word + 0 = omega arith in
+    let v : value ≡ value + step * 0 = omega arith in
+    ap (λ k. wants_store k value) w ∙ ap (λ k. wants_store (word + 0) k) v
+play_stores_wants (suc count) word value step (suc n) values l =
+    let w : word + 1 + n ≡ word + suc n = omega arith in
+    let v : value + step + step * n ≡ value + step * suc n = omega (arith, mul-suc step n) in
+    play_stores_wants count (word + 1) (value + step) step n values (omega arith)
+    ∙ ap (λ k. wants_store k (value + step + step * n)) w ∙ ap (λ k. wants_store (word + suc n) k) v

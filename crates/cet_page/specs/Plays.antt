@@ -1,9 +1,13 @@
 -- What a function over a cursor comes to is what a script comes to. Source: own.
-use Rattle.std.specs.Prelude.{◌≡◌, ℕ, List, Result, Ok, Err}
+use Rattle.std.specs.Prelude.{◌≡◌, ℕ, List, Some, Result, Ok, Err, refl}
+use Rattle.cet_isa.specs.declared.threads.Arch.{Arch}
+use Rattle.cet_isa.specs.declared.threads.Record.{Record}
 use Rattle.cet_words.specs.Access.{InRange}
 use Rattle.cet_page.specs.Script.{Came, Over, Faulted, Wants}
 use Rattle.cet_page.specs.declared.cursors.Stop.{Stop}
 use Rattle.cet_page.specs.declared.cursors.Stop.TheVariants as stop
+use Rattle.cet_page.specs.declared.nexts.Next.{Next}
+use Rattle.cet_page.specs.declared.nexts.Next.TheVariants as nexts
 
 -- a stop at a wanted access, which is in range, or at a fault
 abbrev pub Stopped : {A : Type 0} → Came A → Stop → Type 0
@@ -17,3 +21,21 @@ ComesBy view came (Err s) left values = Stopped came s
 
 abbrev pub Comes : {A : Type 0} → Came A → Result A Stop → (left : ℕ) → List ℕ → Type 0
 Comes came result left values = ComesBy (λ x. x) came result left values
+
+-- what an instruction does next: an access, its result with the record, or its fault
+abbrev pub next_of : Came (Arch × Record) → Next
+next_of (Wants a) = nexts.Access a
+next_of (Faulted e) = nexts.Fault e
+next_of (Over x left values) = nexts.Done x.0 (Some x.1)
+
+-- the same of what was returned over a cursor
+abbrev pub next_after : Result (Arch × Record) Stop → Next
+next_after (Ok x) = nexts.Done x.0 (Some x.1)
+next_after (Err (stop.Access a)) = nexts.Access a
+next_after (Err (stop.Fault e)) = nexts.Fault e
+
+-- a function over a cursor answers what its script does next
+pub next_is : (came : Came (Arch × Record)) (reached : Result (Arch × Record) Stop) (left : ℕ) (values : List ℕ) → Comes came reached left values → next_after reached ≡ next_of came
+next_is came (Ok x) left values h = rw h refl
+next_is came (Err (stop.Access a)) left values h = rw h.0 refl
+next_is came (Err (stop.Fault e)) left values h = rw h refl

@@ -1,40 +1,40 @@
 -- The row of a thread: what it does from a boundary, or from a due fault, to its next record. Source: Intel SDM volume 2
 -- for the instructions, own for the order. That `decoded` is exactly the table of spellings is what the contract of `decode` says.
 use Rattle.std.specs.Prelude.{ℕ, ◌+◌, List, length, Option, Some, None, ◌==◌, if◌then◌else◌}
-use Rattle.std.specs.Int.{w32, cast_unsigned}
 use Rattle.cet_words.specs.Job.{JobData}
 use Rattle.cet_isa.specs.Address.{canonical}
-use Rattle.cet_isa.specs.Code.{reg_number}
 use Rattle.cet_isa.specs.Reading.{Decoding, Read, Short, Unknown, decoded}
 use Rattle.cet_isa.specs.declared.instructions.Instr.{Instr}
-use Rattle.cet_isa.specs.declared.instructions.Instr.TheVariants as instr
-use Rattle.cet_isa.specs.declared.instructions.Operand.{Operand}
-use Rattle.cet_isa.specs.declared.instructions.Operand.TheVariants as operand
-use Rattle.cet_isa.specs.declared.instructions.Size.{Size}
-use Rattle.cet_isa.specs.declared.instructions.Size.TheVariants as size
 use Rattle.cet_isa.specs.declared.threads.Fault.{Fault}
 use Rattle.cet_isa.specs.declared.threads.Arch.{Arch}
 use Rattle.cet_page.specs.Script.{Script, done, fault, ◌>>=◌}
 use Rattle.cet_page.specs.Parts.{general_protection, invalid_opcode, load}
 use Rattle.cet_page.specs.Finish.{noted, above}
-use Rattle.cet_page.specs.Flow.{moved, call_relative, ret}
+use Rattle.cet_page.specs.Arithmetic.{arithmetic}
+use Rattle.cet_page.specs.Flow.{transfer}
+use Rattle.cet_page.specs.Family.{family_of}
+use Rattle.cet_page.specs.declared.families.Family.{Family}
+use Rattle.cet_page.specs.declared.families.Family.TheVariants as families
 use Rattle.cet_page.specs.Gate.{exit_word, pend_word, syscall, deliver}
 use Rattle.cet_page.specs.Fetch.{fetchable, missing}
 use Rattle.cet_page.specs.declared.finishes.Finish.{Finish}
 use Rattle.cet_page.specs.declared.finishes.Finish.TheVariants as finish
 
--- MOV; its forms but that of an immediate to a 32-bit register aren't built
-abbrev pub move : Arch → Size → Operand → Operand → (next : ℕ) → Script Finish
-move arch size.Dword (operand.Reg r) (operand.Imm z) next = noted (moved arch (reg_number r) (cast_unsigned w32 z) next)
-move arch s dst src next = fault invalid_opcode
+abbrev pub execute_family : JobData → Arch → Instr → (next : ℕ) → Family → Script Finish
+execute_family job arch i next families.Arithmetic = arithmetic arch i next >>= noted
+execute_family job arch i next families.Transfer = transfer arch i next >>= noted
+execute_family job arch i next families.KernelCall = syscall job arch next
+execute_family job arch i next families.Unbuilt = fault invalid_opcode
 
 -- An instruction, with the address of the next one. One that isn't built is an invalid opcode.
 abbrev pub execute : JobData → Arch → Instr → (next : ℕ) → Script Finish
-execute job arch (instr.Mov s dst src) next = move arch s dst src next
-execute job arch (instr.CallRel disp) next = call_relative arch disp next >>= noted
-execute job arch instr.Ret next = ret arch >>= noted
-execute job arch instr.Syscall next = syscall job arch next
-execute job arch i next = fault invalid_opcode
+execute job arch i next = execute_family job arch i next (family_of i)
+
+-- the address after the instruction that the bytes at RIP are; RIP itself where they are none
+abbrev pub address_after : Arch → Decoding → ℕ
+address_after arch (Read i len) = above arch.rip len
+address_after arch Short = arch.rip
+address_after arch Unknown = arch.rip
 
 -- by what the fetchable bytes at RIP are
 abbrev pub fetched : JobData → Arch → List ℕ → Decoding → Script Finish
@@ -44,6 +44,9 @@ fetched job arch bytes Unknown = fault invalid_opcode
 
 abbrev pub instruction_bytes : JobData → Arch → List ℕ
 instruction_bytes job arch = fetchable job.image.segments arch.rip 15
+
+abbrev pub next_address : JobData → Arch → ℕ
+next_address job arch = address_after arch (decoded (instruction_bytes job arch))
 
 -- the instruction at RIP
 unfoldable pub instruction : JobData → Arch → Script Finish

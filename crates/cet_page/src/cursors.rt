@@ -1,11 +1,11 @@
 //! A place in a row, and the parts that rows are made of.
 
-ghost use Rattle.std.specs.Prelude.{◌≡◌, ◌+◌, ◌*◌, ◌/◌, ◌%◌, ◌<◌, [], IfOk, Some};
+ghost use Rattle.std.specs.Prelude.{◌≡◌, ◌+◌, ◌*◌, ◌/◌, ◌%◌, ◌^◌, ◌<◌, ◌≤◌, [], IfOk, Some};
 ghost use Rattle.cet_words.specs.Access.{InRange};
 ghost use Rattle.cet_words.specs.Layout.{word_in};
 ghost use Rattle.cet_page.specs.Script.{play, ask, tell, done, silent};
 ghost use Rattle.cet_page.specs.Plays.{Comes};
-ghost use Rattle.cet_page.specs.Parts.{general_protection, invalid_opcode, tested, look, look_in, peek, load, store, exchange};
+ghost use Rattle.cet_page.specs.Parts.{general_protection, invalid_opcode, tested, look, look_in, peek, load, store, stores, exchange, swap, fetch_add, fetch_or, fetch_and};
 
 use crate::checks::{Kind, Who, check, page_fault};
 use cet_isa::{Fault, FaultName, is_canonical};
@@ -105,6 +105,58 @@ impl<'a> Cursor<'a> {
         self.ask(Access::CompareExchange(word, expected, value))
     }
 
+    /// The exchange of a word; the answer is the word found.
+    #[tactic(auto, unfolding(crate::specs::Parts::swap))]
+    pub fn swap(&mut self, word: u32, value: u64) -> Result<u64, Stop>
+        requires { word < 1618002 }
+        ensures { Comes (play (swap word value) self.old.left self.old.rest.now) result self.new.left self.new.rest.now }
+    {
+        self.ask(Access::Swap(word, value))
+    }
+
+    /// A fetch-and-add; the answer is the word found.
+    #[tactic(auto, unfolding(crate::specs::Parts::fetch_add_as))]
+    pub fn fetch_add(&mut self, word: u32, value: u64) -> Result<u64, Stop>
+        requires { word < 1618002 }
+        ensures { Comes (play (fetch_add word value) self.old.left self.old.rest.now) result self.new.left self.new.rest.now }
+    {
+        self.ask(Access::FetchAdd(word, value))
+    }
+
+    /// A fetch-and-or; the answer is the word found.
+    #[tactic(auto, unfolding(crate::specs::Parts::fetch_or))]
+    pub fn fetch_or(&mut self, word: u32, value: u64) -> Result<u64, Stop>
+        requires { word < 1618002 }
+        ensures { Comes (play (fetch_or word value) self.old.left self.old.rest.now) result self.new.left self.new.rest.now }
+    {
+        self.ask(Access::FetchOr(word, value))
+    }
+
+    /// A fetch-and-and; the answer is the word found.
+    #[tactic(auto, unfolding(crate::specs::Parts::fetch_and))]
+    pub fn fetch_and(&mut self, word: u32, value: u64) -> Result<u64, Stop>
+        requires { word < 1618002 }
+        ensures { Comes (play (fetch_and word value) self.old.left self.old.rest.now) result self.new.left self.new.rest.now }
+    {
+        self.ask(Access::FetchAnd(word, value))
+    }
+
+    /// Stores to so many words, the lowest first: the first gets the value, and each further one the value
+    /// before and the step. They are passed over at once.
+    #[tactic(auto, using(crate::specs::Parts::play_stores_over, crate::specs::Parts::play_stores_wants))]
+    pub fn stores(&mut self, count: u32, word: u32, value: u64, step: u64) -> Result<(), Stop>
+        requires words { word + count ≤ 1618002 }
+        requires values { value + step * count < 2 ^ 64 }
+        ensures { Comes (play (stores count word value step) self.old.left self.old.rest.now) result self.new.left self.new.rest.now }
+    {
+        if self.left >= count {
+            self.left -= count;
+            return Ok(());
+        }
+        let at = self.left;
+        Err(Stop::Access(Access::Store(word + at, value + step * u64::from(at))))
+    }
+
     /// The look at a page of which no test is made.
     #[tactic(auto, unfolding(crate::specs::Parts::peek))]
     pub fn peek(&mut self, page: u32) -> Result<u64, Stop>
@@ -114,15 +166,16 @@ impl<'a> Cursor<'a> {
         self.ask(Access::Look(page))
     }
 
-    /// The canonical test, and then the alignment test for 8 bytes.
+    /// The canonical test, and then the test for a multiple of the size in bytes.
     #[tactic(auto, unfolding(crate::specs::Parts::tested))]
-    pub fn tested(&mut self, addr: u64) -> Result<(), Stop>
-        ensures { Comes (play (tested addr 8) self.old.left self.old.rest.now) result self.new.left self.new.rest.now }
+    pub fn tested(&mut self, addr: u64, size: u64) -> Result<(), Stop>
+        requires { 0 < size }
+        ensures { Comes (play (tested addr size) self.old.left self.old.rest.now) result self.new.left self.new.rest.now }
     {
         if !is_canonical(addr) {
             return Err(general_protection());
         }
-        if addr % 8 != 0 {
+        if addr % size != 0 {
             return Err(Stop::Fault(Fault {
                 name: FaultName::Ac,
                 code: 0,

@@ -7,12 +7,23 @@
 
 mod checks;
 mod cursors;
+mod families;
 mod finishes;
+mod flags;
+mod nexts;
+mod operands;
 #[cfg(test)]
 mod tests;
 mod vals;
 
 pub use checks::{Kind, Who, check, index_of, page_fault};
 pub use cursors::{Cursor, Stop, general_protection, invalid_opcode, word_in};
+pub use families::{Family, family_of};
 pub use finishes::Finish;
+pub use flags::{Computed, StatusFlags};
+pub use nexts::Next;
+pub use operands::{
+    assigned, compared, effective, register, register_of, settled, stepped, truncated,
+    with_register,
+};
 pub use vals::Vals;

@@ -1,0 +1,44 @@
+ghost use Rattle.std.specs.Prelude.{◌≡◌};
+ghost use Rattle.cet_page.specs.Family.{family_of};
+
+use cet_isa::Instr;
+
+/// Which part of the machine carries an instruction.
+#[derive(Clone, Copy, Debug, PartialEq, Eq)]
+pub enum Family {
+    /// Moves, arithmetic, tests, shifts and locked operations.
+    Arithmetic,
+    /// Calls, returns, pushes, pops and jumps.
+    Transfer,
+    KernelCall,
+    /// What is an invalid opcode for want of being built.
+    Unbuilt,
+}
+
+/// The part of the machine that carries an instruction.
+pub fn family_of(instr: &Instr) -> Family
+    ensures { result ≡ family_of instr.now }
+{
+    match *instr {
+        Instr::CallRel { .. }
+        | Instr::CallInd { .. }
+        | Instr::Ret
+        | Instr::RetImm { .. }
+        | Instr::Push { .. }
+        | Instr::Pop { .. }
+        | Instr::Leave
+        | Instr::JmpRel { .. }
+        | Instr::JmpInd { .. }
+        | Instr::Jcc { .. } => Family::Transfer,
+        Instr::Syscall => Family::KernelCall,
+        Instr::Incsspq { .. }
+        | Instr::Rdsspq { .. }
+        | Instr::Rstorssp { .. }
+        | Instr::Saveprevssp
+        | Instr::Setssbsy
+        | Instr::Clrssbsy { .. }
+        | Instr::Wrssq { .. }
+        | Instr::Wrussq { .. } => Family::Unbuilt,
+        _ => Family::Arithmetic,
+    }
+}
