@@ -8,6 +8,7 @@
 mod checks;
 mod cursors;
 mod families;
+mod fetches;
 mod finishes;
 mod flags;
 mod nexts;
@@ -19,6 +20,7 @@ mod vals;
 pub use checks::{Kind, Who, check, index_of, page_fault};
 pub use cursors::{Cursor, Stop, general_protection, invalid_opcode, word_in};
 pub use families::{Family, family_of};
+pub use fetches::{fetch, missing, next_address, read};
 pub use finishes::Finish;
 pub use flags::{Computed, StatusFlags};
 pub use nexts::Next;

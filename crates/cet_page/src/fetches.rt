@@ -4,9 +4,16 @@ ghost use Rattle.std.specs.Prelude.{◌≡◌, ◌+◌, ◌-◌, ◌^◌, ◌<�
 ghost use Rattle.cet_page.specs.Script.{play};
 ghost use Rattle.cet_page.specs.Plays.{Comes};
 ghost use Rattle.cet_page.specs.Fetch.{fetchable, missing};
+ghost use Rattle.cet_page.specs.Row.{next_address};
+ghost use Rattle.cet_decode.specs.Decoded.{decoding};
+ghost use Rattle.cet_isa.specs.Reading.{decoded};
 
-use cet_page::{Cursor, Finish, Kind, Stop, Who, page_fault};
-use cet_words::{Access, Image, code_byte, page_of};
+use crate::checks::{Kind, Who, page_fault};
+use crate::cursors::{Cursor, Stop};
+use crate::finishes::Finish;
+use cet_decode::{Decoded, decode};
+use cet_isa::Arch;
+use cet_words::{Access, Image, Job, code_byte, page_of};
 
 /// Puts the bytes that can be fetched at an address into the buffer, as many as it has room for; the
 /// answer is their number.
@@ -26,7 +33,7 @@ pub fn fetch(image: &Image, addr: u64, buffer: &mut [u8]) -> usize
 }
 
 /// The page fault of a fetch at an address whose byte can't be fetched, after a look at its page.
-#[tactic(auto, using(cet_page::specs::Script::play_bind), unfolding(cet_page::specs::Fetch::missing))]
+#[tactic(auto, using(crate::specs::Script::play_bind), unfolding(crate::specs::Fetch::missing))]
 pub fn missing(addr: u64, at: &mut Cursor) -> Result<Finish, Stop>
     ensures { Comes (play (missing addr) at.old.left at.old.rest.now) result at.new.left at.new.rest.now }
 {
@@ -35,4 +42,23 @@ pub fn missing(addr: u64, at: &mut Cursor) -> Result<Finish, Stop>
     };
     let entry = at.ask(Access::Look(page))?;
     Err(Stop::Fault(page_fault(entry, Kind::Fetch, Who::User, addr)))
+}
+
+/// What bytes are. Only what a row depends on of the decoder's contract.
+pub fn read(bytes: &[u8]) -> Decoded
+    ensures { decoding result ≡ decoded bytes.now }
+{
+    decode(bytes)
+}
+
+/// The address after the instruction at RIP; RIP itself where no instruction is there.
+pub fn next_address(job: &Job, arch: &Arch) -> u64
+    ensures { result ≡ next_address job.now arch.now }
+{
+    let mut buffer = [0u8; 15];
+    let fetched = fetch(job.image, arch.rip, &mut buffer);
+    match read(&buffer[..fetched]) {
+        Decoded::Ok { len, .. } => arch.rip.wrapping_add(u64::from(len)),
+        Decoded::Short | Decoded::Unknown => arch.rip,
+    }
 }

@@ -1,0 +1,21 @@
+//! Calls, returns, pushes, pops and jumps.
+//!
+//! Each is a script of accesses in the `specs/` of cet_page. The functions here run such a script over
+//! the answers that a thread has kept.
+#![tactic(auto)]
+
+mod calls;
+mod jumps;
+mod returns;
+mod rows;
+mod stacks;
+#[cfg(test)]
+mod tests;
+
+pub use rows::{follow, next};
+
+/// RSP's place among the registers.
+const RSP: usize = 4;
+
+/// RBP's place among the registers.
+const RBP: usize = 5;

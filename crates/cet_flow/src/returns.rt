@@ -1,0 +1,63 @@
+//! Near returns (Intel SDM volume 2, RET, and volume 1, the chapter on shadow stacks).
+
+ghost use Rattle.std.specs.Prelude.{◌≡◌, ◌-◌, ◌^◌, ◌<◌};
+ghost use Rattle.cet_page.specs.Script.{play};
+ghost use Rattle.cet_page.specs.Plays.{Comes};
+ghost use Rattle.cet_page.specs.Flow.{returned, ret, return_differs};
+
+use crate::RSP;
+use cet_isa::{Arch, Fault, FaultName, Record, What, is_canonical};
+use cet_page::{Cursor, Kind, Stop, Who, general_protection, word_in};
+
+fn returned(arch: &Arch, bytes: u16, target: u64) -> (Arch, Record)
+    requires { arch.now.count < 2 ^ 32 - 1 }
+    ensures { result ≡ returned arch.now bytes target }
+{
+    let ssp = arch.ssp.wrapping_add(8);
+    let mut after = *arch;
+    after.regs[RSP] = arch.regs[RSP].wrapping_add(8 + u64::from(bytes));
+    after.rip = target;
+    after.ssp = ssp;
+    after.count = arch.count + 1;
+    let noted = Record {
+        rip: arch.rip,
+        what: What::Ret,
+        code: 0,
+        a: target,
+        b: ssp,
+    };
+    (after, noted)
+}
+
+/// #CP of a near return whose words differ.
+fn return_differs(word: u64, shadow_word: u64) -> Fault
+    ensures { result ≡ return_differs word shadow_word }
+{
+    Fault {
+        name: FaultName::Cp,
+        code: 1,
+        a: word,
+        b: shadow_word,
+    }
+}
+
+/// A near return, which takes so many bytes more off the program stack.
+#[tactic(auto, using(cet_page::specs::Script::play_bind, cet_page::specs::Parts::play_load_as), unfolding(cet_page::specs::Flow::ret))]
+pub fn ret(arch: &Arch, bytes: u16, at: &mut Cursor) -> Result<(Arch, Record), Stop>
+    requires { arch.now.count < 2 ^ 32 - 1 }
+    ensures { Comes (play (ret arch.now bytes) at.old.left at.old.rest.now) result at.new.left at.new.rest.now }
+{
+    let sp = arch.regs[RSP];
+    at.tested(sp, 8)?;
+    let page = at.look(Who::User, Kind::Load, sp)?;
+    let shadow = at.look(Who::User, Kind::ShadowLoad, arch.ssp)?;
+    let word = at.load(word_in(page, sp))?;
+    let shadow_word = at.load(word_in(shadow, arch.ssp))?;
+    if word != shadow_word {
+        return Err(Stop::Fault(return_differs(word, shadow_word)));
+    }
+    if !is_canonical(word) {
+        return Err(general_protection());
+    }
+    Ok(returned(arch, bytes, word))
+}

@@ -1,0 +1,50 @@
+ghost use Rattle.std.specs.Prelude.{◌≡◌, ◌-◌, ◌^◌, ◌<◌};
+ghost use Rattle.cet_page.specs.Script.{play};
+ghost use Rattle.cet_page.specs.Plays.{Comes, next_of};
+ghost use Rattle.cet_page.specs.Row.{next_address};
+ghost use Rattle.cet_page.specs.Flow.{transfer};
+
+use crate::calls::{call_indirect, call_relative};
+use crate::jumps::{jump_if, jump_indirect, jumped, relative};
+use crate::returns::ret;
+use crate::stacks::{leave, pop, push};
+use cet_isa::{Arch, Instr, Record};
+use cet_page::{Cursor, Next, Stop, Vals, invalid_opcode, next_address};
+use cet_words::Job;
+
+/// A call, return, push, pop or jump, as far as the cursor's accesses lead; `next` is the address of the
+/// next instruction. Every other instruction is an invalid opcode.
+pub fn follow(
+    arch: &Arch,
+    instr: &Instr,
+    next: u64,
+    at: &mut Cursor,
+) -> Result<(Arch, Record), Stop>
+    requires { arch.now.count < 2 ^ 32 - 1 }
+    ensures { Comes (play (transfer arch.now instr.now next) at.old.left at.old.rest.now) result at.new.left at.new.rest.now }
+{
+    match *instr {
+        Instr::CallRel { disp } => call_relative(arch, disp, next, at),
+        Instr::CallInd { target, .. } => call_indirect(arch, target, next, at),
+        Instr::Ret => ret(arch, 0, at),
+        Instr::RetImm { bytes } => ret(arch, bytes, at),
+        Instr::Push { src } => push(arch, src, next, at),
+        Instr::Pop { dst } => pop(arch, dst, next, at),
+        Instr::Leave => leave(arch, next, at),
+        Instr::JmpRel { disp } => Ok(jumped(arch, relative(next, disp))),
+        Instr::JmpInd { target, .. } => jump_indirect(arch, target, next, at),
+        Instr::Jcc { cond, disp } => Ok(jump_if(arch, cond, disp, next)),
+        _ => Err(invalid_opcode()),
+    }
+}
+
+/// What a call, return, push, pop or jump does next, after the accesses that were made and the values
+/// kept of them: its next access, its result with the record, or its fault. The address of the next
+/// instruction is that after the instruction at RIP.
+#[tactic(auto, using(cet_page::specs::Plays::next_is))]
+pub fn next(job: &Job, arch: &Arch, vals: &Vals, instr: &Instr) -> Next
+    requires { arch.now.count < 2 ^ 32 - 1 }
+    ensures { result ≡ next_of (play (transfer arch.now instr.now (next_address job.now arch.now)) vals.now.count vals.now.kept) }
+{
+    Next::of(follow(arch, instr, next_address(job, arch), &mut vals.start()))
+}
