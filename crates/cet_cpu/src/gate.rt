@@ -5,7 +5,7 @@ ghost use Rattle.cet_words.specs.Change.{Ended};
 ghost use Rattle.cet_page.specs.Script.{play};
 ghost use Rattle.cet_page.specs.Plays.{Comes};
 ghost use Rattle.cet_page.specs.Finish.{IsMade, counted};
-ghost use Rattle.cet_page.specs.Gate.{token, token_page, token_word, stack_of, gate_in, gate_out, found_busy, sys_record, served, clears, made_page, exit_status, exit, no_call, service, syscall, signal_of, killed, kill, deliver};
+ghost use Rattle.cet_page.specs.Gate.{token, token_page, token_word, stack_of, gate_in, gate_out, found_busy, sys_record, served, clears, made_page, exit_status, exit, exit_group, no_call, service, syscall, signal_of, killed, kill, deliver};
 
 use cet_isa::{Arch, Fault, FaultName, Record, What};
 use cet_page::{Cursor, Finish, Stop};
@@ -36,6 +36,9 @@ const KERNEL_RETURN: u64 = 0xffff_8000_0010_0000;
 
 /// The number of the service exit.
 const EXIT: u64 = 60;
+
+/// The number of the service exit_group.
+const EXIT_GROUP: u64 = 231;
 
 /// Minus 38: no such call.
 const ENOSYS: u64 = u64::MAX - 37;
@@ -143,30 +146,46 @@ fn served(arch: &Arch, next: u64, outcome: u64) -> Arch
     after
 }
 
-/// Stores of 0 to the entries of so many pages, the lowest first.
-#[tactic(auto, using(cet_page::specs::Script::play_bind, crate::proofs::Clears::clears_more, crate::proofs::Clears::clears_none))]
-fn clears(count: u32, page: u32, at: &mut Cursor) -> Result<(), Stop>
-    requires { page + count ≤ 3154 }
-    ensures { Comes (play (clears count page) at.old.left at.old.rest.now) result at.new.left at.new.rest.now }
+/// The status of exit and exit_group: the low byte of RDI.
+fn exit_status(arch: &Arch) -> u8
+    ensures { result ≡ exit_status arch.now }
 {
-    for k in 0..count {
-        at.store(FIRST_ENTRY_WORD + (page + k), 0)?;
-    }
-    Ok(())
+    (arch.regs[RDI] % 256) as u8
 }
 
 /// The service exit, which ends the thread.
-#[tactic(auto, using(cet_page::specs::Script::play_bind, crate::proofs::Clears::play_gate_out), unfolding(cet_page::specs::Gate::exit))]
+#[tactic(auto, using(cet_page::specs::Script::play_bind, crate::proofs::GateOut::play_gate_out), unfolding(cet_page::specs::Gate::exit))]
 fn exit(arch: &Arch, k: u8, at: &mut Cursor) -> Result<Finish, Stop>
     requires stack { k < 8 }
     requires count { arch.now.count < 2 ^ 32 - 1 }
     requires made { IsMade arch.now.made }
     ensures { Comes (play (exit arch.now k) at.old.left at.old.rest.now) result at.new.left at.new.rest.now }
 {
-    clears(8, 2112 + ((arch.made - 0x2_0000_0000) / 4096) as u32, at)?;
+    let page = 2112 + ((arch.made - 0x2_0000_0000) / 4096) as u32;
+    at.stores(8, FIRST_ENTRY_WORD + page, 0, 0)?;
     gate_out(k, at)?;
-    let status = arch.regs[RDI] % 256;
-    Ok(Finish::Exited(counted(arch), sys_record(arch, status), status as u8))
+    let status = exit_status(arch);
+    Ok(Finish::Exited(
+        counted(arch),
+        sys_record(arch, u64::from(status)),
+        status,
+    ))
+}
+
+/// The service exit_group, which ends the process. The thread goes on to its next boundary.
+#[tactic(auto, using(cet_page::specs::Script::play_bind), unfolding(cet_page::specs::Gate::exit_group))]
+fn exit_group(arch: &Arch, next: u64, k: u8, at: &mut Cursor) -> Result<Finish, Stop>
+    requires stack { k < 8 }
+    requires count { arch.now.count < 2 ^ 32 - 1 }
+    ensures { Comes (play (exit_group arch.now next k) at.old.left at.old.rest.now) result at.new.left at.new.rest.now }
+{
+    let status = u64::from(exit_status(arch));
+    at.exchange(EXIT_WORD, 0, 0x100 + status)?;
+    gate_out(k, at)?;
+    Ok(Finish::Noted(
+        served(arch, next, status),
+        sys_record(arch, status),
+    ))
 }
 
 /// A kernel call that isn't there.
@@ -186,10 +205,10 @@ fn service(arch: &Arch, next: u64, k: u8, at: &mut Cursor) -> Result<Finish, Sto
     requires made { IsMade arch.now.made }
     ensures { Comes (play (service arch.now next k) at.old.left at.old.rest.now) result at.new.left at.new.rest.now }
 {
-    if arch.regs[RAX] == EXIT {
-        exit(arch, k, at)
-    } else {
-        no_call(arch, next, k, at)
+    match arch.regs[RAX] {
+        EXIT => exit(arch, k, at),
+        EXIT_GROUP => exit_group(arch, next, k, at),
+        _ => no_call(arch, next, k, at),
     }
 }
 

@@ -5,8 +5,6 @@
 //! thread has kept since its last record.
 #![tactic(auto)]
 
-mod fetches;
-mod flow;
 mod gate;
 mod rows;
 mod threads;

@@ -1,40 +1,18 @@
 //! The row of a thread, from a boundary or a due fault to its next record.
 
 ghost use Rattle.std.specs.Prelude.{◌≡◌, ◌+◌, ◌-◌, ◌^◌, ◌<◌};
-ghost use Rattle.cet_decode.specs.Decoded.{decoding};
-ghost use Rattle.cet_isa.specs.Reading.{decoded};
 ghost use Rattle.cet_page.specs.Script.{play};
 ghost use Rattle.cet_page.specs.Plays.{Comes};
 ghost use Rattle.cet_page.specs.Finish.{IsMade};
-ghost use Rattle.cet_page.specs.Row.{row, row_from, boundary, instruction, execute, move};
+ghost use Rattle.cet_page.specs.Row.{row, row_from, boundary, instruction, execute};
 
-use crate::fetches::{fetch, missing};
-use crate::flow::{call_relative, moved, ret};
 use crate::gate::{EXIT_WORD, FIRST_PEND_WORD, deliver, syscall};
-use cet_decode::{Decoded, decode};
-use cet_isa::{Arch, Instr, Operand, Record, Size, is_canonical};
-use cet_page::{Cursor, Finish, Stop, general_protection, invalid_opcode};
+use cet_decode::Decoded;
+use cet_isa::{Arch, Instr, is_canonical};
+use cet_page::{
+    Cursor, Family, Finish, Stop, family_of, fetch, general_protection, invalid_opcode, missing, read,
+};
 use cet_words::Job;
-
-fn execute_move(
-    arch: &Arch,
-    size: Size,
-    dst: Operand,
-    src: Operand,
-    next: u64,
-    at: &mut Cursor,
-) -> Result<Finish, Stop>
-    requires { arch.now.count < 2 ^ 32 - 1 }
-    ensures { Comes (play (move arch.now size dst src next) at.old.left at.old.rest.now) result at.new.left at.new.rest.now }
-{
-    match (size, dst, src) {
-        (Size::Dword, Operand::Reg(reg), Operand::Imm(value)) => {
-            let (after, noted) = moved(arch, reg, value.cast_unsigned(), next);
-            Ok(Finish::Noted(after, noted))
-        }
-        _ => Err(invalid_opcode()),
-    }
-}
 
 /// An instruction, with the address of the next one.
 #[tactic(auto, using(cet_page::specs::Script::play_bind))]
@@ -49,26 +27,18 @@ fn execute(
     requires made { IsMade arch.now.made }
     ensures { Comes (play (execute job.now arch.now instr.now next) at.old.left at.old.rest.now) result at.new.left at.new.rest.now }
 {
-    match *instr {
-        Instr::Mov { size, dst, src } => execute_move(arch, size, dst, src, next, at),
-        Instr::CallRel { disp } => {
-            let (after, noted) = call_relative(arch, disp, next, at)?;
+    match family_of(instr) {
+        Family::Arithmetic => {
+            let (after, noted) = cet_alu::follow(arch, instr, next, at)?;
             Ok(Finish::Noted(after, noted))
         }
-        Instr::Ret => {
-            let (after, noted) = ret(arch, at)?;
+        Family::Transfer => {
+            let (after, noted) = cet_flow::follow(arch, instr, next, at)?;
             Ok(Finish::Noted(after, noted))
         }
-        Instr::Syscall => syscall(job, arch, next, at),
-        _ => Err(invalid_opcode()),
+        Family::KernelCall => syscall(job, arch, next, at),
+        Family::Unbuilt => Err(invalid_opcode()),
     }
-}
-
-/// What the bytes at RIP are. Only what the row depends on of the decoder's contract.
-fn read(bytes: &[u8]) -> Decoded
-    ensures { decoding result ≡ decoded bytes.now }
-{
-    decode(bytes)
 }
 
 /// The instruction at RIP.

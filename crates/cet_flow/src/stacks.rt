@@ -11,12 +11,7 @@ use cet_page::{Cursor, Stop, stepped};
 
 /// PUSH. The value is read before RSP changes.
 #[tactic(auto, using(cet_page::specs::Script::play_bind), unfolding(cet_page::specs::Flow::push))]
-pub fn push(
-    arch: &Arch,
-    src: Operand,
-    next: u64,
-    at: &mut Cursor,
-) -> Result<(Arch, Record), Stop>
+pub fn push(arch: &Arch, src: Operand, next: u64, at: &mut Cursor) -> Result<(Arch, Record), Stop>
     requires { arch.now.count < 2 ^ 32 - 1 }
     ensures { Comes (play (push arch.now src next) at.old.left at.old.rest.now) result at.new.left at.new.rest.now }
 {

@@ -1,1 +1,411 @@
+ghost use Rattle.std.specs.Prelude.{◌<◌, ◌-◌, ◌^◌};
 
+use super::*;
+use cet_isa::{Arch, Base, Cond, Fault, FaultName, Instr, Mem, Operand, Record, Reg, What};
+use cet_page::{Cursor, Stop};
+use cet_words::Access;
+use std::process::Abort;
+
+/// The entries of a page of the main stack, of the shadow area and of the image's code.
+const STACK_ENTRY: u64 = 0x8000_0000_0053_f067;
+
+const SHADOW_ENTRY: u64 = 0x8000_0000_0094_8065;
+
+/// A thread at 0x401000 with RSP 0x7fffffb0, SSP 0x200008ff8 and RBP 0x7fffff00.
+fn thread() -> Arch
+    ensures { result.count < 2 ^ 32 - 1 }
+{
+    Arch {
+        regs: [
+            0x11,
+            0x22,
+            0x33,
+            0x40_1000,
+            0x7fff_ffb0,
+            0x7fff_ff00,
+            0x66,
+            0x77,
+            0x8000_0000_0000,
+            0x99,
+            0xaa,
+            0xbb,
+            0xcc,
+            0xdd,
+            0xee,
+            0xff,
+        ],
+        rip: 0x40_1000,
+        flags: 2,
+        ssp: 0x2_0000_8ff8,
+        mask: 0,
+        count: 5,
+        posted: 0,
+        number: 0,
+        made: 0x2_0000_1000,
+        due: None,
+        held: None,
+    }
+}
+
+/// The accesses of an instruction of 3 bytes that is given these answers, one after another, and what it
+/// comes to.
+fn accesses(
+    rt: &impl Abort,
+    arch: &Arch,
+    instr: &Instr,
+    answers: &[u64],
+    wanted: &[Access],
+) -> Result<(Arch, Record), Stop>
+    requires { arch.now.count < 2 ^ 32 - 1 }
+{
+    let mut left = 0;
+    let mut kept = 0;
+    for access in wanted {
+        let rest = answers.get(..kept).expect(rt, "too few answers");
+        let stop = follow(arch, instr, 0x40_1003, &mut Cursor { left, rest });
+        assert_eq!(rt; stop.err(), Some(Stop::Access(*access)), "{instr:?}");
+        left = left.checked_add(1).expect(rt, "too many accesses");
+        if !matches!(access, Access::Store(_, _)) {
+            kept = kept.checked_add(1).expect(rt, "too many answers");
+        }
+    }
+    follow(
+        arch,
+        instr,
+        0x40_1003,
+        &mut Cursor {
+            left,
+            rest: answers,
+        },
+    )
+}
+
+fn step(value: u64) -> Record {
+    Record {
+        rip: 0x40_1000,
+        what: What::Step,
+        code: 0,
+        a: value,
+        b: 2,
+    }
+}
+
+fn general_protection() -> Fault {
+    Fault {
+        name: FaultName::Gp,
+        code: 0,
+        a: 0,
+        b: 0,
+    }
+}
+
+fn at_rbx() -> Mem {
+    Mem {
+        base: Base::Reg(Reg::Rbx),
+        index: None,
+        scale: 1,
+        disp: 8,
+    }
+}
+
+#[test]
+fn pushes(rt: HostRuntime) {
+    // The word at 0x7fffffa8.
+    let store = |value| [Access::Look(1087), Access::Store(557_045, value)];
+    let rows = [
+        (Operand::Reg(Reg::Rcx), 0x22),
+        (Operand::Reg(Reg::Rsp), 0x7fff_ffb0),
+        (Operand::Imm(-2), 0xffff_ffff_ffff_fffe),
+    ];
+    for (src, value) in rows {
+        let done = accesses(
+            &rt,
+            &thread(),
+            &Instr::Push { src },
+            &[STACK_ENTRY],
+            &store(value),
+        );
+        let (arch, noted) = done.expect(&rt, "no result");
+        assert_eq!(rt; noted, step(value), "{src:?}");
+        assert_eq!(rt; arch.regs[4], 0x7fff_ffa8);
+        assert_eq!(rt;
+            (arch.rip, arch.ssp, arch.count),
+            (0x40_1003, 0x2_0000_8ff8, 6)
+        );
+    }
+}
+
+#[test]
+fn push_of_memory(rt: HostRuntime) {
+    // The word at 0x401008 is loaded before the stack is looked at.
+    let wanted = [
+        Access::Look(1),
+        Access::Load(513),
+        Access::Look(1087),
+        Access::Store(557_045, 0x1234),
+    ];
+    let instr = Instr::Push {
+        src: Operand::Mem(at_rbx()),
+    };
+    let answers = [0x0010_1025, 0x1234, STACK_ENTRY];
+    let done = accesses(&rt, &thread(), &instr, &answers, &wanted);
+    let (_, noted) = done.expect(&rt, "no result");
+    assert_eq!(rt; noted, step(0x1234));
+}
+
+#[test]
+fn pops(rt: HostRuntime) {
+    let wanted = [Access::Look(1087), Access::Load(557_046)];
+    let answers = [STACK_ENTRY, 0x5678];
+    let pop = |dst| accesses(&rt, &thread(), &Instr::Pop { dst }, &answers, &wanted);
+    let (arch, noted) = pop(Reg::Rcx).expect(&rt, "no result");
+    assert_eq!(rt; noted, step(0x5678));
+    assert_eq!(rt; (arch.regs[1], arch.regs[4]), (0x5678, 0x7fff_ffb8));
+    let (arch, noted) = pop(Reg::Rsp).expect(&rt, "no result");
+    assert_eq!(rt; noted, step(0x5678));
+    assert_eq!(rt; arch.regs[4], 0x5678);
+}
+
+#[test]
+fn leaves(rt: HostRuntime) {
+    // The word at 0x7fffff00, where RBP points.
+    let wanted = [Access::Look(1087), Access::Load(557_024)];
+    let done = accesses(
+        &rt,
+        &thread(),
+        &Instr::Leave,
+        &[STACK_ENTRY, 0x5678],
+        &wanted,
+    );
+    let (arch, noted) = done.expect(&rt, "no result");
+    assert_eq!(rt; noted, step(0x5678));
+    assert_eq!(rt; (arch.regs[4], arch.regs[5]), (0x7fff_ff08, 0x5678));
+}
+
+#[test]
+fn indirect_calls(rt: HostRuntime) {
+    let call = |reg| Instr::CallInd {
+        target: Operand::Reg(reg),
+        notrack: false,
+    };
+    let wanted = [
+        Access::Look(1087),
+        Access::Look(2120),
+        Access::Store(557_045, 0x40_1003),
+        Access::Store(1_085_950, 0x40_1003),
+    ];
+    let answers = [STACK_ENTRY, SHADOW_ENTRY];
+    let done = accesses(&rt, &thread(), &call(Reg::Rbx), &answers, &wanted);
+    let (arch, noted) = done.expect(&rt, "no result");
+    assert_eq!(rt;
+        (noted.what, noted.a, noted.b),
+        (What::Call, 0x40_1000, 0x2_0000_8ff0)
+    );
+    assert_eq!(rt; (arch.rip, arch.regs[4]), (0x40_1000, 0x7fff_ffa8));
+    // A target that isn't canonical faults before any access.
+    let done = accesses(&rt, &thread(), &call(Reg::R8), &[], &[]);
+    assert_eq!(rt; done.err(), Some(Stop::Fault(general_protection())));
+}
+
+#[test]
+fn returns(rt: HostRuntime) {
+    let wanted = [
+        Access::Look(1087),
+        Access::Look(2120),
+        Access::Load(557_046),
+        Access::Load(1_085_951),
+    ];
+    let ret = |word, shadow_word| {
+        let answers = [STACK_ENTRY, SHADOW_ENTRY, word, shadow_word];
+        accesses(
+            &rt,
+            &thread(),
+            &Instr::RetImm { bytes: 24 },
+            &answers,
+            &wanted,
+        )
+    };
+    let (arch, noted) = ret(0x40_1020, 0x40_1020).expect(&rt, "no result");
+    assert_eq!(rt;
+        (noted.what, noted.a, noted.b),
+        (What::Ret, 0x40_1020, 0x2_0000_9000)
+    );
+    assert_eq!(rt; (arch.rip, arch.regs[4]), (0x40_1020, 0x7fff_ffd0));
+    let differs = Fault {
+        name: FaultName::Cp,
+        code: 1,
+        a: 0x40_1020,
+        b: 0x40_1021,
+    };
+    assert_eq!(rt; ret(0x40_1020, 0x40_1021).err(), Some(Stop::Fault(differs)));
+    assert_eq!(rt;
+        ret(1 << 47, 1 << 47).err(),
+        Some(Stop::Fault(general_protection()))
+    );
+}
+
+#[test]
+fn jumps(rt: HostRuntime) {
+    let jump = |instr: &Instr| accesses(&rt, &thread(), instr, &[], &[]);
+    let (arch, noted) = jump(&Instr::JmpRel { disp: -3 }).expect(&rt, "no result");
+    assert_eq!(rt; (arch.rip, noted), (0x40_1000, step(0x40_1000)));
+    let indirect = |reg| Instr::JmpInd {
+        target: Operand::Reg(reg),
+        notrack: true,
+    };
+    let (arch, _) = jump(&indirect(Reg::R9)).expect(&rt, "no result");
+    assert_eq!(rt; arch.rip, 0x99);
+    assert_eq!(rt;
+        jump(&indirect(Reg::R8)).err(),
+        Some(Stop::Fault(general_protection()))
+    );
+}
+
+/// RFLAGS, and the conditions that hold under it, by the table of the manual.
+const CONDITIONS: [(u64, [Cond; 8]); 8] = [
+    (
+        0x2,
+        [
+            Cond::No,
+            Cond::Ae,
+            Cond::Ne,
+            Cond::A,
+            Cond::Ns,
+            Cond::Np,
+            Cond::Ge,
+            Cond::G,
+        ],
+    ),
+    (
+        0x3,
+        [
+            Cond::No,
+            Cond::B,
+            Cond::Ne,
+            Cond::Be,
+            Cond::Ns,
+            Cond::Np,
+            Cond::Ge,
+            Cond::G,
+        ],
+    ),
+    (
+        0x6,
+        [
+            Cond::No,
+            Cond::Ae,
+            Cond::Ne,
+            Cond::A,
+            Cond::Ns,
+            Cond::P,
+            Cond::Ge,
+            Cond::G,
+        ],
+    ),
+    (
+        0x42,
+        [
+            Cond::No,
+            Cond::Ae,
+            Cond::E,
+            Cond::Be,
+            Cond::Ns,
+            Cond::Np,
+            Cond::Ge,
+            Cond::Le,
+        ],
+    ),
+    (
+        0x82,
+        [
+            Cond::No,
+            Cond::Ae,
+            Cond::Ne,
+            Cond::A,
+            Cond::S,
+            Cond::Np,
+            Cond::L,
+            Cond::Le,
+        ],
+    ),
+    (
+        0x802,
+        [
+            Cond::O,
+            Cond::Ae,
+            Cond::Ne,
+            Cond::A,
+            Cond::Ns,
+            Cond::Np,
+            Cond::L,
+            Cond::Le,
+        ],
+    ),
+    (
+        0x882,
+        [
+            Cond::O,
+            Cond::Ae,
+            Cond::Ne,
+            Cond::A,
+            Cond::S,
+            Cond::Np,
+            Cond::Ge,
+            Cond::G,
+        ],
+    ),
+    (
+        0x8c7,
+        [
+            Cond::O,
+            Cond::B,
+            Cond::E,
+            Cond::Be,
+            Cond::S,
+            Cond::P,
+            Cond::Ge,
+            Cond::Le,
+        ],
+    ),
+];
+
+const ALL: [Cond; 16] = [
+    Cond::O,
+    Cond::No,
+    Cond::B,
+    Cond::Ae,
+    Cond::E,
+    Cond::Ne,
+    Cond::Be,
+    Cond::A,
+    Cond::S,
+    Cond::Ns,
+    Cond::P,
+    Cond::Np,
+    Cond::L,
+    Cond::Ge,
+    Cond::Le,
+    Cond::G,
+];
+
+#[test]
+fn conditional_jumps(rt: HostRuntime) {
+    for (flags, holding) in CONDITIONS {
+        for cond in ALL {
+            let mut arch = thread();
+            arch.flags = flags;
+            let done = accesses(&rt, &arch, &Instr::Jcc { cond, disp: 0x10 }, &[], &[]);
+            let (after, noted) = done.expect(&rt, "no result");
+            let rip = if holding.contains(&cond) {
+                0x40_1013
+            } else {
+                0x40_1003
+            };
+            assert_eq!(rt;
+                (after.rip, noted.a, noted.b),
+                (rip, rip, flags),
+                "{cond:?} {flags:x}"
+            );
+        }
+    }
+}
