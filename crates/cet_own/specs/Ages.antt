@@ -12,7 +12,7 @@ use Rattle.cet_book.specs.Removes.{Removal, plain, linked, returned_is}
 use Rattle.cet_book.specs.Shape.{Shape}
 use Rattle.cet_book.specs.Unlink.{unlink_all, unlink_same}
 use Rattle.cet_book.specs.Ways.{with_current_at, called_way, ended_way}
-use Rattle.cet_own.specs.Classes.{Owed, looks, loads, stores, exchanges, clears, pushes, pops, refused, enters, leaves, exits}
+use Rattle.cet_own.specs.Classes.{Owed, looks, loads, stores, exchanges, swaps, adds, clears, pushes, pops, refused, enters, leaves, exits}
 use Rattle.cet_own.specs.Laws.{same_book, then_by, one_book}
 
 pub record Ages (b next : Book) : Type 0 where
@@ -64,6 +64,8 @@ ages t k b next a v changes s (looks page e ev) q = ages_same t b next changes e
 ages t k b next a v changes s (loads word e ev) q = ages_same t b next changes ev q
 ages t k b next a v changes s (stores word value e out ev) q = ages_same t b next changes ev q
 ages t k b next a v changes s (exchanges word expected value e out ev) q = ages_same t b next changes ev q
+ages t k b next a v changes s (swaps word value e out ev) q = ages_same t b next changes ev q
+ages t k b next a v changes s (adds word value e out ev) q = ages_same t b next changes ev q
 ages t k b next a v changes s (clears page e lo hi ev) q = ages_same t b next changes ev q
 ages t k b next a v changes s (refused value l e n ev) q = ages_same t b next changes ev q
 ages t k b next a v changes s (pushes m back current e room is_return ev) q =

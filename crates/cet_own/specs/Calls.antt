@@ -1,9 +1,14 @@
 -- What a thread claims of CALL and RET. Source: own.
-use Rattle.std.proofs.Common.{◌≡◌, ℕ, ◌+◌, ◌-◌, ◌/◌, ◌<◌, ◌≤◌, inl, List, [], ◌∷◌, length, Option, refl, ◌∙◌, ap, subst, arith}
+use Rattle.std.proofs.Common.{◌≡◌, ℕ, ◌+◌, ◌-◌, ◌/◌, ◌<◌, ◌≤◌, List, [], ◌∷◌, length, Option, refl, ◌∙◌, ap, subst, arith}
+use Rattle.std.specs.Prelude.{◌==◌, ℤ}
+use Rattle.std.specs.Int.{w64, cast_unsigned}
 use Rattle.cet_words.specs.Job.{JobData}
 use Rattle.cet_words.specs.Layout.{word_in}
 use Rattle.cet_words.specs.Change.{Called}
 use Rattle.cet_words.specs.declared.accesses.Access.TheVariants as access
+use Rattle.cet_isa.specs.Address.{canonical}
+use Rattle.cet_isa.specs.declared.instructions.Operand.{Operand}
+use Rattle.cet_isa.specs.declared.instructions.Size.TheVariants as size
 use Rattle.cet_isa.specs.declared.threads.Arch.{Arch}
 use Rattle.cet_isa.specs.declared.threads.Record.{Record}
 use Rattle.cet_book.specs.Book.{Entry, Call, Book, region, top, current_of, relist}
@@ -17,17 +22,18 @@ use Rattle.cet_book.specs.Ways.{called_way}
 use Rattle.cet_page.specs.Core.{kept_by}
 use Rattle.cet_page.specs.Script.{done, ◌>>=◌}
 use Rattle.cet_page.specs.Finish.{below, rsp}
-use Rattle.cet_page.specs.Flow.{called, call, call_next}
+use Rattle.cet_page.specs.Flow.{called, call, call_next, relative, call_relative, call_indirect}
 use Rattle.cet_page.specs.Parts.{store_as}
 use Rattle.cet_page.specs.declared.checks.Kind.TheVariants as kind
 use Rattle.cet_page.specs.declared.finishes.Finish.{Finish}
 use Rattle.cet_page.specs.declared.finishes.Finish.TheVariants.{Noted, Posted, Exited, Stopped}
 use Rattle.cet_own.specs.Safe.{IsElsewhere, ReturnsBy}
-use Rattle.cet_own.specs.Holds.{In, IsOut}
+use Rattle.cet_own.specs.Holds.{In}
 use Rattle.cet_own.specs.Standing.{stacked, AtRest, rest_kept, HasNone}
 use Rattle.cet_own.specs.Classes.{State, pushes}
-use Rattle.cet_own.specs.Parts.{Claim, one_after, claim_bind, tested_then, store_look_then, shadow_look_then, store_then}
-use Rattle.cet_own.specs.Places.{shadow_slot, below_is, room_below}
+use Rattle.cet_own.specs.Parts.{Claim, one_after, claim_bind, claim_cond, tested_then, store_look_then, shadow_look_then, store_then}
+use Rattle.cet_own.specs.OperandParts.{read_operand_then}
+use Rattle.cet_own.specs.Places.{page_word, shadow_slot, below_is, room_below}
 
 -- the entries of a thread's region
 abbrev pub entries_of : (t : ℕ) → Book → List Entry
@@ -46,10 +52,6 @@ Ends job arch before s Stopped = AtRest arch.number s.book arch.ssp
 -- the same of the part of an instruction
 abbrev pub EndsRow : JobData → Arch → (before s : State) → Arch × Record → Type 0
 EndsRow job arch before s x = Ends job arch before s (Noted x.0 x.1)
-
--- a word of the program's pages
-page_word : (page addr : ℕ) → page < 2112 → IsOut (word_in page addr)
-page_word page addr l = record { shadow = inl (omega arith); entry = omega arith; token = λ k lk. omega arith }
 
 -- the thread's region, whatever the others did
 pub own_kept : (t : ℕ) (b now : Book) → Relies t b now → current_of t b < length b.regions → region now (current_of t now) ≡ region b (current_of t b)
@@ -121,3 +123,15 @@ module _ (job : JobData) (arch : Arch) where
       let rest1 = rest_kept r rest in
       store_then job arch (EndsRow job arch) now now (word_in page (below (rsp arch) 8)) back _ (page_word page (below (rsp arch) 8) p) rest1.stacked (λ now2 r2.
       (rest_kept r2 rest1, λ held later. free))))
+
+  pub call_relative_claim : (before s : State) (disp : ℤ) (next : ℕ) → AtRest arch.number s.book arch.ssp → IsReturn next → IsElsewhere job arch → Claim job arch (EndsRow job arch) before s (call_relative arch disp next)
+  call_relative_claim before s disp next rest is_return free =
+      claim_cond job arch (EndsRow job arch) before s (cast_unsigned w64 disp == 0) _ _
+      (λ _. call_next_claim before s next rest free) (λ _. call_claim before s next (relative next disp) rest is_return free)
+
+  pub call_indirect_claim : (before s : State) (src : Operand) (next : ℕ) → AtRest arch.number s.book arch.ssp → IsReturn next → IsElsewhere job arch → Claim job arch (EndsRow job arch) before s (call_indirect arch src next)
+  unfolding call_indirect
+  call_indirect_claim before s src next rest is_return free =
+      read_operand_then job arch (EndsRow job arch) before s size.Qword src next _ rest (λ z n rest1 target.
+      claim_cond job arch (EndsRow job arch) z n (canonical target) _ _
+      (λ _. call_claim z n next target rest1 is_return free) (λ _. (rest1, λ _. tt)))

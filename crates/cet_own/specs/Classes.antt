@@ -43,6 +43,8 @@ pub data Owed (t k : ℕ) (b : Book) (a : Access) (v : ℕ) (changes : List Chan
   loads : (word : ℕ) → a ≡ access.Load word → changes ≡ [] → Owed t k b a v changes
   stores : (word value : ℕ) → a ≡ access.Store word value → IsOut word → changes ≡ [] → Owed t k b a v changes
   exchanges : (word expected value : ℕ) → a ≡ access.CompareExchange word expected value → IsOut word → changes ≡ [] → Owed t k b a v changes
+  swaps : (word value : ℕ) → a ≡ access.Swap word value → IsOut word → changes ≡ [] → Owed t k b a v changes
+  adds : (word value : ℕ) → a ≡ access.FetchAdd word value → IsOut word → changes ≡ [] → Owed t k b a v changes
   -- the entry of a page of the shadow area is cleared
   clears : (page : ℕ) → a ≡ access.Store (entry_word page) 0 → 2112 ≤ page → page < 3136 → changes ≡ [] → Owed t k b a v changes
   -- a return address is stored below the top of the thread's region

@@ -17,7 +17,7 @@ use Rattle.cet_page.specs.Core.{held_after}
 use Rattle.cet_page.specs.Gate.{token, token_word}
 use Rattle.cet_own.specs.Holds.{Holds}
 use Rattle.cet_own.specs.Standing.{Free}
-use Rattle.cet_own.specs.Classes.{Owed, looks, loads, stores, exchanges, clears, pushes, pops, refused, enters, leaves, exits}
+use Rattle.cet_own.specs.Classes.{Owed, looks, loads, stores, exchanges, swaps, adds, clears, pushes, pops, refused, enters, leaves, exits}
 use Rattle.cet_own.specs.Laws.{same_book, then_by, one_book}
 use Rattle.cet_own.specs.Keeps.{own, stack_free}
 
@@ -85,6 +85,10 @@ held_kept image t k words b next a changes held l (exchanges word expected value
     subst (λ c. Held t next (held_after k c (answer words c) held)) (sym e)
     (subst (Held t next) (sym (held_out k word expected value (answer words (access.CompareExchange word expected value)) held (out.token k l)))
     (subst (λ n. Held t n held) (same_book t b next changes ev q) old))
+held_kept image t k words b next a changes held l (swaps word value e out ev) q h old =
+    subst (λ c. Held t next (held_after k c (answer words c) held)) (sym e) (subst (λ n. Held t n held) (same_book t b next changes ev q) old)
+held_kept image t k words b next a changes held l (adds word value e out ev) q h old =
+    subst (λ c. Held t next (held_after k c (answer words c) held)) (sym e) (subst (λ n. Held t n held) (same_book t b next changes ev q) old)
 held_kept image t k words b next a changes held l (clears page e lo hi ev) q h old =
     subst (λ c. Held t next (held_after k c (answer words c) held)) (sym e) (subst (λ n. Held t n held) (same_book t b next changes ev q) old)
 held_kept image t k words b next a changes held l (pushes m back current e room is_return ev) q h old =

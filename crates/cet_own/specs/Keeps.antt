@@ -1,6 +1,6 @@
 -- Each class of access keeps words and book in step, leaves to other threads what they rely on, and sets the thread's
 -- field held as the book has it. Source: own.
-use Rattle.std.proofs.Common.{◌≡◌, ◌≢◌, ℕ, ◌+◌, ◌-◌, ◌<◌, List, [], ◌∷◌, Option, Some, None, refl, sym, ◌∙◌, ap, subst, arith}
+use Rattle.std.proofs.Common.{◌≡◌, ◌≢◌, ℕ, ◌+◌, ◌-◌, ◌%◌, ◌^◌, ◌<◌, List, [], ◌∷◌, Option, Some, None, refl, sym, ◌∙◌, ap, subst, arith}
 use Rattle.std.specs.Prelude.{slice_index, slice_set, ◌==◌}
 use Rattle.cet_words.specs.Access.{answer, after}
 use Rattle.cet_words.specs.Job.{ImageData}
@@ -20,7 +20,7 @@ use Rattle.cet_page.specs.Gate.{token, token_word}
 use Rattle.cet_own.specs.Holds.{Sound, busy, Holds}
 use Rattle.cet_own.specs.Kept.{holds_out, holds_clear}
 use Rattle.cet_own.specs.Own.{holds_push, holds_pop}
-use Rattle.cet_own.specs.Classes.{Owed, looks, loads, stores, exchanges, clears, pushes, pops, refused, enters, leaves, exits}
+use Rattle.cet_own.specs.Classes.{Owed, looks, loads, stores, exchanges, swaps, adds, clears, pushes, pops, refused, enters, leaves, exits}
 use Rattle.cet_own.specs.Laws.{same_book, then_by, one_book, sound_after, wrote, exchange_does, exchange_fails, holds_gate, holds_end}
 
 pub own : {image : ImageData} {words : List ℕ} {b : Book} (t m : ℕ) → Holds image words b → (region b m).holder ≡ Current t → Owned t m b
@@ -47,6 +47,12 @@ keeps image t k words b next a changes (exchanges word expected value e out ev) 
     subst (λ c. Holds image (after words c) next) (sym e)
     (subst (Holds image (after words (access.CompareExchange word expected value))) (same_book t b next changes ev q)
     (wrote image words b word expected value (slice_index words word == expected) refl h (λ _. holds_out image words b word value out h)))
+keeps image t k words b next a changes (swaps word value e out ev) q h =
+    subst (λ c. Holds image (after words c) next) (sym e) (subst (Holds image (slice_set words word value)) (same_book t b next changes ev q) (holds_out image words b word value out h))
+keeps image t k words b next a changes (adds word value e out ev) q h =
+    subst (λ c. Holds image (after words c) next) (sym e)
+    (subst (Holds image (after words (access.FetchAdd word value))) (same_book t b next changes ev q)
+    (holds_out image words b word ((slice_index words word + value) % 2 ^ 64) out h))
 keeps image t k words b next a changes (clears page e lo hi ev) q h =
     subst (λ c. Holds image (after words c) next) (sym e)
     (subst (Holds image (slice_set words (entry_word page) 0)) (same_book t b next changes ev q) (holds_clear image words b page lo hi h))
@@ -107,6 +113,8 @@ none_born t k b a v changes y (looks page e ev) = subst (λ cs. NoneBorn cs y) (
 none_born t k b a v changes y (loads word e ev) = subst (λ cs. NoneBorn cs y) (sym ev) tt
 none_born t k b a v changes y (stores word value e out ev) = subst (λ cs. NoneBorn cs y) (sym ev) tt
 none_born t k b a v changes y (exchanges word expected value e out ev) = subst (λ cs. NoneBorn cs y) (sym ev) tt
+none_born t k b a v changes y (swaps word value e out ev) = subst (λ cs. NoneBorn cs y) (sym ev) tt
+none_born t k b a v changes y (adds word value e out ev) = subst (λ cs. NoneBorn cs y) (sym ev) tt
 none_born t k b a v changes y (clears page e lo hi ev) = subst (λ cs. NoneBorn cs y) (sym ev) tt
 none_born t k b a v changes y (pushes m back current e room is_return ev) = subst (λ cs. NoneBorn cs y) (sym ev) (tt, tt)
 none_born t k b a v changes y (pops m word current e ev) = subst (λ cs. NoneBorn cs y) (sym ev) (tt, tt)

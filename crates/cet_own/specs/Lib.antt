@@ -13,9 +13,11 @@ pub mod Keeps
 pub mod Held
 pub mod Places
 pub mod Parts
+pub mod OperandParts
 pub mod GateParts
 pub mod Calls
 pub mod Returns
+pub mod Steps
 pub mod Rows
 pub mod Stands
 pub mod Turn

@@ -1,9 +1,9 @@
 -- What a thread claims of the parts of its row, each with what follows it. Source: own.
-use Rattle.std.proofs.Common.{◌≡◌, ℕ, zero, suc, ◌+◌, ◌-◌, ◌/◌, ◌%◌, ◌<◌, ◌≤◌, Bool, true, false, cond, [], ◌∷◌, Option, Some, None, refl, sym, ap, subst, arith}
+use Rattle.std.proofs.Common.{◌≡◌, ℕ, zero, suc, ◌+◌, ◌-◌, ◌/◌, ◌%◌, ◌<◌, ◌≤◌, Bool, true, false, cond, [], ◌∷◌, Option, Some, None, refl, sym, ◌∙◌, ap, subst, arith}
 use Rattle.std.specs.Prelude.{option_map, option_and_then, ◌==◌}
 use Rattle.std.proofs.lemmas.Bool.{eqb-true}
 use Rattle.cet_words.specs.Job.{JobData}
-use Rattle.cet_words.specs.Layout.{page_at}
+use Rattle.cet_words.specs.Layout.{page_at, entry_word}
 use Rattle.cet_words.specs.Change.{Change}
 use Rattle.cet_words.specs.declared.accesses.Access.TheVariants as access
 use Rattle.cet_isa.specs.Address.{canonical}
@@ -13,7 +13,7 @@ use Rattle.cet_book.specs.Book.{Book, book_after, region, top}
 use Rattle.cet_book.specs.Relies.{Relies}
 use Rattle.cet_page.specs.Script.{Script, done, fault, ◌>>=◌}
 use Rattle.cet_page.specs.Page.{allows, page_fault}
-use Rattle.cet_page.specs.Parts.{tested, look_in, look, peek, load_as, load, store_as, store, exchange_as, exchange, misaligned}
+use Rattle.cet_page.specs.Parts.{tested, look_in, look, peek, load_as, load, store_as, store, exchange_as, exchange, swap, fetch_add_as, fetch_add, stores, misaligned}
 use Rattle.cet_page.specs.Gate.{clears}
 use Rattle.cet_page.specs.declared.checks.Kind.{Kind}
 use Rattle.cet_page.specs.declared.checks.Kind.TheVariants as kind
@@ -23,7 +23,7 @@ use Rattle.cet_own.specs.Safe.{AtReturn, IsReturnFault}
 use Rattle.cet_own.specs.Frame.{Steady, steady_bind, steady_cond}
 use Rattle.cet_own.specs.Holds.{In, IsOut}
 use Rattle.cet_own.specs.Standing.{Stacked, AtRest, rest_kept, Inside, inside_kept}
-use Rattle.cet_own.specs.Classes.{State, state_after, Known, looks, loads, stores, exchanges, clears as cleared, rules}
+use Rattle.cet_own.specs.Classes.{State, state_after, Known, looks, loads, stores as stored, exchanges, swaps, adds, clears as cleared, rules}
 use Rattle.cet_own.specs.Places.{store_page, entry_there, shadow_page, in_page}
 
 -- SSP is at the top of the thread's region before each access
@@ -102,18 +102,37 @@ module _ (job : JobData) (arch : Arch) where
   pub store_then : {A : Type 0} (Q : State → State → A → Type 0) (before s : State) (word value : ℕ) (f : Unit {0} → Script A) → IsOut word → Stacked arch.number s.book arch.ssp → ((now : State) → Relies arch.number s.book now.book → Claim job arch Q now now (f tt)) → Claim job arch Q before s (store word value >>= f)
   unfolding store_as
   store_then Q before s word value f out top h =
-      claim_bind Q before s (store word value) f (top, λ now r known. (stores word value refl out refl, now, refl, h now r))
+      claim_bind Q before s (store word value) f (top, λ now r known. (stored word value refl out refl, now, refl, h now r))
 
   pub exchange_then : {A : Type 0} (Q : State → State → A → Type 0) (before s : State) (word expected value : ℕ) (f : ℕ → Script A) → IsOut word → Stacked arch.number s.book arch.ssp → ((now : State) → Relies arch.number s.book now.book → (v : ℕ) → Claim job arch Q now now (f v)) → Claim job arch Q before s (exchange word expected value >>= f)
   unfolding exchange_as
   exchange_then Q before s word expected value f out top h =
       claim_bind Q before s (exchange word expected value) f (top, λ now r v known. (exchanges word expected value refl out refl, now, refl, h now r v))
 
-  -- entries of pages of the shadow area are cleared by a thread in the kernel
-  pub clears_claim : (k : ℕ) (Q : State → State → Unit {0} → Type 0) (before s : State) (count page : ℕ) → 2112 ≤ page → page + count ≤ 3136 → Inside arch.number k s.book arch.ssp → ((z n : State) → Inside arch.number k n.book arch.ssp → Q z n tt) → Claim job arch Q before s (clears count page)
-  unfolding clears
-  clears_claim k Q before s zero page lo hi inside h = h before s inside
-  clears_claim k Q before s (suc count) page lo hi inside h = (
+  pub swap_then : {A : Type 0} (Q : State → State → A → Type 0) (before s : State) (word value : ℕ) (f : ℕ → Script A) → IsOut word → Stacked arch.number s.book arch.ssp → ((now : State) → Relies arch.number s.book now.book → (v : ℕ) → Claim job arch Q now now (f v)) → Claim job arch Q before s (swap word value >>= f)
+  unfolding swap
+  swap_then Q before s word value f out top h =
+      claim_bind Q before s (swap word value) f (top, λ now r v known. (swaps word value refl out refl, now, refl, h now r v))
+
+  pub fetch_add_then : {A : Type 0} (Q : State → State → A → Type 0) (before s : State) (word value : ℕ) (f : ℕ → Script A) → IsOut word → Stacked arch.number s.book arch.ssp → ((now : State) → Relies arch.number s.book now.book → (v : ℕ) → Claim job arch Q now now (f v)) → Claim job arch Q before s (fetch_add word value >>= f)
+  unfolding fetch_add_as
+  fetch_add_then Q before s word value f out top h =
+      claim_bind Q before s (fetch_add word value) f (top, λ now r v known. (adds word value refl out refl, now, refl, h now r v))
+
+  -- a thread in the kernel stores 0 to entries of pages of the shadow area
+  stores_claim : (k : ℕ) (Q : State → State → Unit {0} → Type 0) (before s : State) (count page word value : ℕ) → word ≡ entry_word page → value ≡ 0 → 2112 ≤ page → page + count ≤ 3136 → Inside arch.number k s.book arch.ssp → ((z n : State) → Inside arch.number k n.book arch.ssp → Q z n tt) → Claim job arch Q before s (stores count word value 0)
+  unfolding stores
+  stores_claim k Q before s zero page word value e z lo hi inside h = h before s inside
+  stores_claim k Q before s (suc count) page word value e z lo hi inside h = (
     inside.stacked,
-    λ now r known. (cleared page refl lo (omega arith) refl, now, refl, clears_claim k Q now now count (page + 1) (omega arith) (omega arith) (inside_kept r inside) h),
+    λ now r known. (
+      cleared page (ap (λ w. access.Store w value) e ∙ ap (λ v. access.Store (entry_word page) v) z) lo (omega arith) refl,
+      now,
+      refl,
+      stores_claim k Q now now count (page + 1) (word + 1) (value + 0) (omega arith) (omega arith) (omega arith) (omega arith) (inside_kept r inside) h,
+    ),
   )
+
+  -- so it clears these entries
+  pub clears_claim : (k : ℕ) (Q : State → State → Unit {0} → Type 0) (before s : State) (count page : ℕ) → 2112 ≤ page → page + count ≤ 3136 → Inside arch.number k s.book arch.ssp → ((z n : State) → Inside arch.number k n.book arch.ssp → Q z n tt) → Claim job arch Q before s (clears count page)
+  clears_claim k Q before s count page lo hi inside h = stores_claim k Q before s count page (entry_word page) 0 refl refl lo hi inside h

@@ -15,7 +15,7 @@ use Rattle.cet_page.specs.Finish.{above, below}
 use Rattle.cet_page.specs.declared.checks.Kind.{Kind}
 use Rattle.cet_page.specs.declared.checks.Kind.TheVariants as kind
 use Rattle.cet_page.specs.declared.checks.Who.TheVariants.{User}
-use Rattle.cet_own.specs.Holds.{In, LiesIn, IsEntry}
+use Rattle.cet_own.specs.Holds.{In, LiesIn, IsEntry, IsOut}
 use Rattle.cet_own.specs.Writes.{in_there}
 
 -- ---- the bits of an entry
@@ -55,6 +55,10 @@ store_page image page v (inr e) a = elim (cases_lt page 2112) [
   | inl l ↦ l
   | inr g ↦ absurd (false≢true (sym (high_entry image page g) ∙ sym (ap (λ n. allows n kind.Store User) e) ∙ a))
 ]
+
+-- its words matter for no stack
+pub page_word : (page addr : ℕ) → page < 2112 → IsOut (word_in page addr)
+page_word page addr l = record { shadow = inl (omega arith); entry = omega arith; token = λ k lk. omega arith }
 
 -- an entry that allows something is present
 pub entry_there : (k : Kind) (v : ℕ) → allows v k User ≡ true → v ≢ 0

@@ -77,10 +77,10 @@ left_top t m s es b o e =
 -- ---- the shadow load, and what follows it
 
 module _ (job : JobData) (j : IsJob job) (arch : Arch) where
-  loaded : (now : State) (w word v : ℕ) → Known job.image arch.number now.book (access.Load w) v → w ≡ slot arch.ssp → AtRest arch.number now.book arch.ssp → 1 ≤ length (entries_of arch.number now.book) → (c d : Bool) → (word == v) ≡ c → canonical word ≡ d → Owed arch.number (own_stack job arch.number) now.book (access.Load w) v (if c && d then Returned ∷ [] else []) × (next : State) × (state_after arch.number now (if c && d then Returned ∷ [] else []) ≡ Some next) × Claim job arch (EndsRow job arch) now next (if c then (if d then done (returned arch word) else fault general_protection) else fault (return_differs word v))
-  loaded now w word v known ws rest some false d e f = (loads w refl refl, now, refl, (rest, λ r. refl))
-  loaded now w word v known ws rest some true false e f = (loads w refl refl, now, refl, (rest, λ r. tt))
-  loaded now w word v known ws rest some true true e f =
+  loaded : (now : State) (bytes w word v : ℕ) → Known job.image arch.number now.book (access.Load w) v → w ≡ slot arch.ssp → AtRest arch.number now.book arch.ssp → 1 ≤ length (entries_of arch.number now.book) → (c d : Bool) → (word == v) ≡ c → canonical word ≡ d → Owed arch.number (own_stack job arch.number) now.book (access.Load w) v (if c && d then Returned ∷ [] else []) × (next : State) × (state_after arch.number now (if c && d then Returned ∷ [] else []) ≡ Some next) × Claim job arch (EndsRow job arch) now next (if c then (if d then done (returned arch bytes word) else fault general_protection) else fault (return_differs word v))
+  loaded now bytes w word v known ws rest some false d e f = (loads w refl refl, now, refl, (rest, λ r. refl))
+  loaded now bytes w word v known ws rest some true false e f = (loads w refl refl, now, refl, (rest, λ r. tt))
+  loaded now bytes w word v known ws rest some true true e f =
       let same : word ≡ v = eqb-true word v e in
       let has = rest.stacked.top.has in
       let at = rest.stacked.top.at in
@@ -103,19 +103,19 @@ module _ (job : JobData) (j : IsJob job) (arch : Arch) where
         ),
       )
 
-  load_claim : (before s : State) (w word : ℕ) → w ≡ slot arch.ssp → AtRest arch.number s.book arch.ssp → 1 ≤ length (entries_of arch.number s.book) → Claim job arch (EndsRow job arch) before s (load_as (returned_if word) w >>= (λ v. if word == v then (if canonical word then done (returned arch word) else fault general_protection) else fault (return_differs word v)))
+  load_claim : (before s : State) (bytes w word : ℕ) → w ≡ slot arch.ssp → AtRest arch.number s.book arch.ssp → 1 ≤ length (entries_of arch.number s.book) → Claim job arch (EndsRow job arch) before s (load_as (returned_if word) w >>= (λ v. if word == v then (if canonical word then done (returned arch bytes word) else fault general_protection) else fault (return_differs word v)))
   unfolding load_as
-  load_claim before s w word ws rest some =
+  load_claim before s bytes w word ws rest some =
       claim_bind job arch (EndsRow job arch) before s (load_as (returned_if word) w) _ (
         rest.stacked,
         λ now r v known.
             let same = own_kept arch.number s.book now.book r rest.stacked.top.has in
-            loaded now w word v known ws (rest_kept r rest) (subst (λ (r : Region). 1 ≤ length r.entries) (sym same) some) (word == v) (canonical word) refl refl,
+            loaded now bytes w word v known ws (rest_kept r rest) (subst (λ (r : Region). 1 ≤ length r.entries) (sym same) some) (word == v) (canonical word) refl refl,
       )
 
-  pub ret_claim : (before s : State) → AtRest arch.number s.book arch.ssp → Claim job arch (EndsRow job arch) before s (ret arch)
+  pub ret_claim : (before s : State) (bytes : ℕ) → AtRest arch.number s.book arch.ssp → Claim job arch (EndsRow job arch) before s (ret arch bytes)
   unfolding ret
-  ret_claim before s rest =
+  ret_claim before s bytes rest =
       let low = rest.stacked.low in
       let high = rest.stacked.high in
       tested_then job arch (EndsRow job arch) before s (rsp arch) 8 _ rest (λ c e.
@@ -127,4 +127,4 @@ module _ (job : JobData) (j : IsJob job) (arch : Arch) where
       let some = entry_at now2.book (current_of arch.number now2.book) i known2.sound.book.shape rest2.stacked.top.has (subst (In (region now2.book i)) at inn) in
       load_then job arch (EndsRow job arch) now2 now2 (word_in page (rsp arch)) _ rest2.stacked (λ now3 r3 word.
       let same = own_kept arch.number now2.book now3.book r3 rest2.stacked.top.has in
-      load_claim now3 now3 (word_in (2112 + (arch.ssp - 0x200000000) / 4096) arch.ssp) word (shadow_slot arch.ssp (omega arith) (omega arith)) (rest_kept r3 rest2) (subst (λ (r : Region). 1 ≤ length r.entries) (sym same) some)))))
+      load_claim now3 now3 bytes (word_in (2112 + (arch.ssp - 0x200000000) / 4096) arch.ssp) word (shadow_slot arch.ssp (omega arith) (omega arith)) (rest_kept r3 rest2) (subst (λ (r : Region). 1 ≤ length r.entries) (sym same) some)))))

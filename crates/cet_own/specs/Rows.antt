@@ -1,7 +1,6 @@
 -- What a thread claims of each of its rows. Source: own.
-use Rattle.std.proofs.Common.{◌≡◌, ℕ, zero, suc, ◌+◌, ◌-◌, ◌<◌, ◌≤◌, inr, length, Option, Some, None, refl, subst, arith}
-use Rattle.std.specs.Prelude.{◌==◌, ℤ}
-use Rattle.std.specs.Int.{w64, cast_unsigned}
+use Rattle.std.proofs.Common.{◌≡◌, ℕ, zero, suc, ◌+◌, ◌-◌, ◌<◌, ◌≤◌, inr, true, length, Option, Some, None, refl, subst, arith}
+use Rattle.std.specs.Prelude.{◌==◌}
 use Rattle.std.proofs.Math.Nat.{mod-lt}
 use Rattle.cet_words.specs.Bytes.{code_byte, code_place}
 use Rattle.cet_words.specs.Job.{JobData, IsJob}
@@ -11,28 +10,28 @@ use Rattle.cet_isa.specs.Reading.{Decoding, Read, Short, Unknown, decoded}
 use Rattle.cet_isa.specs.ReadingLaws.{decoded_within}
 use Rattle.cet_isa.specs.declared.instructions.Instr.{Instr}
 use Rattle.cet_isa.specs.declared.instructions.Instr.TheVariants as instr
-use Rattle.cet_isa.specs.declared.instructions.Operand.{Operand}
-use Rattle.cet_isa.specs.declared.instructions.Operand.TheVariants as operand
-use Rattle.cet_isa.specs.declared.instructions.Size.{Size}
-use Rattle.cet_isa.specs.declared.instructions.Size.TheVariants as size
 use Rattle.cet_isa.specs.declared.threads.Arch.{Arch}
 use Rattle.cet_isa.specs.declared.threads.Fault.{Fault}
 use Rattle.cet_book.specs.Addresses.{IsReturn}
 use Rattle.cet_page.specs.Script.{◌>>=◌}
 use Rattle.cet_page.specs.Fetch.{fetchable, joined, missing, missing_in}
 use Rattle.cet_page.specs.Finish.{Row, noted, above, rax, IsMade}
-use Rattle.cet_page.specs.Flow.{call_relative, relative}
-use Rattle.cet_page.specs.Gate.{exit_word, pend_word, handler_word, made_page, clears, exit, no_call, service, syscall, inside, signal_of, kill, deliver}
+use Rattle.cet_page.specs.Family.{family_of}
+use Rattle.cet_page.specs.Flow.{transfer}
+use Rattle.cet_page.specs.declared.families.Family.{Family}
+use Rattle.cet_page.specs.declared.families.Family.TheVariants as families
+use Rattle.cet_page.specs.Gate.{exit_word, pend_word, handler_word, exit_status, made_page, clears, exit, exit_group, no_call, service, syscall, inside, signal_of, kill, deliver}
 use Rattle.cet_page.specs.Parts.{invalid_opcode}
-use Rattle.cet_page.specs.Row.{move, execute, fetched, instruction, instruction_bytes, boundary, row, row_from}
-use Rattle.cet_own.specs.Safe.{IsElsewhere, IsNearReturn}
+use Rattle.cet_page.specs.Row.{execute_family, fetched, instruction, instruction_bytes, boundary, row, row_from}
+use Rattle.cet_own.specs.Safe.{is_near_return, IsElsewhere, IsNearReturn}
 use Rattle.cet_own.specs.Holds.{IsOut}
 use Rattle.cet_own.specs.Standing.{AtRest, rest_kept, Inside, inside_kept}
 use Rattle.cet_own.specs.Classes.{State, looks, own_stack}
 use Rattle.cet_own.specs.Parts.{Fails, Claim, claim_bind, claim_cond, load_then, exchange_then, clears_claim}
 use Rattle.cet_own.specs.GateParts.{gate_in_then, gate_out_then, exit_out_then}
-use Rattle.cet_own.specs.Calls.{Ends, EndsRow, call_claim, call_next_claim}
+use Rattle.cet_own.specs.Calls.{Ends, EndsRow, call_relative_claim, call_indirect_claim}
 use Rattle.cet_own.specs.Returns.{ret_claim}
+use Rattle.cet_own.specs.Steps.{push_claim, pop_claim, leave_claim, jump_indirect_claim, arithmetic_claim}
 
 -- ---- where instructions lie
 
@@ -67,6 +66,12 @@ stack_below job t j =
     let l : own_stack job t < job.procs = mod-lt t (omega arith) in
     omega arith
 
+-- a near return is a transfer
+returns_transfer : (i : Instr) → is_near_return i ≡ true → family_of i ≡ families.Transfer
+returns_transfer instr.Ret r = refl
+returns_transfer (instr.RetImm bytes) r = refl
+returns_transfer i r = cc
+
 exit_out : IsOut 1605632
 exit_out = record { shadow = inr (omega arith); entry = omega arith; token = λ k l. omega arith }
 
@@ -94,11 +99,22 @@ module _ (job : JobData) (j : IsJob job) (arch : Arch) where
   no_call_claim before s next free inside =
       gate_out_then job arch (stack_below job arch.number j) (Ends job arch) before s _ inside (λ z n rest. (rest, λ held now. free))
 
+  exit_group_claim : (before s : State) (next : ℕ) → IsElsewhere job arch → Inside arch.number (own_stack job arch.number) s.book arch.ssp → Claim job arch (Ends job arch) before s (exit_group arch next (own_stack job arch.number))
+  unfolding exit_group
+  exit_group_claim before s next free within =
+      exchange_then job arch (Ends job arch) before s exit_word 0 (0x100 + exit_status arch) _ exit_out within.stacked (λ now r found.
+      gate_out_then job arch (stack_below job arch.number j) (Ends job arch) now now _ (inside_kept r within) (λ z n rest. (rest, λ held later. free)))
+
+  service_claim : (before s : State) (next : ℕ) → IsElsewhere job arch → IsMade arch.made → Inside arch.number (own_stack job arch.number) s.book arch.ssp → Claim job arch (Ends job arch) before s (service arch next (own_stack job arch.number))
+  service_claim before s next free made within =
+      claim_cond job arch (Ends job arch) before s (rax arch == 60) _ _ (λ _. exit_claim before s free made within)
+      (λ _. claim_cond job arch (Ends job arch) before s (rax arch == 231) _ _ (λ _. exit_group_claim before s next free within) (λ _. no_call_claim before s next free within))
+
   syscall_claim : (before s : State) (next : ℕ) → IsElsewhere job arch → IsMade arch.made → AtRest arch.number s.book arch.ssp → Claim job arch (Ends job arch) before s (syscall job arch next)
   unfolding syscall
   syscall_claim before s next free made rest =
       gate_in_then job arch (stack_below job arch.number j) (Ends job arch) before s (inside arch (own_stack job arch.number) (service arch next (own_stack job arch.number))) rest
-      (λ z n within. claim_cond job arch (Ends job arch) z n (rax arch == 60) _ _ (λ _. exit_claim z n free made within) (λ _. no_call_claim z n next free within))
+      (λ z n within. service_claim z n next free made within)
       (λ z n found rest'. (rest', λ held now. tt))
 
   kill_claim : (before s : State) (signal : ℕ) → Inside arch.number (own_stack job arch.number) s.book arch.ssp → Claim job arch (Ends job arch) before s (kill arch signal (own_stack job arch.number))
@@ -121,26 +137,28 @@ module _ (job : JobData) (j : IsJob job) (arch : Arch) where
   noted_claim : (before s : State) (m : Row) → Claim job arch (EndsRow job arch) before s m → Claim job arch (Ends job arch) before s (m >>= noted)
   noted_claim before s m h = claim_bind job arch (Ends job arch) before s m noted h
 
-  move_claim : (before s : State) (sz : Size) (dst src : Operand) (next len : ℕ) → AtRest arch.number s.book arch.ssp → decoded (instruction_bytes job arch) ≡ Read (instr.Mov sz dst src) len → Claim job arch (Ends job arch) before s (move arch sz dst src next)
-  move_claim before s size.Dword (operand.Reg r) (operand.Imm z) next len rest e = (rest, λ held now. elsewhere _ e (λ x. cc))
-  move_claim before s size.Dword (operand.Reg r) (operand.Reg q) next len rest e = no_return s _ rest e (λ x. cc)
-  move_claim before s size.Dword (operand.Reg r) (operand.Mem m) next len rest e = no_return s _ rest e (λ x. cc)
-  move_claim before s size.Dword (operand.Mem m) src next len rest e = no_return s _ rest e (λ x. cc)
-  move_claim before s size.Dword (operand.Imm z) src next len rest e = no_return s _ rest e (λ x. cc)
-  move_claim before s size.Qword dst src next len rest e = no_return s _ rest e (λ x. cc)
+  transfer_claim : (before s : State) (i : Instr) (len : ℕ) → AtRest arch.number s.book arch.ssp → decoded (instruction_bytes job arch) ≡ Read i len → Claim job arch (EndsRow job arch) before s (transfer arch i (above arch.rip len))
+  transfer_claim before s (instr.CallRel disp) len rest e =
+      call_relative_claim job arch before s disp (above arch.rip len) rest (next_place job arch (instr.CallRel disp) len j e) (elsewhere _ e (λ x. cc))
+  transfer_claim before s (instr.CallInd target notrack) len rest e =
+      call_indirect_claim job arch before s target (above arch.rip len) rest (next_place job arch (instr.CallInd target notrack) len j e) (elsewhere _ e (λ x. cc))
+  transfer_claim before s instr.Ret len rest e = ret_claim job j arch before s 0 rest
+  transfer_claim before s (instr.RetImm bytes) len rest e = ret_claim job j arch before s bytes rest
+  transfer_claim before s (instr.Push src) len rest e = push_claim job arch (elsewhere _ e (λ x. cc)) before s src (above arch.rip len) rest
+  transfer_claim before s (instr.Pop r) len rest e = pop_claim job arch (elsewhere _ e (λ x. cc)) before s r (above arch.rip len) rest
+  transfer_claim before s instr.Leave len rest e = leave_claim job arch (elsewhere _ e (λ x. cc)) before s (above arch.rip len) rest
+  transfer_claim before s (instr.JmpRel disp) len rest e = (rest, λ held now. elsewhere _ e (λ x. cc))
+  transfer_claim before s (instr.JmpInd target notrack) len rest e = jump_indirect_claim job arch (elsewhere _ e (λ x. cc)) before s target (above arch.rip len) rest
+  transfer_claim before s (instr.Jcc c disp) len rest e = (rest, λ held now. elsewhere _ e (λ x. cc))
+  transfer_claim before s i len rest e = no_return s _ rest e (λ x. cc)
 
-  call_relative_claim : (before s : State) (disp : ℤ) (next : ℕ) → AtRest arch.number s.book arch.ssp → IsReturn next → IsElsewhere job arch → Claim job arch (EndsRow job arch) before s (call_relative arch disp next)
-  call_relative_claim before s disp next rest is_return free =
-      claim_cond job arch (EndsRow job arch) before s (cast_unsigned w64 disp == 0) _ _
-      (λ _. call_next_claim job arch before s next rest free) (λ _. call_claim job arch before s next (relative next disp) rest is_return free)
-
-  execute_claim : (before s : State) (i : Instr) (len : ℕ) → IsMade arch.made → AtRest arch.number s.book arch.ssp → decoded (instruction_bytes job arch) ≡ Read i len → Claim job arch (Ends job arch) before s (execute job arch i (above arch.rip len))
-  execute_claim before s (instr.Mov sz dst src) len made rest e = move_claim before s sz dst src (above arch.rip len) len rest e
-  execute_claim before s (instr.CallRel disp) len made rest e =
-      noted_claim before s _ (call_relative_claim before s disp (above arch.rip len) rest (next_place job arch (instr.CallRel disp) len j e) (elsewhere _ e (λ x. cc)))
-  execute_claim before s instr.Ret len made rest e = noted_claim before s _ (ret_claim job j arch before s rest)
-  execute_claim before s instr.Syscall len made rest e = syscall_claim before s (above arch.rip len) (elsewhere _ e (λ x. cc)) made rest
-  execute_claim before s i len made rest e = no_return s _ rest e (λ x. cc)
+  family_claim : (before s : State) (i : Instr) (len : ℕ) (p : Family) → family_of i ≡ p → IsMade arch.made → AtRest arch.number s.book arch.ssp → decoded (instruction_bytes job arch) ≡ Read i len → Claim job arch (Ends job arch) before s (execute_family job arch i (above arch.rip len) p)
+  family_claim before s i len families.Arithmetic f made rest e =
+      noted_claim before s _ (arithmetic_claim job arch (elsewhere _ e (λ r. let t = returns_transfer i r in cc)) before s i (above arch.rip len) rest)
+  family_claim before s i len families.Transfer f made rest e = noted_claim before s _ (transfer_claim before s i len rest e)
+  family_claim before s i len families.KernelCall f made rest e =
+      syscall_claim before s (above arch.rip len) (elsewhere _ e (λ r. let t = returns_transfer i r in cc)) made rest
+  family_claim before s i len families.Unbuilt f made rest e = no_return s _ rest e (λ r. let t = returns_transfer i r in cc)
 
   missing_claim : (before s : State) (at : Option ℕ) (addr : ℕ) → AtRest arch.number s.book arch.ssp → Claim job arch (Ends job arch) before s (missing_in at addr)
   missing_claim before s None addr rest = (rest, λ r. tt)
@@ -148,7 +166,7 @@ module _ (job : JobData) (j : IsJob job) (arch : Arch) where
 
   fetched_claim : (before s : State) (d : Decoding) → IsMade arch.made → AtRest arch.number s.book arch.ssp → decoded (instruction_bytes job arch) ≡ d → Claim job arch (Ends job arch) before s (fetched job arch (instruction_bytes job arch) d)
   unfolding missing
-  fetched_claim before s (Read i len) made rest e = execute_claim before s i len made rest e
+  fetched_claim before s (Read i len) made rest e = family_claim before s i len (family_of i) refl made rest e
   fetched_claim before s Short made rest e = missing_claim before s (page_at (arch.rip + length (instruction_bytes job arch))) (arch.rip + length (instruction_bytes job arch)) rest
   fetched_claim before s Unknown made rest e = no_return s Unknown rest e (λ x. x)
 

@@ -1,5 +1,5 @@
 -- What every run promises of shadow stacks. Source: Intel SDM volume 1 (CET shadow stacks) for returns; own for the book.
-use Rattle.std.specs.Prelude.{◌≡◌, ℕ, ◌<◌, ◌↔◌, List, [], ◌∷◌, length, Option, Some, None, slice_get}
+use Rattle.std.specs.Prelude.{◌≡◌, ℕ, ◌<◌, ◌↔◌, Bool, true, false, List, [], ◌∷◌, length, Option, Some, None, slice_get}
 use Rattle.std.specs.Prelude.{IsTrue}
 use Rattle.cet_words.specs.Access.{answer}
 use Rattle.cet_words.specs.Bytes.{code_byte}
@@ -7,6 +7,7 @@ use Rattle.cet_words.specs.Job.{JobData}
 use Rattle.cet_words.specs.declared.accesses.Access.{Access}
 use Rattle.cet_isa.specs.Address.{canonical}
 use Rattle.cet_isa.specs.Reading.{Decoding, Read, Short, Unknown, decoded}
+use Rattle.cet_isa.specs.declared.instructions.Instr.{Instr}
 use Rattle.cet_isa.specs.declared.instructions.Instr.TheVariants as instr
 use Rattle.cet_isa.specs.declared.threads.Arch.{Arch}
 use Rattle.cet_isa.specs.declared.threads.End.{End}
@@ -42,9 +43,15 @@ IsReturnFault Pf code = Unit {0}
 IsReturnFault Ac code = Unit {0}
 IsReturnFault Cp code = code ≡ 1
 
--- the bytes at RIP are a near return; one with an immediate isn't built, and is an invalid opcode
+-- RET, with an immediate or without
+abbrev pub is_near_return : Instr → Bool
+is_near_return instr.Ret = true
+is_near_return (instr.RetImm bytes) = true
+is_near_return i = false
+
+-- the bytes at RIP are a near return
 abbrev pub IsNearReturn : Decoding → Type 0
-IsNearReturn (Read i len) = i ≡ instr.Ret
+IsNearReturn (Read i len) = IsTrue (is_near_return i)
 IsNearReturn Short = ⊥
 IsNearReturn Unknown = ⊥
 
