@@ -12,6 +12,8 @@ mod listing;
 mod listing_tests;
 mod outcomes;
 #[cfg(test)]
+mod machine_tests;
+#[cfg(test)]
 mod program_tests;
 mod programs;
 mod reports;

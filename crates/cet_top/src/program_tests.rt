@@ -79,7 +79,7 @@ fn full_stack(alloc: Global) -> Result<String, AllocError> {
 }
 
 /// A run of the bytes writes the report, and has the status.
-fn reports(
+pub(crate) fn reports(
     rt: &impl Abort,
     alloc: Global,
     bytes: &[u8],
@@ -142,7 +142,7 @@ fn broken_files_are_refused(rt: HostRuntime) -> Result<(), Fail> {
     reports(&rt, rt.alloc(), &bytes, cut, "")
 }
 
-const NOP: &str = "cetvm report 1
+const SAVEPREVSSP: &str = "cetvm report 1
 thread 0 records 2 group
 0 #UD 0000000000401000 0 0000000000000000 0000000000000000
 0 kill 0000000000401000 0 0000000000000004 0000000000000000
@@ -153,8 +153,8 @@ process killed 4
 /// An instruction that isn't built yet is `#UD`.
 #[test]
 fn other_instructions_are_undefined(rt: HostRuntime) -> Result<(), Fail> {
-    let bytes = file(rt.alloc(), &[0x90])?;
-    reports(&rt, rt.alloc(), &bytes, Status::Killed(4), NOP)
+    let bytes = file(rt.alloc(), &[0xf3, 0x0f, 0x01, 0xea])?;
+    reports(&rt, rt.alloc(), &bytes, Status::Killed(4), SAVEPREVSSP)
 }
 
 /// `check` of the bytes has the status, and tells of an image alone.
