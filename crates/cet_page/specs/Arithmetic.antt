@@ -1,6 +1,6 @@
 -- Moves, arithmetic, tests, shifts and locked operations. Source: Intel SDM volume 2, the pages of the instructions; the order
 -- of looks and accesses is own.
-use Rattle.std.specs.Prelude.{ℕ, ◌+◌, ◌%◌, ◌==◌, Bool, true, false, if◌then◌else◌, List, slice_set, bit_and}
+use Rattle.std.specs.Prelude.{ℕ, ◌%◌, ◌==◌, Bool, true, false, if◌then◌else◌, List, slice_set, bit_and}
 use Rattle.std.specs.Int.{w32, w64, cast_unsigned, cast_signed}
 use Rattle.cet_isa.specs.Code.{reg_number}
 use Rattle.cet_isa.specs.declared.instructions.AluOp.{AluOp}

@@ -9,11 +9,10 @@ use Rattle.cet_isa.specs.declared.threads.What.TheVariants as what
 use Rattle.cet_isa.specs.declared.threads.Arch.{Arch}
 use Rattle.cet_isa.specs.declared.threads.End.{End}
 use Rattle.cet_isa.specs.declared.threads.End.TheVariants as ending
-use Rattle.cet_words.specs.Change.{Change}
+use Rattle.cet_words.specs.Change.{Change, Called, Returned, Raised, Acquired, Released, Claimed, Seeded, Born, Pushed, Popped, Ended, Busied, Freed}
 use Rattle.cet_page.specs.Script.{Came, Over, Faulted, Wants, play, changes_at, birth}
 use Rattle.cet_page.specs.Seen.{Seen, nothing_seen, seen_after}
 use Rattle.cet_page.specs.Finish.{above}
-use Rattle.cet_page.specs.Gate.{stack_of, token, token_word}
 use Rattle.cet_page.specs.Row.{row}
 use Rattle.cet_page.specs.declared.finishes.Finish.{Finish}
 use Rattle.cet_page.specs.declared.finishes.Finish.TheVariants.{Noted, Posted, Exited, Stopped}
@@ -78,20 +77,30 @@ access_of job core None = wanted (come job core.arch core.seen)
 unfoldable pub next_access : JobData → Core → Option Access
 next_access job core = access_of job core core.over
 
--- The exchange of the token of supervisor stack k from free to busy takes the stack where it was free, and the exchange
--- from busy to free gives it back.
-abbrev pub held_after : (k : ℕ) → Access → (answer : ℕ) → Option ℕ → Option ℕ
-held_after k (access.CompareExchange word expected value) answer held =
-    if word == token_word k
-    then (if expected == token k then (if answer == token k then Some k else held) else None)
-    else held
-held_after k (access.Look page) answer held = held
-held_after k (access.Load word) answer held = held
-held_after k (access.Store word value) answer held = held
-held_after k (access.Swap word value) answer held = held
-held_after k (access.FetchAdd word value) answer held = held
-held_after k (access.FetchOr word value) answer held = held
-held_after k (access.FetchAnd word value) answer held = held
+-- The supervisor stack that a thread holds after an access with these changes: the gate's first exchange takes it where the
+-- token is free, and the gate's last exchange gives it back.
+abbrev pub held_after : List Change → Option ℕ → Option ℕ
+held_after [] held = held
+held_after (Busied k ∷ changes) held = held_after changes (Some k)
+held_after (Freed k ∷ changes) held = held_after changes None
+held_after (Called back ∷ changes) held = held_after changes held
+held_after (Returned ∷ changes) held = held_after changes held
+held_after (Raised count ∷ changes) held = held_after changes held
+held_after (Acquired at ∷ changes) held = held_after changes held
+held_after (Released ∷ changes) held = held_after changes held
+held_after (Claimed start pages maker ∷ changes) held = held_after changes held
+held_after (Seeded start blanks ∷ changes) held = held_after changes held
+held_after (Born child start ∷ changes) held = held_after changes held
+held_after (Pushed restorer ∷ changes) held = held_after changes held
+held_after (Popped ∷ changes) held = held_after changes held
+held_after (Ended ∷ changes) held = held_after changes held
+
+-- the changes that come with the next access of a thread
+abbrev pub next_changes : JobData → Core → (answer : ℕ) → List Change
+next_changes job core answer = changes_at (row job (unheld core.arch)) core.seen.count core.seen.kept answer
+
+abbrev pub next_held : JobData → Core → (answer : ℕ) → Option ℕ
+next_held job core answer = held_after (next_changes job core answer) core.arch.held
 
 -- the child of a clone: the parent's registers after SYSCALL with RAX 0 and the stack of RSI, and its own shadow stack
 abbrev pub child_arch : Arch → (child start : ℕ) → Arch
@@ -155,9 +164,9 @@ noted_by arch (Over Stopped left values) = None
 -- what the answer to a wanted access leaves
 abbrev pub answered : JobData → Core → (answer : ℕ) → Came Finish → After
 answered job core answer (Wants a) = record {
-  core = core_by job core.arch (held_after (stack_of job core.arch) a answer core.arch.held) (seen_after core.seen a answer) (come job core.arch (seen_after core.seen a answer));
+  core = core_by job core.arch (next_held job core answer) (seen_after core.seen a answer) (come job core.arch (seen_after core.seen a answer));
   noted = noted_by core.arch (come job core.arch (seen_after core.seen a answer));
-  child = child_of core.arch (changes_at (row job (unheld core.arch)) core.seen.count core.seen.kept answer);
+  child = child_of core.arch (next_changes job core answer);
 }
 answered job core answer (Faulted e) = record { core = core; noted = None; child = None }
 answered job core answer (Over x left values) = record { core = core; noted = None; child = None }

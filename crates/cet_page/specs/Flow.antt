@@ -63,7 +63,7 @@ abbrev pub call_relative : Arch → ℤ → (next : ℕ) → Row
 call_relative arch disp next =
     if cast_unsigned w64 disp == 0 then call_next arch next else call arch next (relative next disp)
 
--- an indirect call or jump is tested before anything is written
+-- the target of an indirect call or jump is canonical, which is tested before anything is written
 abbrev pub call_to : Arch → (back target : ℕ) → Row
 call_to arch back target = if canonical target then call arch back target else fault general_protection
 

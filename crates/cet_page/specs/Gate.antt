@@ -1,4 +1,4 @@
--- The gate into the kernel, the service exit, and the kill. Source: Intel SDM volume 1 (supervisor shadow-stack tokens,
+-- The gate into the kernel, its services, and the kill. Source: Intel SDM volume 1 (supervisor shadow-stack tokens,
 -- SETSSBSY and CLRSSBSY) for the token; Linux for the calls' numbers and errors; the fixed order is own.
 use Rattle.std.specs.Prelude.{ℕ, ◌+◌, ◌-◌, ◌*◌, ◌/◌, ◌%◌, ◌^◌, List, [], ◌∷◌, ◌++◌, Option, Some, None, ◌==◌, if◌then◌else◌, slice_set}
 use Rattle.cet_words.specs.Layout.{entry_word}

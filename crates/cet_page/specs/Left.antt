@@ -9,8 +9,7 @@ use Rattle.cet_isa.specs.declared.threads.End.TheVariants as ending
 use Rattle.cet_page.specs.Script.{Came, Over, Faulted, Wants}
 use Rattle.cet_page.specs.Seen.{Seen, nothing_seen, seen_after}
 use Rattle.cet_page.specs.Row.{row}
-use Rattle.cet_page.specs.Core.{Core, unheld, come, held_after, kept_by, faulted, core_by, answered, taken}
-use Rattle.cet_page.specs.Gate.{stack_of}
+use Rattle.cet_page.specs.Core.{Core, unheld, come, next_held, kept_by, faulted, core_by, answered, taken}
 use Rattle.cet_page.specs.Orderly.{OnOver, spent_fits, over_play}
 use Rattle.cet_page.specs.OrderlyRows.{Ends, orderly_row}
 use Rattle.cet_page.specs.Within.{Waits}
@@ -39,7 +38,7 @@ falls_answered : (job : JobData) (core : Core) (answer : ℕ) → Waits job core
 falls_answered job core answer h (Wants b) a w =
     let seen = seen_after core.seen b answer in
     let r = spent_fits _ false (row job (unheld core.arch)) 4096 31 core.seen.count core.seen.kept h.waits.0 (orderly_row job (unheld core.arch)) h.spent h.waits.1 in
-    falls_by job core.arch (held_after (stack_of job core.arch) b answer core.arch.held) seen core.seen.count h.count r.0 refl (come job core.arch seen) (over_play (Ends (unheld core.arch)) false (row job (unheld core.arch)) 4096 31 seen.count seen.kept (orderly_row job (unheld core.arch)))
+    falls_by job core.arch (next_held job core answer) seen core.seen.count h.count r.0 refl (come job core.arch seen) (over_play (Ends (unheld core.arch)) false (row job (unheld core.arch)) 4096 31 seen.count seen.kept (orderly_row job (unheld core.arch)))
 falls_answered job core answer h (Faulted f) a w = cc
 falls_answered job core answer h (Over x left values) a w = cc
 

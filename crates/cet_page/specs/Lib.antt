@@ -20,3 +20,4 @@ pub mod Faults
 pub mod Within
 pub mod Machine
 pub mod Left
+pub mod Gated

@@ -55,7 +55,7 @@ byte_count size.Qword = 8
 abbrev pub bytes_at : (addr count word : ℕ) → ℕ
 bytes_at addr count word = word / 2 ^ (8 * (addr % 8)) % 2 ^ (8 * count)
 
--- the load of the word that holds an address
+-- the tests, the look and the load of the word that holds an address
 unfoldable pub load_word : (addr count : ℕ) → Script ℕ
 load_word addr count = do
   _ ← tested addr count
@@ -89,14 +89,14 @@ read_operand arch s (operand.Mem m) next = load_at (effective arch m next) (byte
 
 -- ---- what an instruction leaves
 
--- registers, RIP and RFLAGS, and the value and RFLAGS in the record
+-- registers, RIP and RFLAGS, with one record more, which tells the value and RFLAGS
 abbrev pub stepped : Arch → (regs : List ℕ) → (next flags value : ℕ) → Arch × Record
 stepped arch regs next flags value = (
   record arch { regs = regs; rip = next; flags = flags; count = arch.count + 1 },
   record { rip = arch.rip; what = what.Step; code = 0; a = value; b = flags },
 )
 
--- a register gets a value; the upper half is clear after a 32-bit one
+-- a register gets a value, which for a 32-bit operation is below 2 ^ 32
 abbrev pub assigned : Arch → Reg → (value next : ℕ) → Arch × Record
 assigned arch r value next = stepped arch (with_register arch r value) next arch.flags value
 

@@ -33,7 +33,7 @@ who_allows who.Supervisor entry = bit_and entry 4 == 0
 abbrev pub allows : ℕ → Kind → Who → Bool
 allows entry k w = has entry 1 && who_allows w entry && kind_allows k entry
 
--- I 16 for a fetch, W 2 for stores, SS 64 for shadow accesses
+-- I 16 for a fetch, W 2 for stores and shadow stores, SS 64 for shadow accesses
 abbrev pub kind_code : Kind → ℕ
 kind_code kind.Fetch = 16
 kind_code kind.Load = 0
@@ -55,6 +55,6 @@ page_fault entry k w addr =
 abbrev pub checked : ℕ → Kind → Who → ℕ → Result (Unit {0}) Fault
 checked entry k w addr = if allows entry k w then Ok tt else Err (page_fault entry k w addr)
 
--- the index of an address in the last table of pages: bits 20 to 12 (Intel SDM volume 3, 4-level paging)
+-- the index of an address in its page table: bits 20 to 12 (Intel SDM volume 3, 4-level paging)
 abbrev pub index_at : ℕ → ℕ
 index_at addr = addr / 4096 % 512

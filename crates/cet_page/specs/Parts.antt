@@ -29,7 +29,8 @@ tested addr size =
     then (if addr % size == 0 then done tt else fault (misaligned addr))
     else fault general_protection
 
--- the look at a page and the page check, with the page's number as result; no page has entry 0, and costs no access
+-- the look at a page and the page check, with the page's number as result; an address on no page counts as entry 0 and costs
+-- no access
 unfoldable pub look_in : Option ℕ → Kind → Who → (addr : ℕ) → Script ℕ
 look_in None k w addr = fault (page_fault 0 k w addr)
 look_in (Some page) k w addr =

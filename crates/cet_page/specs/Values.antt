@@ -1,7 +1,6 @@
 -- What the operations compute: a value and the status flags. Source: Intel SDM volume 1 (EFLAGS register, status flags) and the
 -- pages of volume 2; own are that flags which the manual leaves undefined are 0, and SF of IMUL too.
-use Rattle.std.proofs.Common.{zero, suc}
-use Rattle.std.specs.Prelude.{ℕ, ◌+◌, ◌-◌, ◌*◌, ◌/◌, ◌%◌, ◌^◌, ◌==◌, ◌&&◌, Bool, true, false, not, nat_le, nat_lt, if◌then◌else◌, bit_and, bit_or, bit_xor, count_ones, ℤ, pos, neg_ℤ, ◌+ℤ◌, ◌-ℤ◌, ◌*ℤ◌, int_le, int_lt}
+use Rattle.std.specs.Prelude.{ℕ, ◌+◌, ◌-◌, ◌*◌, ◌/◌, ◌%◌, ◌^◌, ◌==◌, ◌&&◌, Bool, false, not, nat_le, nat_lt, bit_and, bit_or, bit_xor, count_ones, ℤ, pos, neg_ℤ, ◌+ℤ◌, ◌-ℤ◌, ◌*ℤ◌, int_le, int_lt}
 use Rattle.std.specs.Int.{Width, w32, w64, cast_unsigned, cast_signed, int_shr}
 use Rattle.cet_isa.specs.declared.instructions.AluOp.{AluOp}
 use Rattle.cet_isa.specs.declared.instructions.AluOp.TheVariants as ops
@@ -41,7 +40,7 @@ signed s x = cast_signed (width s) x
 abbrev pub in_signed_range : Size → ℤ → Bool
 in_signed_range s z = int_le (neg_ℤ (pos (half s))) z && int_lt z (pos (half s))
 
--- ---- status flags of a result: PF is the parity of the low byte, SF the top bit
+-- ---- status flags of a result: PF tells that the low byte has an even number of ones, SF is the most significant bit
 
 abbrev pub computed : Size → (value : ℕ) → (carry overflow : Bool) → Computed
 computed s value carry overflow = record {

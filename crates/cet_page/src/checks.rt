@@ -92,7 +92,7 @@ pub fn check(entry: u64, kind: Kind, who: Who, addr: u64) -> Result<(), Fault>
     }
 }
 
-/// The index of an address in the last table of its page walk: bits 20 to 12.
+/// The index of an address in its page table: bits 20 to 12.
 pub fn index_of(addr: u64) -> u16
     ensures { result ≡ index_at addr }
 {
