@@ -1,0 +1,106 @@
+//! Moves and addresses (Intel SDM volume 2).
+
+ghost use Rattle.std.specs.Prelude.{◌≡◌, ◌-◌, ◌%◌, ◌^◌, ◌<◌};
+ghost use Rattle.cet_page.specs.Script.{play};
+ghost use Rattle.cet_page.specs.Plays.{Comes};
+ghost use Rattle.cet_page.specs.Operands.{effective, assigned};
+ghost use Rattle.cet_page.specs.Values.{limit};
+ghost use Rattle.cet_page.specs.Arithmetic.{move, move_zero, move_sign, move_if};
+
+use cet_isa::{Arch, Cond, Mem, Operand, Record, Reg, Size};
+use cet_page::{
+    Cursor, StatusFlags, Stop, assigned, effective, invalid_opcode, register_of, stepped, truncated,
+};
+
+/// MOV to a register, or of 64 bits to memory.
+#[tactic(auto, using(cet_page::specs::Script::play_bind, crate::proofs::MoveCases::move_register, crate::proofs::MoveCases::move_memory, crate::proofs::MoveCases::move_no_half, crate::proofs::MoveCases::move_nowhere))]
+pub fn mov(
+    arch: &Arch,
+    size: Size,
+    dst: Operand,
+    src: Operand,
+    next: u64,
+    at: &mut Cursor,
+) -> Result<(Arch, Record), Stop>
+    requires { arch.now.count < 2 ^ 32 - 1 }
+    ensures { Comes (play (move arch.now size dst src next) at.old.left at.old.rest.now) result at.new.left at.new.rest.now }
+{
+    match (size, dst) {
+        (_, Operand::Reg(reg)) => {
+            let value = at.read_operand(arch, size, src, next)?;
+            Ok(assigned(arch, reg, value, next))
+        }
+        (Size::Qword, Operand::Mem(mem)) => {
+            let value = at.read_operand(arch, Size::Qword, src, next)?;
+            at.store_at(effective(arch, mem, next), value)?;
+            Ok(stepped(arch, arch.regs, next, arch.flags, value))
+        }
+        _ => Err(invalid_opcode()),
+    }
+}
+
+/// MOVZX of a byte.
+#[tactic(auto, using(cet_page::specs::Script::play_bind), unfolding(cet_page::specs::Arithmetic::move_zero))]
+pub fn move_zero(
+    arch: &Arch,
+    reg: Reg,
+    mem: Mem,
+    next: u64,
+    at: &mut Cursor,
+) -> Result<(Arch, Record), Stop>
+    requires { arch.now.count < 2 ^ 32 - 1 }
+    ensures { Comes (play (move_zero arch.now reg mem next) at.old.left at.old.rest.now) result at.new.left at.new.rest.now }
+{
+    let value = at.load_byte(effective(arch, mem, next))?;
+    Ok(assigned(arch, reg, value, next))
+}
+
+/// MOVSXD of 32 bits.
+#[tactic(auto, using(cet_page::specs::Script::play_bind), unfolding(cet_page::specs::Arithmetic::move_sign))]
+pub fn move_sign(
+    arch: &Arch,
+    reg: Reg,
+    src: Operand,
+    next: u64,
+    at: &mut Cursor,
+) -> Result<(Arch, Record), Stop>
+    requires { arch.now.count < 2 ^ 32 - 1 }
+    ensures { Comes (play (move_sign arch.now reg src next) at.old.left at.old.rest.now) result at.new.left at.new.rest.now }
+{
+    let value = at.read_operand(arch, Size::Dword, src, next)?;
+    let extended = i64::from((value as u32).cast_signed()).cast_unsigned();
+    Ok(assigned(arch, reg, extended, next))
+}
+
+/// CMOVcc. It reads its operand, and clears the upper half of a 32-bit register, also where the
+/// condition fails.
+#[tactic(auto, using(cet_page::specs::Script::play_bind), unfolding(cet_page::specs::Arithmetic::move_if))]
+pub fn move_if(
+    arch: &Arch,
+    cond: Cond,
+    size: Size,
+    reg: Reg,
+    src: Operand,
+    next: u64,
+    at: &mut Cursor,
+) -> Result<(Arch, Record), Stop>
+    requires { arch.now.count < 2 ^ 32 - 1 }
+    ensures { Comes (play (move_if arch.now cond size reg src next) at.old.left at.old.rest.now) result at.new.left at.new.rest.now }
+{
+    let value = at.read_operand(arch, size, src, next)?;
+    let moved = if StatusFlags::of(arch.flags).holds(cond) {
+        value
+    } else {
+        register_of(arch, size, reg)
+    };
+    Ok(assigned(arch, reg, moved, next))
+}
+
+/// LEA.
+pub fn load_address(arch: &Arch, size: Size, reg: Reg, mem: Mem, next: u64) -> (Arch, Record)
+    requires { arch.now.count < 2 ^ 32 - 1 }
+    ensures { result ≡ assigned arch.now reg (effective arch.now mem next % limit size) next }
+{
+    let addr = effective(arch, mem, next);
+    assigned(arch, reg, truncated(size, addr), next)
+}

@@ -1,0 +1,61 @@
+//! The instructions by their names.
+
+ghost use Rattle.std.specs.Prelude.{◌-◌, ◌^◌, ◌<◌};
+ghost use Rattle.cet_page.specs.Script.{play};
+ghost use Rattle.cet_page.specs.Plays.{Comes};
+ghost use Rattle.cet_page.specs.Arithmetic.{arithmetic};
+
+use crate::locked::{lock_cmpxchg, lock_xadd, xchg};
+use crate::moves::{load_address, mov, move_if, move_sign, move_zero};
+use crate::operations::{
+    alu, decrement, increment, invert, multiply, negate, set_carry, shift_left, shift_right,
+    shift_signed, test,
+};
+use cet_isa::{Arch, Instr, Record};
+use cet_page::{Cursor, Stop, assigned, invalid_opcode, stepped};
+
+/// What an instruction of this crate comes to over the accesses that were made: the state after it and
+/// its record, an access that it wants, or a fault. `next` is the address of the next instruction. Every
+/// other instruction is an invalid opcode.
+pub fn follow(
+    arch: &Arch,
+    instr: &Instr,
+    next: u64,
+    at: &mut Cursor,
+) -> Result<(Arch, Record), Stop>
+    requires { arch.now.count < 2 ^ 32 - 1 }
+    ensures { Comes (play (arithmetic arch.now instr.now next) at.old.left at.old.rest.now) result at.new.left at.new.rest.now }
+{
+    match *instr {
+        Instr::Alu { op, size, dst, src } => alu(arch, op, size, dst, src, next, at),
+        Instr::Test { size, dst, src } => test(arch, size, dst, src, next, at),
+        Instr::Mov { size, dst, src } => mov(arch, size, dst, src, next, at),
+        Instr::MovWide { dst, value } => Ok(assigned(arch, dst, value, next)),
+        Instr::MovZero8 { dst, src } => move_zero(arch, dst, src, next, at),
+        Instr::MovSign32 { dst, src } => move_sign(arch, dst, src, next, at),
+        Instr::Lea { size, dst, src } => Ok(load_address(arch, size, dst, src, next)),
+        Instr::Xchg { dst, reg } => xchg(arch, dst, reg, next, at),
+        Instr::LockXadd { mem, reg } => lock_xadd(arch, mem, reg, next, at),
+        Instr::LockCmpxchg { mem, reg } => lock_cmpxchg(arch, mem, reg, next, at),
+        Instr::Inc { size, reg } => Ok(increment(arch, size, reg, next)),
+        Instr::Dec { size, reg } => Ok(decrement(arch, size, reg, next)),
+        Instr::Not { size, reg } => Ok(invert(arch, size, reg, next)),
+        Instr::Neg { size, reg } => Ok(negate(arch, size, reg, next)),
+        Instr::Imul { size, dst, src } => multiply(arch, size, dst, src, next, at),
+        Instr::Shl { size, reg, count } => Ok(shift_left(arch, size, reg, count, next)),
+        Instr::Shr { size, reg, count } => Ok(shift_right(arch, size, reg, count, next)),
+        Instr::Sar { size, reg, count } => Ok(shift_signed(arch, size, reg, count, next)),
+        Instr::Cmov {
+            cond,
+            size,
+            dst,
+            src,
+        } => move_if(arch, cond, size, dst, src, next, at),
+        Instr::Nop | Instr::Pause | Instr::Endbr64 => {
+            Ok(stepped(arch, arch.regs, next, arch.flags, 0))
+        }
+        Instr::Stc => Ok(set_carry(arch, true, next)),
+        Instr::Clc => Ok(set_carry(arch, false, next)),
+        _ => Err(invalid_opcode()),
+    }
+}
