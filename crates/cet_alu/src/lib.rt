@@ -10,4 +10,4 @@ mod operations;
 mod rows;
 mod values;
 
-pub use rows::follow;
+pub use rows::{follow, next};

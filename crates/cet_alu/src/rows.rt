@@ -1,8 +1,9 @@
 //! The instructions by their names.
 
-ghost use Rattle.std.specs.Prelude.{◌-◌, ◌^◌, ◌<◌};
+ghost use Rattle.std.specs.Prelude.{◌≡◌, ◌-◌, ◌^◌, ◌<◌};
 ghost use Rattle.cet_page.specs.Script.{play};
-ghost use Rattle.cet_page.specs.Plays.{Comes};
+ghost use Rattle.cet_page.specs.Plays.{Comes, next_of};
+ghost use Rattle.cet_page.specs.Row.{next_address};
 ghost use Rattle.cet_page.specs.Arithmetic.{arithmetic};
 
 use crate::locked::{lock_cmpxchg, lock_xadd, xchg};
@@ -12,7 +13,8 @@ use crate::operations::{
     shift_signed, test,
 };
 use cet_isa::{Arch, Instr, Record};
-use cet_page::{Cursor, Stop, assigned, invalid_opcode, stepped};
+use cet_page::{Cursor, Next, Stop, Vals, assigned, invalid_opcode, next_address, stepped};
+use cet_words::Job;
 
 /// What an instruction of this crate comes to over the accesses that were made: the state after it and
 /// its record, an access that it wants, or a fault. `next` is the address of the next instruction. Every
@@ -58,4 +60,15 @@ pub fn follow(
         Instr::Clc => Ok(set_carry(arch, false, next)),
         _ => Err(invalid_opcode()),
     }
+}
+
+/// What an instruction of this crate does next, after the accesses that were made and the values kept of
+/// them: its next access, its result with the record, or its fault. The address of the next instruction
+/// is that after the instruction at RIP.
+#[tactic(auto, using(cet_page::specs::Plays::next_is))]
+pub fn next(job: &Job, arch: &Arch, vals: &Vals, instr: &Instr) -> Next
+    requires { arch.now.count < 2 ^ 32 - 1 }
+    ensures { result ≡ next_of (play (arithmetic arch.now instr.now (next_address job.now arch.now)) vals.now.count vals.now.kept) }
+{
+    Next::of(follow(arch, instr, next_address(job, arch), &mut vals.start()))
 }

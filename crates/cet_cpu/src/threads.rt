@@ -7,12 +7,15 @@ ghost use Rattle.cet_isa.specs.declared.threads.End.{End};
 ghost use Rattle.cet_isa.specs.declared.threads.FaultName.{FaultName};
 ghost use Rattle.cet_page.specs.Faults.{Faults};
 ghost use Rattle.cet_page.specs.Within.{IsCore};
-ghost use Rattle.cet_page.specs.Core.{core_at, first_core, next_access, taken, held_after, unheld, kept_by, recorded, fault_record, faulted};
+ghost use Rattle.cet_page.specs.Gate.{stack_of};
+ghost use Rattle.cet_page.specs.Gated.{gate_held, enters_kernel};
+ghost use Rattle.cet_page.specs.Core.{core_at, first_core, next_access, taken, unheld, kept_by, recorded, fault_record, faulted};
 
 use crate::gate::{stack_of, token, token_word};
 use crate::rows::row;
-use cet_isa::{Arch, End, Fault, Record, What};
-use cet_page::{Finish, Stop, Vals};
+use cet_decode::Decoded;
+use cet_isa::{Arch, End, Fault, Instr, Record, What};
+use cet_page::{Finish, Stop, Vals, fetch, read};
 use cet_words::{Access, Job};
 use std::marker::Model;
 
@@ -83,21 +86,40 @@ fn unheld(arch: &Arch) -> Arch
     bare
 }
 
-/// The supervisor stack that a thread holds after an access, where k is that of its processor.
-fn held_after(k: u8, access: Access, answer: u64, held: Option<u8>) -> Option<u8>
-    requires { k < 8 }
-    ensures { result ≡ held_after k access answer held }
+/// Whether the row of a thread goes through the gate into the kernel: that of a due fault, and SYSCALL.
+fn enters_kernel(job: &Job, arch: &Arch) -> bool
+    ensures { result ≡ enters_kernel job.now arch.now }
+{
+    if arch.due.is_some() {
+        return true;
+    }
+    let mut buffer = [0u8; 15];
+    let fetched = fetch(job.image, arch.rip, &mut buffer);
+    matches!(
+        read(&buffer[..fetched]),
+        Decoded::Ok {
+            instr: Instr::Syscall,
+            ..
+        }
+    )
+}
+
+/// The supervisor stack that a thread holds after an access. The gate's exchanges alone change it: the
+/// first, where it finds the token free, takes the stack, and the last gives it back.
+fn held_after(job: &Job, arch: &Arch, access: Access, answer: u64) -> Option<u8>
+    ensures { result ≡ gate_held (enters_kernel job.now arch.now) (stack_of job.now arch.now) access answer arch.now.held }
 {
     let Access::CompareExchange(word, expected, _) = access else {
-        return held;
+        return arch.held;
     };
-    if word != token_word(k) {
-        return held;
+    let k = stack_of(job, arch);
+    if word != token_word(k) || !enters_kernel(job, arch) {
+        return arch.held;
     }
     if expected != token(k) {
         return None;
     }
-    if answer == token(k) { Some(k) } else { held }
+    if answer == token(k) { Some(k) } else { arch.held }
 }
 
 fn kept_by(arch: &Arch, held: Option<u8>, next: &Arch) -> Arch
@@ -196,7 +218,7 @@ impl Cpu {
         ensures noted { result ≡ (taken job.now self.old answer).noted }
     {
         let access = self.next(job)?;
-        let held = held_after(stack_of(job, &self.arch), access, answer, self.arch.held);
+        let held = held_after(job, &self.arch, access, answer);
         self.vals.add(access, answer);
         let arch = self.arch;
         match row(job, &unheld(&arch), &mut self.vals.start()) {
