@@ -5,23 +5,18 @@ use Rattle.cet_words.specs.Change.{Change}
 use Rattle.cet_words.specs.Job.{JobData}
 use Rattle.cet_words.specs.declared.accesses.Access.{Access}
 use Rattle.cet_book.specs.Book.{Book, first_book, book_after}
-use Rattle.cet_page.specs.Core.{Core, next_access, unheld}
+use Rattle.cet_page.specs.Core.{next_access, next_changes}
 use Rattle.cet_page.specs.Machine.{Machine, Thread, step}
-use Rattle.cet_page.specs.Row.{row}
-use Rattle.cet_page.specs.Script.{changes_at}
 
 -- a change of the book, and the thread that made it
 pub record Event : Type 0 where
   pub thread : ℕ
   pub change : Change
 
--- the changes that come with a thread's next access, where it gives this answer
-abbrev pub changes_of : JobData → Core → (answer : ℕ) → List Change
-changes_of job core answer = changes_at (row job (unheld core.arch)) core.seen.count core.seen.kept answer
-
+-- the changes of an access of a thread
 abbrev pub access_changes : JobData → Machine → Thread → Option Access → List Change
 access_changes job m thread None = []
-access_changes job m thread (Some a) = changes_of job thread.core (answer m.words a)
+access_changes job m thread (Some a) = next_changes job thread.core (answer m.words a)
 
 abbrev pub thread_changes : JobData → Machine → Option Thread → List Change
 thread_changes job m None = []

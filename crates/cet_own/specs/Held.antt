@@ -1,12 +1,11 @@
 -- The field held of a thread is the supervisor stack that the book says. Source: own.
-use Rattle.std.proofs.Common.{◌≡◌, ◌≢◌, ℕ, ◌+◌, ◌<◌, inl, inr, true, false, List, [], ◌∷◌, length, Option, Some, None, refl, sym, ◌∙◌, ap, subst, arith}
-use Rattle.std.specs.Prelude.{◌==◌, ◌↔◌}
-use Rattle.std.proofs.lemmas.Bool.Decides.{eqb_tells, nat_tests}
+use Rattle.std.proofs.Common.{◌≡◌, ℕ, ◌<◌, inl, inr, List, [], ◌∷◌, length, Option, Some, None, refl, sym, ◌∙◌, ap, subst, arith}
+use Rattle.std.specs.Prelude.{◌↔◌}
+use Rattle.std.proofs.lemmas.Bool.Decides.{eqb_tells}
 use Rattle.cet_words.specs.Access.{answer}
 use Rattle.cet_words.specs.Job.{ImageData}
 use Rattle.cet_words.specs.Change.{Change, Called, Returned, Ended, Busied, Freed}
 use Rattle.cet_words.specs.declared.accesses.Access.{Access}
-use Rattle.cet_words.specs.declared.accesses.Access.TheVariants as access
 use Rattle.cet_book.specs.Book.{Call, Lost, Book, region, stack_of, put_stack, relist, returned, book_after, books_after}
 use Rattle.cet_book.specs.Shape.{StackShape}
 use Rattle.cet_book.specs.Hand.{hand}
@@ -14,7 +13,6 @@ use Rattle.cet_book.specs.Removes.{returned_is, shortened}
 use Rattle.cet_book.specs.Supervisor.{stack_of-put_stack}
 use Rattle.cet_book.specs.Ways.{with_current_at, called_way, ended_way, freed_way, busied_way}
 use Rattle.cet_page.specs.Core.{held_after}
-use Rattle.cet_page.specs.Gate.{token, token_word}
 use Rattle.cet_own.specs.Holds.{Holds}
 use Rattle.cet_own.specs.Standing.{Free}
 use Rattle.cet_own.specs.Classes.{Owed, looks, loads, stores, exchanges, swaps, adds, clears, pushes, pops, refused, enters, leaves, exits}
@@ -50,81 +48,43 @@ held_given t k b inside s held j =
       ],
     )
 
-held_refused : (k value v : ℕ) (held : Option ℕ) → v ≢ token k → held_after k (access.CompareExchange (token_word k) (token k) value) v held ≡ held
-held_refused k value v held n =
-    let a : (token_word k == token_word k) ≡ true = grind (arith, nat_tests) in
-    let b : (token k == token k) ≡ true = grind (arith, nat_tests) in
-    let c : (v == token k) ≡ false = grind (arith, nat_tests) in
-    rw (a, b, c) refl
+-- an access without changes
+held_still : (t : ℕ) (b next : Book) (changes : List Change) (held : Option ℕ) → changes ≡ [] → books_after t b changes ≡ Some next → Held t b held → Held t next (held_after changes held)
+held_still t b next changes held ev q old = subst (λ cs. Held t next (held_after cs held)) (sym ev) (subst (λ n. Held t n held) (same_book t b next changes ev q) old)
 
-held_enters : (k value v : ℕ) (held : Option ℕ) → v ≡ token k → held_after k (access.CompareExchange (token_word k) (token k) value) v held ≡ Some k
-held_enters k value v held e =
-    let a : (token_word k == token_word k) ≡ true = grind (arith, nat_tests) in
-    let b : (token k == token k) ≡ true = grind (arith, nat_tests) in
-    let c : (v == token k) ≡ true = grind (arith, nat_tests) in
-    rw (a, b, c) refl
-
-held_leaves : (k v : ℕ) (held : Option ℕ) → held_after k (access.CompareExchange (token_word k) (token k + 1) (token k)) v held ≡ None
-held_leaves k v held =
-    let a : (token_word k == token_word k) ≡ true = grind (arith, nat_tests) in
-    let n : token k + 1 ≢ token k = omega arith in
-    let b : (token k + 1 == token k) ≡ false = grind (arith, nat_tests) in
-    rw (a, b) refl
-
-held_out : (k word expected value v : ℕ) (held : Option ℕ) → token_word k ≢ word → held_after k (access.CompareExchange word expected value) v held ≡ held
-held_out k word expected value v held n = let a : (word == token_word k) ≡ false = grind (arith, nat_tests) in rw a refl
-
-pub held_kept : (image : ImageData) (t k : ℕ) (words : List ℕ) (b next : Book) (a : Access) (changes : List Change) (held : Option ℕ) → k < 8 → Owed t k b a (answer words a) changes → books_after t b changes ≡ Some next → Holds image words b → Held t b held → Held t next (held_after k a (answer words a) held)
-held_kept image t k words b next a changes held l (looks page e ev) q h old =
-    subst (λ c. Held t next (held_after k c (answer words c) held)) (sym e) (subst (λ n. Held t n held) (same_book t b next changes ev q) old)
-held_kept image t k words b next a changes held l (loads word e ev) q h old =
-    subst (λ c. Held t next (held_after k c (answer words c) held)) (sym e) (subst (λ n. Held t n held) (same_book t b next changes ev q) old)
-held_kept image t k words b next a changes held l (stores word value e out ev) q h old =
-    subst (λ c. Held t next (held_after k c (answer words c) held)) (sym e) (subst (λ n. Held t n held) (same_book t b next changes ev q) old)
-held_kept image t k words b next a changes held l (exchanges word expected value e out ev) q h old =
-    subst (λ c. Held t next (held_after k c (answer words c) held)) (sym e)
-    (subst (Held t next) (sym (held_out k word expected value (answer words (access.CompareExchange word expected value)) held (out.token k l)))
-    (subst (λ n. Held t n held) (same_book t b next changes ev q) old))
-held_kept image t k words b next a changes held l (swaps word value e out ev) q h old =
-    subst (λ c. Held t next (held_after k c (answer words c) held)) (sym e) (subst (λ n. Held t n held) (same_book t b next changes ev q) old)
-held_kept image t k words b next a changes held l (adds word value e out ev) q h old =
-    subst (λ c. Held t next (held_after k c (answer words c) held)) (sym e) (subst (λ n. Held t n held) (same_book t b next changes ev q) old)
-held_kept image t k words b next a changes held l (clears page e lo hi ev) q h old =
-    subst (λ c. Held t next (held_after k c (answer words c) held)) (sym e) (subst (λ n. Held t n held) (same_book t b next changes ev q) old)
-held_kept image t k words b next a changes held l (pushes m back current e room is_return ev) q h old =
+pub held_kept : (image : ImageData) (t k : ℕ) (words : List ℕ) (b next : Book) (a : Access) (changes : List Change) (held : Option ℕ) → Owed t k b a (answer words a) changes → books_after t b changes ≡ Some next → Holds image words b → Held t b held → Held t next (held_after changes held)
+held_kept image t k words b next a changes held (looks page e ev) q h old = held_still t b next changes held ev q old
+held_kept image t k words b next a changes held (loads word e ev) q h old = held_still t b next changes held ev q old
+held_kept image t k words b next a changes held (stores word value e out ev) q h old = held_still t b next changes held ev q old
+held_kept image t k words b next a changes held (exchanges word expected value e out ev) q h old = held_still t b next changes held ev q old
+held_kept image t k words b next a changes held (swaps word value e out ev) q h old = held_still t b next changes held ev q old
+held_kept image t k words b next a changes held (adds word value e out ev) q h old = held_still t b next changes held ev q old
+held_kept image t k words b next a changes held (clears page e lo hi ev) q h old = held_still t b next changes held ev q old
+held_kept image t k words b next a changes held (refused value l e n ev) q h old = held_still t b next changes held ev q old
+held_kept image t k words b next a changes held (pushes m back current e room is_return ev) q h old =
     let o = own t m h current in
     let r : book_after t b (Called back) ≡ Some next = one_book t b next (Called back) changes ev q in
     let fits = (h.sound.book.shape.fits m).room in
     let d : relist m (Call back ∷ (region b m).entries) b ≡ next = (let way = called_way o back (omega arith) in cc) in
-    subst (λ c. Held t next (held_after k c (answer words c) held)) (sym e) (subst (λ n. Held t n held) d old)
-held_kept image t k words b next a changes held l (pops m word current e ev) q h old =
+    subst (λ cs. Held t next (held_after cs held)) (sym ev) (subst (λ n. Held t n held) d old)
+held_kept image t k words b next a changes held (pops m word current e ev) q h old =
     let o = own t m h current in
     let r : book_after t b Returned ≡ Some next = one_book t b next Returned changes ev q in
     let r' : returned m (region b m).entries b ≡ Some next = sym (with_current_at o (λ m r. returned m r.entries b)) ∙ r in
     let s = shortened o (returned_is next (region b m).entries o refl r') in
-    subst (λ c. Held t next (held_after k c (answer words c) held)) (sym e) (held_stacks t b next held s.stacks old)
-held_kept image t k words b next a changes held l (refused value l' e n ev) q h old =
-    let n' : answer words (access.CompareExchange (token_word k) (token k) value) ≢ token k = λ z. n (ap (answer words) e ∙ z) in
-    subst (λ c. Held t next (held_after k c (answer words c) held)) (sym e)
-    (subst (Held t next) (sym (held_refused k value (answer words (access.CompareExchange (token_word k) (token k) value)) held n'))
-    (subst (λ n. Held t n held) (same_book t b next changes ev q) old))
-held_kept image t k words b next a changes held l (enters l' e v free ev) q h old =
-    let found : answer words (access.CompareExchange (token_word k) (token k) (token k + 1)) ≡ token k = sym (ap (answer words) e) ∙ v in
+    subst (λ cs. Held t next (held_after cs held)) (sym ev) (held_stacks t b next held s.stacks old)
+held_kept image t k words b next a changes held (enters l e v free ev) q h old =
     let r : book_after t b (Busied k) ≡ Some next = one_book t b next (Busied k) changes ev q in
-    let none = stack_free k h l found in
+    let none = stack_free k h l (sym (ap (answer words) e) ∙ v) in
     let d : put_stack b k (Some t) ≡ next = (let way = busied_way t k b l none free in cc) in
     let eight = h.sound.book.stacks.eight in
-    subst (λ c. Held t next (held_after k c (answer words c) held)) (sym e)
-    (subst (Held t next) (sym (held_enters k (token k + 1) (answer words (access.CompareExchange (token_word k) (token k) (token k + 1))) held found))
-    (subst (λ n. Held t n (Some k)) d (held_taken t k b (omega arith) free)))
-held_kept image t k words b next a changes held l (leaves l' e holds ev) q h old =
+    subst (λ cs. Held t next (held_after cs held)) (sym ev) (subst (λ n. Held t n (Some k)) d (held_taken t k b (omega arith) free))
+held_kept image t k words b next a changes held (leaves l e holds ev) q h old =
     let r : book_after t b (Freed k) ≡ Some next = one_book t b next (Freed k) changes ev q in
     let d : put_stack b k None ≡ next = (let way = freed_way t k b holds in cc) in
     let eight = h.sound.book.stacks.eight in
-    subst (λ c. Held t next (held_after k c (answer words c) held)) (sym e)
-    (subst (Held t next) (sym (held_leaves k (answer words (access.CompareExchange (token_word k) (token k + 1) (token k))) held))
-    (subst (λ n. Held t n None) d (held_given t k b (omega arith) h.sound.book.stacks holds)))
-held_kept image t k words b next a changes held l (exits m l' e holds current ev) q h old =
+    subst (λ cs. Held t next (held_after cs held)) (sym ev) (subst (λ n. Held t n None) d (held_given t k b (omega arith) h.sound.book.stacks holds))
+held_kept image t k words b next a changes held (exits m l e holds current ev) q h old =
     let o = own t m h current in
     let r : books_after t b (Ended ∷ Freed k ∷ []) ≡ Some next = subst (λ cs. books_after t b cs ≡ Some next) ev q in
     let s = then_by t (book_after t b Ended) next (Freed k ∷ []) r in
@@ -132,8 +92,6 @@ held_kept image t k words b next a changes held l (exits m l' e holds current ev
     let same : s.0.stacks ≡ b.stacks = ap (λ (c : Book). c.stacks) (sym end) in
     let holds' : stack_of s.0 k ≡ Some t = ap (λ (c : Book). stack_of c k) (sym end) ∙ holds in
     let d : put_stack s.0 k None ≡ next = (let way = freed_way t k s.0 holds' in let r' = one_book t s.0 next (Freed k) (Freed k ∷ []) refl s.2 in cc) in
-    let eight = h.sound.book.stacks.eight in
-    let eight' : length s.0.stacks ≡ 8 = ap (λ (l : List (Option ℕ)). length l) same ∙ eight in
-    subst (λ c. Held t next (held_after k c (answer words c) held)) (sym e)
-    (subst (Held t next) (sym (held_leaves k (answer words (access.CompareExchange (token_word k) (token k + 1) (token k))) held))
-    (subst (λ n. Held t n None) d (held_given t k s.0 (omega arith) (subst StackShape (sym same) h.sound.book.stacks) holds')))
+    let eight : length s.0.stacks ≡ 8 = ap (λ (l : List (Option ℕ)). length l) same ∙ h.sound.book.stacks.eight in
+    subst (λ cs. Held t next (held_after cs held)) (sym ev)
+    (subst (λ n. Held t n None) d (held_given t k s.0 (omega arith) (subst StackShape (sym same) h.sound.book.stacks) holds'))

@@ -59,7 +59,7 @@ next_place job arch i len j e =
     (omega arith, omega arith)
 
 -- the number of a thread's supervisor stack
-pub stack_below : (job : JobData) (t : ℕ) → IsJob job → own_stack job t < 8
+stack_below : (job : JobData) (t : ℕ) → IsJob job → own_stack job t < 8
 stack_below job t j =
     let low = j.procs_low in
     let high = j.procs_high in

@@ -11,11 +11,10 @@ use Rattle.cet_page.specs.declared.finishes.Finish.{Finish}
 use Rattle.cet_page.specs.declared.finishes.Finish.TheVariants.{Noted, Posted, Exited, Stopped}
 use Rattle.cet_page.specs.Seen.{Seen, seen_after}
 use Rattle.cet_page.specs.Row.{row}
-use Rattle.cet_page.specs.Core.{Core, After, unheld, come, held_after, core_by, answered, taken, child_of}
+use Rattle.cet_page.specs.Core.{Core, After, unheld, come, next_changes, next_held, core_by, answered, taken, child_of}
 use Rattle.cet_page.specs.OrderlyRows.{Ends, orderly_row}
 use Rattle.cet_page.specs.Orderly.{Results}
 use Rattle.cet_page.specs.Within.{IsCore, taken_is}
-use Rattle.cet_own.specs.Event.{changes_of}
 use Rattle.cet_own.specs.Safe.{NotedReturns}
 use Rattle.cet_own.specs.Frame.{goes, on_came}
 use Rattle.cet_own.specs.Holds.{Holds}
@@ -26,14 +25,13 @@ use Rattle.cet_own.specs.Keeps.{keeps, others}
 use Rattle.cet_own.specs.Parts.{During, Fails}
 use Rattle.cet_own.specs.Calls.{entries_of}
 use Rattle.cet_own.specs.Calls as calls
-use Rattle.cet_own.specs.Rows.{stack_below}
 use Rattle.cet_own.specs.Stands.{Left, InRow, CoreStands, came_stands, after_book}
 
 -- what an access of thread t leads to
 pub record Led (job : JobData) (words : List ℕ) (t : ℕ) (s : State) (core : Core) (a : Access) : Type 0 where
   pub next : State
-  pub owed : Owed t (own_stack job t) s.book a (answer words a) (changes_of job core (answer words a))
-  pub is : books_after t s.book (changes_of job core (answer words a)) ≡ Some next.book
+  pub owed : Owed t (own_stack job t) s.book a (answer words a) (next_changes job core (answer words a))
+  pub is : books_after t s.book (next_changes job core (answer words a)) ≡ Some next.book
   pub holds : Holds job.image (after words a) next.book
   pub others : (y : ℕ) → t ≢ y → Relies y s.book next.book
   pub held : Held t next.book (taken job core (answer words a)).core.arch.held
@@ -43,8 +41,8 @@ pub record Led (job : JobData) (words : List ℕ) (t : ℕ) (s : State) (core : 
 -- the same where the thread's next access is known
 pub record LedBy (job : JobData) (words : List ℕ) (s : State) (core : Core) (a : Access) (left : After) : Type 0 where
   pub next : State
-  pub owed : Owed core.arch.number (own_stack job core.arch.number) s.book a (answer words a) (changes_of job core (answer words a))
-  pub is : books_after core.arch.number s.book (changes_of job core (answer words a)) ≡ Some next.book
+  pub owed : Owed core.arch.number (own_stack job core.arch.number) s.book a (answer words a) (next_changes job core (answer words a))
+  pub is : books_after core.arch.number s.book (next_changes job core (answer words a)) ≡ Some next.book
   pub holds : Holds job.image (after words a) next.book
   pub others : (y : ℕ) → core.arch.number ≢ y → Relies y s.book next.book
   pub held : Held core.arch.number next.book left.core.arch.held
@@ -60,12 +58,9 @@ held_by job arch held seen (Over (Posted next) left values) = refl
 held_by job arch held seen (Over (Exited next r status) left values) = refl
 held_by job arch held seen (Over Stopped left values) = refl
 
--- what a thread has seen after an access, what it holds, and what its row has come to
+-- what a thread has seen after an access, and what its row has come to
 abbrev pub seen_by : Core → List ℕ → Access → Seen
 seen_by core words a = seen_after core.seen a (answer words a)
-
-abbrev pub held_now : JobData → Core → List ℕ → Access → Option ℕ
-held_now job core words a = held_after (own_stack job core.arch.number) a (answer words a) core.arch.held
 
 abbrev pub come_to : JobData → Core → List ℕ → Access → Came Finish
 come_to job core words a = come job core.arch (seen_by core words a)
@@ -74,21 +69,21 @@ led_wants : (job : JobData) (j : IsJob job) (words : List ℕ) (s : State) (core
 led_wants job j words s core a h held r w is_core =
     let g = goes (rules job core.arch.number) (During (unheld core.arch)) (calls.Ends job (unheld core.arch)) (Fails job (unheld core.arch)) (Results (Ends (unheld core.arch))) false 4096 31 words r.before s
     (row job (unheld core.arch)) core.seen.count core.seen.kept a (orderly_row job (unheld core.arch)) r.left w (known job.image core.arch.number words s.book a h) in
-    let is = after_book core.arch.number s g.next (books_after core.arch.number s.book (changes_of job core (answer words a))) g.is in
+    let is = after_book core.arch.number s g.next (books_after core.arch.number s.book (next_changes job core (answer words a))) g.is in
     let left : Left job (unheld core.arch) s g.next (seen_by core words a) = rw add-one g.left in
     let came = on_came (rules job core.arch.number) (During (unheld core.arch)) (calls.Ends job (unheld core.arch)) (Fails job (unheld core.arch)) s g.next
     (row job (unheld core.arch)) (core.seen.count + 1) (seen_by core words a).kept left in
-    let k = came_stands job core (held_now job core words a) (seen_by core words a) s g.next
-    (child_of core.arch (changes_of job core (answer words a))) (come_to job core words a) j left came is_core in
+    let k = came_stands job core (next_held job core (answer words a)) (seen_by core words a) s g.next
+    (child_of core.arch (next_changes job core (answer words a))) (come_to job core words a) j left came is_core in
     record {
       next = g.next;
       owed = g.owed;
       is = is;
-      holds = keeps job.image core.arch.number (own_stack job core.arch.number) words s.book g.next.book a (changes_of job core (answer words a)) g.owed is h;
-      others = λ y n. others core.arch.number (own_stack job core.arch.number) y s.book g.next.book a (answer words a) (changes_of job core (answer words a)) n h.sound g.owed is;
+      holds = keeps job.image core.arch.number (own_stack job core.arch.number) words s.book g.next.book a (next_changes job core (answer words a)) g.owed is h;
+      others = λ y n. others core.arch.number (own_stack job core.arch.number) y s.book g.next.book a (answer words a) (next_changes job core (answer words a)) n h.sound g.owed is;
       held = subst (Held core.arch.number g.next.book)
-          (sym (held_by job core.arch (held_now job core words a) (seen_by core words a) (come_to job core words a)))
-          (held_kept job.image core.arch.number (own_stack job core.arch.number) words s.book g.next.book a (changes_of job core (answer words a)) core.arch.held (stack_below job core.arch.number j) g.owed is h held);
+          (sym (held_by job core.arch (next_held job core (answer words a)) (seen_by core words a) (come_to job core words a)))
+          (held_kept job.image core.arch.number (own_stack job core.arch.number) words s.book g.next.book a (next_changes job core (answer words a)) core.arch.held g.owed is h held);
       stands = k.0;
       returns = k.1;
     }

@@ -12,12 +12,12 @@ use Rattle.cet_isa.specs.declared.threads.End.TheVariants as ending
 use Rattle.cet_book.specs.Book.{Book, Current, region, current_of, stack_of, books_after}
 use Rattle.cet_book.specs.Shape.{Shape}
 use Rattle.cet_book.specs.Edits.{is_there, current_holds}
-use Rattle.cet_page.specs.Core.{Core, unheld, come, taken}
+use Rattle.cet_page.specs.Core.{Core, unheld, come, next_changes, taken}
 use Rattle.cet_page.specs.Row.{row}
 use Rattle.cet_page.specs.Script.{Wants}
 use Rattle.cet_page.specs.Machine.{Thread, Machine, thread_after, with_child, act, step_by}
 use Rattle.cet_page.specs.Within.{no_child}
-use Rattle.cet_own.specs.Event.{changes_of, access_changes, thread_changes}
+use Rattle.cet_own.specs.Event.{access_changes, thread_changes}
 use Rattle.cet_own.specs.Safe.{AccessReturns, ThreadReturns, KeepsStack, HasStack, IsSafeAt}
 use Rattle.cet_own.specs.Frame.{during_at}
 use Rattle.cet_own.specs.Holds.{Holds}
@@ -155,7 +155,7 @@ acts job j m t s thread a st e at r w =
               (thread_relies job y s d.next (slice_get m.threads y) (d.others y (λ z. u.1 (sym z))) (st.threads y))
         ]);
       };
-      ages = ages t (own_stack job t) s.book d.next.book a (answer m.words a) (changes_of job thread.core (answer m.words a)) st.holds.sound.book.shape d.owed d.is;
+      ages = ages t (own_stack job t) s.book d.next.book a (answer m.words a) (next_changes job thread.core (answer m.words a)) st.holds.sound.book.shape d.owed d.is;
       count = ap (λ (l : List Thread). length l) same ∙ length-set m.threads t (moved job m thread a);
       returns = d.returns;
     }
