@@ -9,7 +9,7 @@ ghost use Rattle.cet_page.specs.Faults.{Faults};
 ghost use Rattle.cet_page.specs.Within.{IsCore};
 ghost use Rattle.cet_page.specs.Gate.{stack_of};
 ghost use Rattle.cet_page.specs.Gated.{gate_held, enters_kernel};
-ghost use Rattle.cet_page.specs.Core.{core_at, first_core, next_access, taken, unheld, kept_by, recorded, fault_record, faulted};
+ghost use Rattle.cet_page.specs.Core.{core_at, first_core, next_access, taken, next_held, unheld, kept_by, recorded, fault_record, faulted};
 
 use crate::gate::{stack_of, token, token_word};
 use crate::rows::row;
@@ -208,6 +208,17 @@ impl Cpu {
         }
     }
 
+    /// The supervisor stack that the thread holds after the answer to its next access.
+    #[tactic(auto, using(cet_page::specs::Gated::held_is))]
+    fn held_after(&self, job: &Job, access: Access, answer: u64) -> Option<u8>
+        requires state { IsCore job.now self.now }
+        requires going { self.now.over ≡ None }
+        requires access { next_access job.now self.now ≡ Some access }
+        ensures { result ≡ next_held job.now self.now answer }
+    {
+        held_after(job, &self.arch, access, answer)
+    }
+
     #[tactic(auto, unfolding(cet_page::specs::Core::taken, cet_page::specs::Core::next_access))]
     fn answered(&mut self, job: &Job, answer: u64) -> Option<Record>
         requires state { IsCore job.now self.old }
@@ -218,7 +229,7 @@ impl Cpu {
         ensures noted { result ≡ (taken job.now self.old answer).noted }
     {
         let access = self.next(job)?;
-        let held = held_after(job, &self.arch, access, answer);
+        let held = self.held_after(job, access, answer);
         self.vals.add(access, answer);
         let arch = self.arch;
         match row(job, &unheld(&arch), &mut self.vals.start()) {

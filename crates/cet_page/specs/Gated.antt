@@ -1,6 +1,6 @@
 -- The exchanges of the gate are told by their words and by the row that they stand in. So the supervisor stack that a thread
 -- holds can be set without the changes that come with an access. Source: own.
-use Rattle.std.proofs.Common.{zero, suc, true, false, cond, subst, arith}
+use Rattle.std.proofs.Common.{zero, suc, true, false, cond, subst, sym, ap, ◌∙◌, arith}
 use Rattle.std.proofs.lemmas.Bool.Decides.{nat_tests}
 use Rattle.std.specs.Prelude.{◌≡◌, ◌≢◌, ℕ, ◌+◌, ◌-◌, ◌%◌, Bool, ◌==◌, ◌&&◌, List, [], ◌∷◌, ◌++◌, length, Option, Some, None, refl, ℤ, if◌then◌else◌}
 use Rattle.std.specs.Int.{w64, cast_unsigned}
@@ -21,6 +21,7 @@ use Rattle.cet_isa.specs.declared.instructions.Reg.{Reg}
 use Rattle.cet_isa.specs.declared.instructions.Size.{Size}
 use Rattle.cet_isa.specs.declared.instructions.Size.TheVariants as size
 use Rattle.cet_isa.specs.declared.threads.Arch.{Arch}
+use Rattle.cet_isa.specs.declared.threads.End.{End}
 use Rattle.cet_isa.specs.declared.threads.Fault.{Fault}
 use Rattle.cet_page.specs.Script.{Script, done, fault, ask, tell, ◌>>=◌, Came, Wants, play, changes_at}
 use Rattle.cet_page.specs.Page.{allows, page_fault}
@@ -35,7 +36,8 @@ use Rattle.cet_page.specs.Gate.{exit_word, pend_word, handler_word, token, token
 use Rattle.cet_page.specs.Fetch.{missing, missing_in}
 use Rattle.cet_page.specs.Family.{family_of}
 use Rattle.cet_page.specs.Row.{execute_family, execute, fetched, instruction, instruction_bytes, boundary, row, row_from}
-use Rattle.cet_page.specs.Core.{held_after}
+use Rattle.cet_page.specs.Core.{Core, unheld, come, wanted, access_of, next_access, held_after, next_held}
+use Rattle.cet_page.specs.Within.{IsCore, waiting}
 use Rattle.cet_page.specs.declared.checks.Kind.{Kind}
 use Rattle.cet_page.specs.declared.checks.Kind.TheVariants as kind
 use Rattle.cet_page.specs.declared.checks.Who.{Who}
@@ -387,6 +389,18 @@ module _ (arch : Arch) where
   gated_from job (Some e) = gated_deliver job e
   gated_from job None = gated_boundary job
 
--- the supervisor stack held after an access of a row, by its word and by whether the row enters the kernel
-pub held_by_word : (job : JobData) (arch : Arch) (n : ℕ) (values : List ℕ) (a : Access) (v : ℕ) (held : Option ℕ) → Spent (row job arch) n values → play (row job arch) n values ≡ Wants a → held_after (changes_at (row job arch) n values v) held ≡ gate_held (enters_kernel job arch) (stack_of job arch) a v held
+-- The supervisor stack held after an access of a row, by its word and by whether the row enters the kernel
+held_by_word : (job : JobData) (arch : Arch) (n : ℕ) (values : List ℕ) (a : Access) (v : ℕ) (held : Option ℕ) → Spent (row job arch) n values → play (row job arch) n values ≡ Wants a → held_after (changes_at (row job arch) n values v) held ≡ gate_held (enters_kernel job arch) (stack_of job arch) a v held
 held_by_word job arch n values a v held p w = gated_at (enters_kernel job arch) (stack_of job arch) (row job arch) n values a v held (gated_from arch job arch.due) p w
+
+held_waiting : (job : JobData) (core : Core) (a : Access) (answer : ℕ) (over : Option End) → core.over ≡ over → over ≡ None → IsCore job core → access_of job core over ≡ Some a → next_held job core answer ≡ gate_held (enters_kernel job core.arch) (stack_of job core.arch) a answer core.arch.held
+held_waiting job core a answer (Some e) o n h w = cc
+held_waiting job core a answer None o n h w =
+    let waits = waiting job core h o in
+    let is : waits.waits.0 ≡ a = (let q : Some waits.waits.0 ≡ Some a = sym (ap wanted waits.waits.1) ∙ w in cc) in
+    held_by_word job (unheld core.arch) core.seen.count core.seen.kept a answer core.arch.held waits.spent (subst (λ x. come job core.arch core.seen ≡ Wants x) is waits.waits.1)
+
+-- the same of a thread that hasn't ended
+pub held_is : (job : JobData) (core : Core) (a : Access) (answer : ℕ) → IsCore job core → core.over ≡ None → next_access job core ≡ Some a → next_held job core answer ≡ gate_held (enters_kernel job core.arch) (stack_of job core.arch) a answer core.arch.held
+unfolding next_access
+held_is job core a answer h n w = held_waiting job core a answer core.over refl n h w
