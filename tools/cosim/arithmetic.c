@@ -109,13 +109,15 @@ static void test_cases(struct suite *suite, bool wide)
             put(program, reads(TEST), "test %s, %s", register_name(pair[0], wide), register_name(pair[1], wide));
         }
         for (int place = 0; place < immediate_count; place++)
-            put(program, reads(TEST), "test %s, %s", register_name(pair[1], wide), number_text(number, immediates[place]));
+            put(program, reads(TEST), "test %s, %s", register_name(pair[1], wide),
+                number_text(number, immediates[place]));
     }
 }
 
 /* Factors whose products come close to the signed ends of 32 and 64 bits. */
-static const uint64_t factors[] = {46340, 46341, (uint64_t)-46340, (uint64_t)-46341, 0xb504f333, 0xb504f334,
-                                   -UINT64_C(0xb504f333), -UINT64_C(0xb504f334), 0x10000, 0x200000000};
+static const uint64_t factors[] = {46340,      46341,      (uint64_t)-46340,      (uint64_t)-46341,
+                                   0xb504f333, 0xb504f334, -UINT64_C(0xb504f333), -UINT64_C(0xb504f334),
+                                   0x10000,    0x200000000};
 enum { FACTORS = sizeof factors / sizeof *factors };
 
 static uint64_t factor(int place)
@@ -257,7 +259,8 @@ static void cmov_under(struct program *program, int condition, bool wide, int se
     set(program, pair[0], 0x0123456789abcdef);
     set(program, pair[1], 0xfedcba9876543210);
     set_flags(program, setting);
-    put(program, of_cmov(pair[0], condition), "cmov%s %s, %s", condition_names[condition], to, register_name(pair[1], wide));
+    put(program, of_cmov(pair[0], condition), "cmov%s %s, %s", condition_names[condition], to,
+        register_name(pair[1], wide));
     set(program, pair[0], 0x8765432187654321);
     struct memory memory = at_slot(8 + setting % 4);
     memory_text(text, memory);

@@ -19,10 +19,14 @@ static void print_difference(atomic_uint *differences, const char *text)
 static const char *name_of(enum value value)
 {
     switch (value) {
-    case VALUE_CALL: return "call";
-    case VALUE_RETURN: return "ret";
-    case VALUE_EXIT: return "sys";
-    default: return "step";
+    case VALUE_CALL:
+        return "call";
+    case VALUE_RETURN:
+        return "ret";
+    case VALUE_EXIT:
+        return "sys";
+    default:
+        return "step";
     }
 }
 
@@ -53,15 +57,16 @@ static char *put_inputs(char *to, const struct step *step, const struct note *no
 static struct record expected(const struct step *step, const struct note *note)
 {
     bool follows = note->value == VALUE_CALL || note->value == VALUE_RETURN;
-    struct record record = {.rip = step->rip, .a = step->value, .b = follows ? step->ssp_after : step->flags_after | ONE};
+    struct record record = {
+        .rip = step->rip, .a = step->value, .b = follows ? step->ssp_after : step->flags_after | ONE};
     strcpy(record.name, name_of(note->value));
     return record;
 }
 
 static bool same(const struct record *one, const struct record *other)
 {
-    return !strcmp(one->name, other->name) && one->rip == other->rip && one->code == other->code && one->a == other->a &&
-           one->b == other->b;
+    return !strcmp(one->name, other->name) && one->rip == other->rip && one->code == other->code &&
+           one->a == other->a && one->b == other->b;
 }
 
 static char *put_record(char *to, const struct record *record)
@@ -110,9 +115,11 @@ static void compare_ends(const struct guest *guest, const struct trace *trace, a
 {
     char text[MOST_LINE];
     if (!trace->ended)
-        snprintf(text, sizeof text, "the processor ends after %zu instructions, by signal %d", trace->count, trace->signal);
+        snprintf(text, sizeof text, "the processor ends after %zu instructions, by signal %d", trace->count,
+                 trace->signal);
     else if (!guest->exited || guest->record_count != trace->count + 1)
-        snprintf(text, sizeof text, "cetvm has %zu records where the processor has %zu", guest->record_count, trace->count + 1);
+        snprintf(text, sizeof text, "cetvm has %zu records where the processor has %zu", guest->record_count,
+                 trace->count + 1);
     else
         return;
     print_difference(differences, text);

@@ -15,21 +15,46 @@ enum { RAX, RCX, RDX, RBX, RSP, RBP, RSI, RDI, R8, R9, R10, R11, R12, R13, R14, 
 enum { REGISTERS = 16, CONDITIONS = 16, SETTINGS = 20, SCALES = 4 };
 
 enum {
-    TEXT = 0x401000,      /* where an image's text begins */
-    STACK = 0x7ffc0000,   /* the main stack */
+    TEXT = 0x401000,    /* where an image's text begins */
+    STACK = 0x7ffc0000, /* the main stack */
     STACK_END = 0x80000000,
     START_RSP = 0x7fffffc0,
     SCRATCH = 0x7ffd0000, /* words of the main stack that programs use as memory */
     SCRATCH_WORDS = 64,
-    MOST_STEPS = 95000,   /* of one program; cetvm stops at 100,000 */
+    MOST_STEPS = 95000, /* of one program; cetvm stops at 100,000 */
 };
 
 #define START_SSP UINT64_C(0x200009000)
 
 /* What a case is counted under. */
 enum group {
-    SETUP, ALU, TEST, IMUL, INC_DEC, NOT_NEG, SHIFTS, CMOV, MOV, MOVABS, MOVZX, MOVSXD, LEA, ADDRESSING, XCHG, XADD,
-    CMPXCHG, NOPS, CARRY, PUSH, POP, LEAVE, JUMPS, CALLS, SPELLINGS, RANDOM, GROUPS
+    SETUP,
+    ALU,
+    TEST,
+    IMUL,
+    INC_DEC,
+    NOT_NEG,
+    SHIFTS,
+    CMOV,
+    MOV,
+    MOVABS,
+    MOVZX,
+    MOVSXD,
+    LEA,
+    ADDRESSING,
+    XCHG,
+    XADD,
+    CMPXCHG,
+    NOPS,
+    CARRY,
+    PUSH,
+    POP,
+    LEAVE,
+    JUMPS,
+    CALLS,
+    SPELLINGS,
+    RANDOM,
+    GROUPS
 };
 
 /* A memory operand: the base, the index times the scale, and `disp` or, where there is one, the address of word `slot`
@@ -99,8 +124,8 @@ struct step {
 struct trace {
     struct step *steps;
     size_t count, most;
-    bool ended;  /* at the program's end */
-    int signal;  /* that ended it before, or 0 */
+    bool ended; /* at the program's end */
+    int signal; /* that ended it before, or 0 */
 };
 
 /* One record of cetvm's report. */

@@ -118,8 +118,8 @@ static void read_report(struct guest *guest, char *report)
     struct record record;
     for (char *line = strtok(report, "\n"); line; line = strtok(NULL, "\n")) {
         if (line[0] == '0') {
-            if (sscanf(line, "0 %11s %" SCNx64 " %" SCNu64 " %" SCNx64 " %" SCNx64, record.name, &record.rip, &record.code,
-                       &record.a, &record.b) != 5)
+            if (sscanf(line, "0 %11s %" SCNx64 " %" SCNu64 " %" SCNx64 " %" SCNx64, record.name, &record.rip,
+                       &record.code, &record.a, &record.b) != 5)
                 fail("a report has the line %s", line);
             add_record(guest, &room, &record);
         }

@@ -92,7 +92,8 @@ static bool print_counts(const struct tally *sum)
     }
     for (int condition = 0; condition < CONDITIONS; condition++)
         complete = complete && __builtin_popcount(sum->settings[condition]) >= SETTINGS;
-    printf("cosim: %8" PRIu64 " cases, in %" PRIu64 " instructions of %" PRIu64 " images\n", cases, sum->steps, sum->images);
+    printf("cosim: %8" PRIu64 " cases, in %" PRIu64 " instructions of %" PRIu64 " images\n", cases, sum->steps,
+           sum->images);
     return complete;
 }
 

@@ -255,7 +255,8 @@ static void store_and_load(struct program *program, int base, int index, int sca
     set(program, source, edges[turn % edge_count] + (uint64_t)turn);
     put(program, stores(ADDRESSING, memory), "mov %s, %s", text, register_name(source, true));
     put(program, from(writes(ADDRESSING, source), memory), "mov %s, %s", register_name(source, false), text);
-    put(program, writes(ADDRESSING, source), "mov %s, %s", register_name(source, true), memory_text(plain, at_word(word)));
+    put(program, writes(ADDRESSING, source), "mov %s, %s", register_name(source, true),
+        memory_text(plain, at_word(word)));
 }
 
 static void addressing_cases(struct suite *suite)

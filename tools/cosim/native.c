@@ -33,10 +33,13 @@ uint64_t undefined_flags(const struct note *note, uint64_t rcx)
 {
     uint64_t count = (note->undefined == AFTER_SHIFT_CL ? rcx : (uint64_t)note->number) & (note->wide ? 63 : 31);
     switch (note->undefined) {
-    case AFTER_IMUL: return ZF | SF | PF;
+    case AFTER_IMUL:
+        return ZF | SF | PF;
     case AFTER_SHIFT:
-    case AFTER_SHIFT_CL: return count > 1 ? OF : 0;
-    default: return 0;
+    case AFTER_SHIFT_CL:
+        return count > 1 ? OF : 0;
+    default:
+        return 0;
     }
 }
 
@@ -87,14 +90,20 @@ static bool begin_step(const greg_t *registers)
 static uint64_t value_after(const struct step *step, const struct note *note, const greg_t *registers)
 {
     switch (note->value) {
-    case VALUE_REGISTER: return (uint64_t)registers[places[note->reg]];
-    case VALUE_STORED: return word_at(address_of(&note->memory, step->registers));
-    case VALUE_FOUND: return step->found;
-    case VALUE_PUSHED: return word_at((uint64_t)registers[REG_RSP]);
+    case VALUE_REGISTER:
+        return (uint64_t)registers[places[note->reg]];
+    case VALUE_STORED:
+        return word_at(address_of(&note->memory, step->registers));
+    case VALUE_FOUND:
+        return step->found;
+    case VALUE_PUSHED:
+        return word_at((uint64_t)registers[REG_RSP]);
     case VALUE_TARGET:
     case VALUE_CALL:
-    case VALUE_RETURN: return (uint64_t)registers[REG_RIP];
-    default: return 0;
+    case VALUE_RETURN:
+        return (uint64_t)registers[REG_RIP];
+    default:
+        return 0;
     }
 }
 

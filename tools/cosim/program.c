@@ -154,16 +154,16 @@ void set_flags(struct program *program, int setting)
         uint64_t value;
         const char *line;
     } makers[SETTINGS / 2] = {
-        {1, "test r11, r11"},                             /* */
-        {3, "test r11, r11"},                             /* PF */
-        {0xfffffffffffffffe, "test r11, r11"},            /* SF */
-        {0xffffffffffffffff, "test r11, r11"},            /* SF PF */
-        {0x8000000000000000, "cmp r11, 2"},               /* OF */
-        {0x8000000000000000, "cmp r11, 1"},               /* OF PF */
-        {0x7fffffffffffffff, "cmp r11, -2"},              /* OF SF */
-        {0x7fffffffffffffff, "cmp r11, -1"},              /* OF SF PF */
-        {0, "test r11, r11"},                             /* ZF PF */
-        {0x8000000000000000, "add r11, r11"},             /* OF ZF PF */
+        {1, "test r11, r11"},                  /* */
+        {3, "test r11, r11"},                  /* PF */
+        {0xfffffffffffffffe, "test r11, r11"}, /* SF */
+        {0xffffffffffffffff, "test r11, r11"}, /* SF PF */
+        {0x8000000000000000, "cmp r11, 2"},    /* OF */
+        {0x8000000000000000, "cmp r11, 1"},    /* OF PF */
+        {0x7fffffffffffffff, "cmp r11, -2"},   /* OF SF */
+        {0x7fffffffffffffff, "cmp r11, -1"},   /* OF SF PF */
+        {0, "test r11, r11"},                  /* ZF PF */
+        {0x8000000000000000, "add r11, r11"},  /* OF ZF PF */
     };
     const char *line = makers[setting / 2].line;
     set(program, R11, makers[setting / 2].value);

@@ -19,12 +19,18 @@ static uint64_t value_of(struct draw *draw)
 {
     uint64_t word = random_word(draw->random);
     switch (below(draw, 6)) {
-    case 0: return edges[below(draw, edge_count)];
-    case 1: return word % 256;
-    case 2: return (uint64_t)((int64_t)word >> below(draw, 64));
-    case 3: return word & random_word(draw->random) & random_word(draw->random);
-    case 4: return edges[below(draw, edge_count)] + word % 5 - 2;
-    default: return word;
+    case 0:
+        return edges[below(draw, edge_count)];
+    case 1:
+        return word % 256;
+    case 2:
+        return (uint64_t)((int64_t)word >> below(draw, 64));
+    case 3:
+        return word & random_word(draw->random) & random_word(draw->random);
+    case 4:
+        return edges[below(draw, edge_count)] + word % 5 - 2;
+    default:
+        return word;
     }
 }
 
@@ -37,16 +43,20 @@ static int32_t immediate_of(struct draw *draw)
 /* Sets the registers of a memory operand that leads to a word of the stack or of the data, or to its upper half. */
 static struct memory memory_of(struct draw *draw, bool half)
 {
-    int64_t address = SCRATCH + 8 * below(draw, SCRATCH_WORDS) + (half ? 4 * below(draw, 2) : 0);
+    int64_t address = SCRATCH + 8 * below(draw, SCRATCH_WORDS);
+    address += half ? 4 * below(draw, 2) : 0;
     int64_t disp = below(draw, 2) ? (int8_t)random_word(draw->random) : (int32_t)random_word(draw->random);
     int base = below(draw, REGISTERS), index = below(draw, REGISTERS), scale = 1 << below(draw, SCALES);
     switch (below(draw, 5)) {
-    case 0: return at_slot(below(draw, edge_count));
-    case 1: return at_register(NONE, address);
+    case 0:
+        return at_slot(below(draw, edge_count));
+    case 1:
+        return at_register(NONE, address);
     case 2:
         set(draw->program, base, (uint64_t)(address - disp));
         return at_register(base, disp);
-    default: break;
+    default:
+        break;
     }
     if (index == RSP || index == base)
         return at_register(NONE, address);
@@ -100,14 +110,15 @@ static void a_comparison(struct draw *draw)
     if (below(draw, 2))
         put(draw->program, note, "%s %s, %s", name, text, register_name(below(draw, REGISTERS), wide));
     else
-        put(draw->program, note, "%s %s%s, %s", name, wide ? "" : "dword ", text, number_text(number, immediate_of(draw)));
+        put(draw->program, note, "%s %s%s, %s", name, wide ? "" : "dword ", text,
+            number_text(number, immediate_of(draw)));
 }
 
 static void on_one_register(struct draw *draw)
 {
     static const char *const names[] = {"inc", "dec", "not", "neg"};
-    int reg = below(draw, REGISTERS);
-    put(draw->program, writes(RANDOM, reg), "%s %s", names[below(draw, 4)], register_name(reg, below(draw, 2)));
+    int reg = below(draw, REGISTERS), name = below(draw, 4);
+    put(draw->program, writes(RANDOM, reg), "%s %s", names[name], register_name(reg, below(draw, 2)));
 }
 
 static void a_shift(struct draw *draw)
@@ -144,7 +155,8 @@ static void a_cmov(struct draw *draw)
     bool wide = below(draw, 2);
     int reg = below(draw, REGISTERS);
     struct note note = from(writes(RANDOM, reg), source_of(draw, wide, source));
-    put(draw->program, note, "cmov%s %s, %s", condition_names[below(draw, CONDITIONS)], register_name(reg, wide), source);
+    put(draw->program, note, "cmov%s %s, %s", condition_names[below(draw, CONDITIONS)], register_name(reg, wide),
+        source);
 }
 
 static void a_load(struct draw *draw)
@@ -194,13 +206,15 @@ static void an_exchange(struct draw *draw)
 static void a_lea(struct draw *draw)
 {
     char text[64];
-    struct memory memory = at_register(below(draw, REGISTERS + 1), immediate_of(draw));
+    int base = below(draw, REGISTERS + 1);
+    struct memory memory = at_register(base, immediate_of(draw));
     memory.index = (int8_t)below(draw, REGISTERS + 1);
     memory.scale = (int8_t)(1 << below(draw, SCALES));
     if (memory.index == RSP)
         memory.index = NONE;
     int reg = below(draw, REGISTERS);
-    put(draw->program, writes(RANDOM, reg), "lea %s, %s", register_name(reg, below(draw, 2)), memory_text(text, memory));
+    put(draw->program, writes(RANDOM, reg), "lea %s, %s", register_name(reg, below(draw, 2)),
+        memory_text(text, memory));
 }
 
 static void on_the_stack(struct draw *draw)
@@ -211,27 +225,36 @@ static void on_the_stack(struct draw *draw)
     memory_text(text, memory.base == RSP ? at_word(reg) : memory);
     set(draw->program, RSP, 0x7fff0000 + 8 * (uint64_t)below(draw, 512));
     switch (below(draw, 4)) {
-    case 0: put(draw->program, noted(RANDOM, VALUE_PUSHED), "push %s", register_name(reg, true)); break;
-    case 1: put(draw->program, noted(RANDOM, VALUE_PUSHED), "push %s", number_text(text, immediate_of(draw))); break;
-    case 2: put(draw->program, noted(RANDOM, VALUE_PUSHED), "push %s", text); break;
-    default: put(draw->program, writes(RANDOM, reg), "pop %s", register_name(reg, true)); break;
+    case 0:
+        put(draw->program, noted(RANDOM, VALUE_PUSHED), "push %s", register_name(reg, true));
+        break;
+    case 1:
+        put(draw->program, noted(RANDOM, VALUE_PUSHED), "push %s", number_text(text, immediate_of(draw)));
+        break;
+    case 2:
+        put(draw->program, noted(RANDOM, VALUE_PUSHED), "push %s", text);
+        break;
+    default:
+        put(draw->program, writes(RANDOM, reg), "pop %s", register_name(reg, true));
+        break;
     }
 }
 
 static void a_jump(struct draw *draw)
 {
     int label = draw->program->labels++;
-    put(draw->program, noted(RANDOM, VALUE_TARGET), "j%s %sL%d", condition_names[below(draw, CONDITIONS)],
-        below(draw, 2) ? "short " : "", label);
+    const char *condition = condition_names[below(draw, CONDITIONS)];
+    put(draw->program, noted(RANDOM, VALUE_TARGET), "j%s %sL%d", condition, below(draw, 2) ? "short " : "", label);
     on_one_register(draw);
     put_label(draw->program, label);
 }
 
 static void a_case(struct draw *draw)
 {
-    static void (*const kinds[])(struct draw *) = {an_operation, an_operation, an_operation, an_operation, a_comparison,
-                                                   on_one_register, a_shift, a_shift, an_imul, a_cmov, a_cmov, a_load,
-                                                   a_load, a_store, an_exchange, a_lea, on_the_stack, a_jump};
+    static void (*const kinds[])(struct draw *) = {
+        an_operation, an_operation, an_operation, an_operation, a_comparison, on_one_register,
+        a_shift,      a_shift,      an_imul,      a_cmov,       a_cmov,       a_load,
+        a_load,       a_store,      an_exchange,  a_lea,        on_the_stack, a_jump};
     enum { KINDS = sizeof kinds / sizeof *kinds };
     if (below(draw, 2))
         set(draw->program, below(draw, REGISTERS), value_of(draw));

@@ -14,5 +14,5 @@ skip() {
 command -v gcc > /dev/null || skip "gcc isn't there"
 work=$(mktemp -d) || exit 1
 trap 'rm -rf "$work"' EXIT
-gcc -std=c11 -Wall -Wextra -Werror -O1 -fPIE -pie -o "$work/cosim" "$here"/*.c || exit 1
+gcc -std=c11 -Wall -Wextra -Werror -O1 -fPIE -pie -fcf-protection=none -o "$work/cosim" "$here"/*.c || exit 1
 "$work/cosim" "$cetvm" "$work" ${2+"$2"}

@@ -23,16 +23,16 @@ static void operations(struct program *program, int operation, int setting)
     struct note rax = operation == 7 ? reads(SPELLINGS) : writes(SPELLINGS, RAX);
     struct note r8 = operation == 7 ? reads(SPELLINGS) : writes(SPELLINGS, R8);
     set_operands(program, setting);
-    put(program, rax, ".byte 0x%x, 0xc3", first + 3);                           /* eax, ebx */
-    put(program, rax, ".byte 0x48, 0x%x, 0xc3", first + 3);                     /* rax, rbx */
-    put(program, rax, ".byte 0x4a, 0x%x, 0xc3", first + 3);                     /* the same with REX.X */
-    put(program, r8, ".byte 0x4c, 0x%x, 0xc3", first + 3);                      /* r8, rbx */
-    put(program, rax, ".byte 0x40, 0x%x, 0xd8", first + 1);                     /* eax, ebx with an empty REX */
-    put(program, rax, ".byte 0x%x, 0x78, 0x56, 0x34, 0x92", first + 5);         /* eax, 0x92345678 */
-    put(program, rax, ".byte 0x48, 0x%x, 0x78, 0x56, 0x34, 0x92", first + 5);   /* rax, -0x6dcba988 */
-    put(program, rax, ".byte 0x4f, 0x%x, 0x78, 0x56, 0x34, 0x12", first + 5);   /* the same with REX.R, X and B */
-    put(program, rax, ".byte 0x48, 0x81, 0x%x, 5, 0, 0, 0", 0xc0 + first);      /* rax, 5 */
-    put(program, rax, ".byte 0x4e, 0x83, 0x%x, 0xfb", 0xc0 + first);            /* rax, -5 with REX.R and X */
+    put(program, rax, ".byte 0x%x, 0xc3", first + 3);                         /* eax, ebx */
+    put(program, rax, ".byte 0x48, 0x%x, 0xc3", first + 3);                   /* rax, rbx */
+    put(program, rax, ".byte 0x4a, 0x%x, 0xc3", first + 3);                   /* the same with REX.X */
+    put(program, r8, ".byte 0x4c, 0x%x, 0xc3", first + 3);                    /* r8, rbx */
+    put(program, rax, ".byte 0x40, 0x%x, 0xd8", first + 1);                   /* eax, ebx with an empty REX */
+    put(program, rax, ".byte 0x%x, 0x78, 0x56, 0x34, 0x92", first + 5);       /* eax, 0x92345678 */
+    put(program, rax, ".byte 0x48, 0x%x, 0x78, 0x56, 0x34, 0x92", first + 5); /* rax, -0x6dcba988 */
+    put(program, rax, ".byte 0x4f, 0x%x, 0x78, 0x56, 0x34, 0x12", first + 5); /* the same with REX.R, X and B */
+    put(program, rax, ".byte 0x48, 0x81, 0x%x, 5, 0, 0, 0", 0xc0 + first);    /* rax, 5 */
+    put(program, rax, ".byte 0x4e, 0x83, 0x%x, 0xfb", 0xc0 + first);          /* rax, -5 with REX.R and X */
 }
 
 static void shifts_by_one(struct program *program, int field, int setting)
@@ -142,7 +142,7 @@ static void tests_and_stack(struct program *program, int setting)
     put_bytes(program, reads(SPELLINGS), "0x4e, 0xf7, 0xc0, 1, 2, 3, 0x84"); /* with REX.R and X */
     put_bytes(program, reads(SPELLINGS), "0x4a, 0x85, 0xd8");                /* test rax, rbx with REX.X */
     put_bytes(program, noted(SPELLINGS, VALUE_PUSHED), "0x68, 5, 0, 0, 0");
-    put_bytes(program, noted(SPELLINGS, VALUE_PUSHED), "0x48, 0x53");        /* push rbx with REX.W */
+    put_bytes(program, noted(SPELLINGS, VALUE_PUSHED), "0x48, 0x53"); /* push rbx with REX.W */
     put_bytes(program, noted(SPELLINGS, VALUE_PUSHED), "0x40, 0x50");
     put_bytes(program, noted(SPELLINGS, VALUE_PUSHED), "0x4c, 0xff, 0x74, 0x24, 8"); /* push [rsp+8] with REX.W and R */
     put_bytes(program, writes(SPELLINGS, R8), "0x4f, 0x58");
