@@ -1,5 +1,9 @@
 mod Appended
-mod FirstWord
+mod Faulty
+mod OptionWords
+mod FoundLemmas
+mod CommandLines
+mod Ahead
 mod Listed
 mod Known
 mod InputReads

@@ -14,7 +14,7 @@ use Rattle.cet_top.specs.declared.status.Status.{Status}
 use Rattle.cet_top.specs.declared.status.Status.TheVariants as status
 use Rattle.cet_top.specs.declared.words.Command.{Command}
 use Rattle.cet_top.specs.declared.words.Command.TheVariants as command
-use Rattle.cet_top.proofs.FirstWord.{means_same}
+use Rattle.cet_top.proofs.CommandLines.{means_same}
 
 -- a faulty word is the only one
 faulty_below : (words : List (List ℕ)) (j k : ℕ) → FaultyWord IsCommand words j → FaultyWord IsCommand words k → j < k → ⊥
@@ -36,7 +36,7 @@ run_no_usage (process.Killed s) n e = cc
 run_no_usage (process.Limit t) n e = cc
 
 no_usage : (c : Command) (bytes output : List ℕ) (n : ℕ) → Answers c bytes (status.Usage n) output → ⊥
-no_usage command.Run bytes output n a = elim a [
+no_usage (command.Run settings) bytes output n a = elim a [
   | inl r ↦ (let e = r.refused in cc)
   | inr r ↦ run_no_usage r.reported.outcome.process n r.reported.ends
 ]

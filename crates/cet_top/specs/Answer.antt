@@ -14,6 +14,7 @@ use Rattle.cet_top.specs.Listing.{IsListing}
 use Rattle.cet_top.specs.Outcome.{thread_out, process_end}
 use Rattle.cet_top.specs.Report.{report_of}
 use Rattle.cet_top.specs.Schedule.{ByRobin}
+use Rattle.cet_top.specs.Settings.{SettingsData}
 use Rattle.cet_top.specs.Shown.{shown_stacks}
 use Rattle.cet_top.specs.declared.outcomes.Outcome.{Outcome}
 use Rattle.cet_top.specs.declared.outcomes.ProcessEnd.{ProcessEnd}
@@ -44,12 +45,12 @@ pub record SafeRun (job : JobData) (Schedule : Machine → List ℕ → Type 0) 
   pub is : outcome ≡ outcome_of (run job start turns) book
   pub safe : Safe job start first_book turns
 
--- the job of an image by the defaults: four processors, at most 100,000 records a thread, no signals
-abbrev pub job_with : ImageData → JobData
-job_with image = record { image = image; procs = 4; limit = 100000; signals = [] }
+-- the job of an image by these settings, with four processors and no signals
+abbrev pub job_with : SettingsData → ImageData → JobData
+job_with settings image = record { image = image; procs = 4; limit = settings.limit; signals = [] }
 
-abbrev pub job_of : List ℕ → JobData
-job_of bytes = job_with (image_of bytes)
+abbrev pub job_of : SettingsData → List ℕ → JobData
+job_of settings bytes = job_with settings (image_of bytes)
 
 -- the status of a run whose process ended so
 abbrev pub status_of : ProcessEnd → Status
@@ -72,10 +73,10 @@ pub record Refuses (bytes : List ℕ) (s : Status) (output : List ℕ) : Type 0 
   pub refused : s ≡ status.Refused rule offset
   pub nothing : output ≡ []
 
--- a file that is accepted runs by Robin
-pub record Runs (bytes : List ℕ) (s : Status) (output : List ℕ) : Type 0 where
+-- a file that is accepted runs by these settings, by Robin
+pub record Runs (settings : SettingsData) (bytes : List ℕ) (s : Status) (output : List ℕ) : Type 0 where
   pub accepted : Accepts bytes
-  pub reported : Reports (job_of bytes) (ByRobin (job_of bytes)) style.Full s output
+  pub reported : Reports (job_of settings bytes) (ByRobin (job_of settings bytes)) style.Full s output
 
 -- a file that is accepted is listed
 pub record Disassembles (bytes : List ℕ) (s : Status) (output : List ℕ) : Type 0 where
@@ -105,7 +106,7 @@ pub record Assembles (bytes : List ℕ) (s : Status) (output : List ℕ) : Type 
   pub file : output ≡ written program
 
 abbrev pub Answers : Command → (bytes : List ℕ) → Status → (output : List ℕ) → Type 0
-Answers Run bytes s output = Refuses bytes s output ⊎ Runs bytes s output
+Answers (Run settings) bytes s output = Refuses bytes s output ⊎ Runs settings bytes s output
 Answers Dis bytes s output = Refuses bytes s output ⊎ Disassembles bytes s output
 Answers Asm bytes s output = Faults bytes s output ⊎ Assembles bytes s output
 Answers Check bytes s output = Refuses bytes s output ⊎ Checks bytes s output

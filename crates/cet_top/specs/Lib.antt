@@ -1,6 +1,8 @@
 pub mod Reading
 pub mod Status
+pub mod Settings
 pub mod Words
+pub mod Options
 pub mod Line
 pub mod Report
 pub mod Schedule

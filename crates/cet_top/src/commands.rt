@@ -10,6 +10,7 @@ ghost use Rattle.cet_top.specs.Serves.{Serves, sink_state};
 ghost use Rattle.cet_top.specs.Reading.{source_state};
 
 use crate::listing::listing;
+use crate::options::Settings;
 use crate::outcomes::{ProcessEnd, Style};
 use crate::reports::report;
 use crate::runs::run;
@@ -22,11 +23,8 @@ use cet_io::{Sink, Source};
 use cet_words::{Bytes, Image, Job, NoMemory};
 use std::alloc::Global;
 
-/// The most records of a thread, where the words say nothing else.
-const DEFAULT_LIMIT: u32 = 100_000;
-
-/// The number of processors, where the words say nothing else.
-const DEFAULT_PROCS: u8 = 4;
+/// The number of processors.
+const PROCS: u8 = 4;
 
 /// The status and the output of a command.
 #[derive(Debug, Drop)]
@@ -58,15 +56,15 @@ fn run_job(alloc: Global, job: &Job) -> Result<Answer, NoMemory>
     })
 }
 
-/// Runs an image by the defaults.
-fn run_image(alloc: Global, image: &Image) -> Result<Answer, NoMemory>
-    ensures { IfOk result (λ answer. let job = job_with image.now in Reports job (ByRobin job) Style.Full answer.status answer.output) }
+/// Runs an image by the settings.
+fn run_image(alloc: Global, settings: Settings, image: &Image) -> Result<Answer, NoMemory>
+    ensures { IfOk result (λ answer. let job = job_with settings image.now in Reports job (ByRobin job) Style.Full answer.status answer.output) }
 {
     let _entry = image.entry;
     let job = Job {
         image,
-        procs: DEFAULT_PROCS,
-        limit: DEFAULT_LIMIT,
+        procs: PROCS,
+        limit: settings.limit,
         signals: &[],
     };
     run_job(alloc, &job)
@@ -82,12 +80,12 @@ fn refused(alloc: Global, rule: u8, offset: u64) -> Answer
     }
 }
 
-/// Runs the image that the bytes are.
-fn run_bytes(alloc: Global, bytes: &[u8]) -> Result<Answer, NoMemory>
-    ensures { IfOk result (λ answer. Answers Command.Run bytes.now answer.status answer.output) }
+/// Runs the image that the bytes are, by the settings.
+fn run_bytes(alloc: Global, settings: Settings, bytes: &[u8]) -> Result<Answer, NoMemory>
+    ensures { IfOk result (λ answer. Answers (Command.Run settings) bytes.now answer.status answer.output) }
 {
     match load(alloc, bytes) {
-        Ok(image) => run_image(alloc, &image),
+        Ok(image) => run_image(alloc, settings, &image),
         Err(LoadFault::Refused { rule, offset }) => Ok(refused(alloc, rule, offset)),
         Err(LoadFault::NoMemory) => Err(NoMemory),
     }
@@ -177,7 +175,7 @@ fn answer_to(alloc: Global, command: Command, bytes: &[u8]) -> Result<Answer, No
     ensures { IfOk result (λ answer. Answers command bytes.now answer.status answer.output) }
 {
     match command {
-        Command::Run => run_bytes(alloc, bytes),
+        Command::Run(settings) => run_bytes(alloc, settings, bytes),
         Command::Dis => list_bytes(alloc, bytes),
         Command::Asm => assemble_bytes(alloc, bytes),
         Command::Check => check_bytes(alloc, bytes),

@@ -10,6 +10,7 @@ mod lines;
 mod listing;
 #[cfg(test)]
 mod listing_tests;
+mod options;
 mod outcomes;
 #[cfg(test)]
 mod machine_tests;

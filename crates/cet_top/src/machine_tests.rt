@@ -1,10 +1,9 @@
 //! Calls, returns and jumps in the whole program, against reports that are written out here. The texts are
 //! as GNU as assembles them.
 
-use crate::program_tests::{reports, words};
+use crate::Status;
+use crate::program_tests::{reports, reports_by};
 use crate::tests::file;
-use crate::{Status, plain};
-use cet_io::{MemSink, SureSource};
 use std::test::Fail;
 
 /// `call f`, `ud2`, `f: call g`, `ret`, `g: call h`, `ret`, `h: mov edi, 0`, `mov eax, 231`, `syscall`.
@@ -90,12 +89,13 @@ process limit 0
 /// A jump to itself, up to a limit.
 #[test]
 fn limits_reached(rt: HostRuntime) -> Result<(), Fail> {
-    let alloc = rt.alloc();
-    let bytes = file(alloc, &[0xeb, 0xfe])?;
-    let mut src = SureSource::new(alloc, &bytes)?;
-    let mut sink = MemSink::new(alloc, 1000, 1000, &[])?;
-    let status = plain(alloc, &words(alloc, "run --limit 3")?, &mut src, &mut sink);
-    assert_eq!(rt; status, Status::Limit(0));
-    assert_eq!(rt; sink.bytes(), SPIN.as_bytes());
-    Ok(())
+    let bytes = file(rt.alloc(), &[0xeb, 0xfe])?;
+    reports_by(
+        &rt,
+        rt.alloc(),
+        "run --limit 3",
+        &bytes,
+        Status::Limit(0),
+        SPIN,
+    )
 }

@@ -78,7 +78,24 @@ fn full_stack(alloc: Global) -> Result<String, AllocError> {
     Ok(report)
 }
 
-/// A run of the bytes writes the report, and has the status.
+/// A run of the bytes by these words writes the report, and has the status.
+pub(crate) fn reports_by(
+    rt: &impl Abort,
+    alloc: Global,
+    text: &str,
+    bytes: &[u8],
+    status: Status,
+    report: &str,
+) -> Result<(), Fail> {
+    let words = words(alloc, text)?;
+    let mut src = SureSource::new(alloc, bytes)?;
+    let mut sink = MemSink::new(alloc, ROOM, ROOM, &[])?;
+    assert_eq!(rt; plain(alloc, &words, &mut src, &mut sink), status);
+    assert_eq!(rt; sink.bytes(), report.as_bytes());
+    Ok(())
+}
+
+/// The same of `run` without an option.
 pub(crate) fn reports(
     rt: &impl Abort,
     alloc: Global,
@@ -86,11 +103,7 @@ pub(crate) fn reports(
     status: Status,
     report: &str,
 ) -> Result<(), Fail> {
-    let mut src = SureSource::new(alloc, bytes)?;
-    let mut sink = MemSink::new(alloc, ROOM, ROOM, &[])?;
-    assert_eq!(rt; run(alloc, &mut src, &mut sink)?, status);
-    assert_eq!(rt; sink.bytes(), report.as_bytes());
-    Ok(())
+    reports_by(rt, alloc, "run", bytes, status, report)
 }
 
 #[test]
@@ -125,6 +138,66 @@ fn kills_are_reported(rt: HostRuntime) -> Result<(), Fail> {
         &bytes,
         Status::Killed(11),
         full_stack(alloc)?.as_str(),
+    )
+}
+
+/// Five times `mov edi, 7`.
+const FIVE_MOVES_TEXT: [u8; 25] = [
+    0xbf, 7, 0, 0, 0, 0xbf, 7, 0, 0, 0, 0xbf, 7, 0, 0, 0, 0xbf, 7, 0, 0, 0, 0xbf, 7, 0, 0, 0,
+];
+
+const THREE_MOVES: &str = "cetvm report 1
+thread 0 records 3 limit
+0 step 0000000000401000 0 0000000000000007 0000000000000002
+0 step 0000000000401005 0 0000000000000007 0000000000000002
+0 step 000000000040100a 0 0000000000000007 0000000000000002
+region 0000000200001000 0000000200009000 current 0
+process limit 0
+";
+
+#[test]
+fn a_run_ends_at_its_limit(rt: HostRuntime) -> Result<(), Fail> {
+    let bytes = file(rt.alloc(), &FIVE_MOVES_TEXT)?;
+    for text in ["run --limit 3", "run --limit=0x3"] {
+        reports_by(&rt, rt.alloc(), text, &bytes, Status::Limit(0), THREE_MOVES)?;
+    }
+    assert_eq!(rt; Status::Limit(0).code(), 8);
+    Ok(())
+}
+
+const ONE_CALL: &str = "cetvm report 1
+thread 0 records 1 limit
+0 call 0000000000401000 0 0000000000401011 0000000200008ff8
+region 0000000200001000 0000000200009000 current 0
+  ret 0000000000401005
+process limit 0
+";
+
+/// The shadow stack keeps what is on it.
+#[test]
+fn a_call_is_open_at_the_limit(rt: HostRuntime) -> Result<(), Fail> {
+    let bytes = file(rt.alloc(), &CALL_AND_RETURN_TEXT)?;
+    reports_by(
+        &rt,
+        rt.alloc(),
+        "run --limit 1",
+        &bytes,
+        Status::Limit(0),
+        ONE_CALL,
+    )
+}
+
+/// The last record is that of the exit.
+#[test]
+fn an_exit_at_the_limit_is_an_exit(rt: HostRuntime) -> Result<(), Fail> {
+    let bytes = file(rt.alloc(), &EXIT_SEVEN_TEXT)?;
+    reports_by(
+        &rt,
+        rt.alloc(),
+        "run --limit 3",
+        &bytes,
+        Status::Done,
+        EXIT_SEVEN,
     )
 }
 
@@ -291,12 +364,22 @@ fn is_usage(rt: &impl Abort, alloc: Global, text: &str, number: u32) -> Result<(
 
 #[test]
 fn faulty_words(rt: HostRuntime) -> Result<(), Fail> {
-    is_usage(&rt, rt.alloc(), "", 1)?;
-    is_usage(&rt, rt.alloc(), "walk", 1)?;
-    is_usage(&rt, rt.alloc(), "run x", 2)?;
-    is_usage(&rt, rt.alloc(), "dis x", 2)?;
-    is_usage(&rt, rt.alloc(), "asm --runtime", 2)?;
-    is_usage(&rt, rt.alloc(), "check x", 2)
+    let lists = [
+        ("", 1),
+        ("walk", 1),
+        ("replay", 1),
+        ("run x", 2),
+        ("run --limit 0", 3),
+        ("run --limit", 3),
+        ("run --limit 5 --limit 6", 4),
+        ("dis x", 2),
+        ("asm --runtime", 2),
+        ("check --limit 5", 2),
+    ];
+    for (text, number) in lists {
+        is_usage(&rt, rt.alloc(), text, number)?;
+    }
+    Ok(())
 }
 
 /// The first part of the report that stays where this write fails. Each takes at most so many bytes.

@@ -1,4 +1,7 @@
+ghost use Rattle.std.specs.Prelude.{◌≤◌};
+
 use crate::Status;
+use crate::options::Settings;
 use crate::outcomes::{
     Outcome, ProcessEnd, Records, Region, Shown, StackReport, StackReports, Style, ThreadOut,
     ThreadOuts,
@@ -11,6 +14,7 @@ use cet_isa::{End, FaultName, Record, What};
 use cet_words::{NoMemory, Words};
 use std::alloc::{AllocError, Global};
 use std::io;
+use std::process::Abort;
 use std::test::Fail;
 
 #[test]
@@ -89,32 +93,107 @@ fn each_status_has_its_code_and_line(rt: HostRuntime) -> Result<(), Fail> {
     Ok(())
 }
 
+/// `run` with a limit.
+fn limited(limit: u32) -> Command
+    requires low { 1 ≤ limit }
+    requires high { limit ≤ 100000 }
+{
+    Command::Run(Settings { limit })
+}
+
+/// The words, parted by blanks, are read so.
+fn is_read(
+    rt: &impl Abort,
+    alloc: Global,
+    text: &str,
+    answer: Result<Command, u32>,
+) -> Result<(), Fail> {
+    let mut words = Vec::new(alloc);
+    for word in text.split_whitespace() {
+        words.push(String::from_str(alloc, word)?)?;
+    }
+    assert_eq!(rt; read_words(&words), answer, "{text}");
+    Ok(())
+}
+
 #[test]
-fn words_are_read(rt: HostRuntime) -> Result<(), Fail> {
-    let alloc = rt.alloc();
+fn commands_are_read(rt: HostRuntime) -> Result<(), Fail> {
     let lists = [
         ("", Err(1)),
         ("walk", Err(1)),
         ("walk x", Err(1)),
-        ("run", Ok(Command::Run)),
+        ("--limit", Err(1)),
+        ("--limit 5 run", Err(1)),
+        ("replay", Err(1)),
+        ("Run", Err(1)),
+        ("disasm", Err(1)),
+        ("run", Ok(limited(100_000))),
         ("run x", Err(2)),
         ("run run run", Err(2)),
-        ("Run", Err(1)),
+        ("run dis", Err(2)),
         ("dis", Ok(Command::Dis)),
         ("dis run", Err(2)),
-        ("run dis", Err(2)),
-        ("disasm", Err(1)),
+        ("dis --limit 5", Err(2)),
         ("asm", Ok(Command::Asm)),
         ("asm --runtime", Err(2)),
+        ("asm --limit=5", Err(2)),
         ("check", Ok(Command::Check)),
         ("check x", Err(2)),
+        ("check --limit", Err(2)),
     ];
     for (text, answer) in lists {
-        let mut words = Vec::new(alloc);
-        for word in text.split_whitespace() {
-            words.push(String::from_str(alloc, word)?)?;
-        }
-        assert_eq!(rt; read_words(&words), answer, "{text}");
+        is_read(&rt, rt.alloc(), text, answer)?;
+    }
+    Ok(())
+}
+
+#[test]
+fn limits_are_read(rt: HostRuntime) -> Result<(), Fail> {
+    let lists = [
+        ("run --limit 1", Ok(limited(1))),
+        ("run --limit=1", Ok(limited(1))),
+        ("run --limit 100000", Ok(limited(100_000))),
+        ("run --limit=100000", Ok(limited(100_000))),
+        ("run --limit 0x1F", Ok(limited(31))),
+        ("run --limit=0x00000000000186a0", Ok(limited(100_000))),
+        ("run --limit 00000000000000000007", Ok(limited(7))),
+        ("run --limit", Err(3)),
+        ("run --limit 0", Err(3)),
+        ("run --limit=0", Err(2)),
+        ("run --limit 100001", Err(3)),
+        ("run --limit=100001", Err(2)),
+        ("run --limit 0x186a1", Err(3)),
+        ("run --limit 18446744073709551617", Err(3)),
+        ("run --limit 000000000000000000007", Err(3)),
+        ("run --limit 0X5", Err(3)),
+        ("run --limit +5", Err(3)),
+        ("run --limit -5", Err(3)),
+        ("run --limit=", Err(2)),
+        ("run --limit =5", Err(3)),
+        ("run --limit= 5", Err(2)),
+        ("run --limit=5=6", Err(2)),
+        ("run --limit --limit", Err(3)),
+        ("run --limit --limit=5", Err(3)),
+        ("run --limit 5 x", Err(4)),
+        ("run --limit=5 x", Err(3)),
+        ("run --limit 5 6", Err(4)),
+        ("run --limit 5 --limit 6", Err(4)),
+        ("run --limit 5 --limit=6", Err(4)),
+        ("run --limit=5 --limit", Err(3)),
+        ("run --limit=5 --limit=5", Err(3)),
+        ("run --limit 0 --limit 5", Err(3)),
+        ("run x --limit 5", Err(2)),
+        ("run --Limit 5", Err(2)),
+        ("run -limit 5", Err(2)),
+        ("run limit=5", Err(2)),
+        ("run --limits 5", Err(2)),
+        ("run --limi 5", Err(2)),
+        ("run --limits=5", Err(2)),
+        ("run -- 5", Err(2)),
+        ("run --help", Err(2)),
+    ];
+    for (text, answer) in lists {
+        is_read(&rt, rt.alloc(), text, answer)?;
     }
     Ok(())
 }

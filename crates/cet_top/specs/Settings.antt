@@ -1,0 +1,10 @@
+-- The settings of a run, which its options set. Source: own.
+use Rattle.std.specs.Prelude.{ℕ, ◌≤◌}
+
+-- at most so many records for each thread
+pub record SettingsData : Type 0 where
+  pub limit : ℕ
+
+pub record IsSettings (settings : SettingsData) : Type 0 where
+  pub limit_low : 1 ≤ settings.limit
+  pub limit_high : settings.limit ≤ 100000
