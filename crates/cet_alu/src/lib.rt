@@ -8,6 +8,8 @@ mod locked;
 mod moves;
 mod operations;
 mod rows;
+#[cfg(test)]
+mod tests;
 mod values;
 
 pub use rows::{follow, next};

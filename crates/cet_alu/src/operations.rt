@@ -90,8 +90,8 @@ pub fn increment(arch: &Arch, size: Size, reg: Reg, next: u64) -> (Arch, Record)
     requires { arch.now.count < 2 ^ 32 - 1 }
     ensures { result ≡ settled arch.now reg (keeping (carry arch.now) (sum size (register arch.now reg % limit size) 1 0)) next }
 {
-    let computed = sum(size, register_of(arch, size, reg), 1, false);
-    settled(arch, reg, keeping(carry(arch), computed), next)
+    let more = sum(size, register_of(arch, size, reg), 1, false);
+    settled(arch, reg, keeping(carry(arch), more), next)
 }
 
 /// DEC.
@@ -99,8 +99,8 @@ pub fn decrement(arch: &Arch, size: Size, reg: Reg, next: u64) -> (Arch, Record)
     requires { arch.now.count < 2 ^ 32 - 1 }
     ensures { result ≡ settled arch.now reg (keeping (carry arch.now) (difference size (register arch.now reg % limit size) 1 0)) next }
 {
-    let computed = difference(size, register_of(arch, size, reg), 1, false);
-    settled(arch, reg, keeping(carry(arch), computed), next)
+    let less = difference(size, register_of(arch, size, reg), 1, false);
+    settled(arch, reg, keeping(carry(arch), less), next)
 }
 
 /// NOT.
