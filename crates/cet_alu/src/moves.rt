@@ -5,7 +5,7 @@ ghost use Rattle.cet_page.specs.Script.{play};
 ghost use Rattle.cet_page.specs.Plays.{Comes};
 ghost use Rattle.cet_page.specs.Operands.{effective, assigned};
 ghost use Rattle.cet_page.specs.Values.{limit};
-ghost use Rattle.cet_page.specs.Arithmetic.{move, move_zero, move_sign, move_if};
+ghost use Rattle.cet_page.specs.Arithmetic.{move, movzx, movsxd, cmov};
 
 use cet_isa::{Arch, Cond, Mem, Operand, Record, Reg, Size};
 use cet_page::{
@@ -40,8 +40,8 @@ pub fn mov(
 }
 
 /// MOVZX of a byte.
-#[tactic(auto, using(cet_page::specs::Script::play_bind), unfolding(cet_page::specs::Arithmetic::move_zero))]
-pub fn move_zero(
+#[tactic(auto, using(cet_page::specs::Script::play_bind), unfolding(cet_page::specs::Arithmetic::movzx))]
+pub fn movzx(
     arch: &Arch,
     reg: Reg,
     mem: Mem,
@@ -49,15 +49,15 @@ pub fn move_zero(
     at: &mut Cursor,
 ) -> Result<(Arch, Record), Stop>
     requires { arch.now.count < 2 ^ 32 - 1 }
-    ensures { Comes (play (move_zero arch.now reg mem next) at.old.left at.old.rest.now) result at.new.left at.new.rest.now }
+    ensures { Comes (play (movzx arch.now reg mem next) at.old.left at.old.rest.now) result at.new.left at.new.rest.now }
 {
     let value = at.load_byte(effective(arch, mem, next))?;
     Ok(assigned(arch, reg, value, next))
 }
 
 /// MOVSXD of 32 bits.
-#[tactic(auto, using(cet_page::specs::Script::play_bind), unfolding(cet_page::specs::Arithmetic::move_sign))]
-pub fn move_sign(
+#[tactic(auto, using(cet_page::specs::Script::play_bind), unfolding(cet_page::specs::Arithmetic::movsxd))]
+pub fn movsxd(
     arch: &Arch,
     reg: Reg,
     src: Operand,
@@ -65,7 +65,7 @@ pub fn move_sign(
     at: &mut Cursor,
 ) -> Result<(Arch, Record), Stop>
     requires { arch.now.count < 2 ^ 32 - 1 }
-    ensures { Comes (play (move_sign arch.now reg src next) at.old.left at.old.rest.now) result at.new.left at.new.rest.now }
+    ensures { Comes (play (movsxd arch.now reg src next) at.old.left at.old.rest.now) result at.new.left at.new.rest.now }
 {
     let value = at.read_operand(arch, Size::Dword, src, next)?;
     let extended = i64::from((value as u32).cast_signed()).cast_unsigned();
@@ -74,8 +74,8 @@ pub fn move_sign(
 
 /// CMOVcc. It reads its operand, and clears the upper half of a 32-bit register, also where the
 /// condition fails.
-#[tactic(auto, using(cet_page::specs::Script::play_bind), unfolding(cet_page::specs::Arithmetic::move_if))]
-pub fn move_if(
+#[tactic(auto, using(cet_page::specs::Script::play_bind), unfolding(cet_page::specs::Arithmetic::cmov))]
+pub fn cmov(
     arch: &Arch,
     cond: Cond,
     size: Size,
@@ -85,7 +85,7 @@ pub fn move_if(
     at: &mut Cursor,
 ) -> Result<(Arch, Record), Stop>
     requires { arch.now.count < 2 ^ 32 - 1 }
-    ensures { Comes (play (move_if arch.now cond size reg src next) at.old.left at.old.rest.now) result at.new.left at.new.rest.now }
+    ensures { Comes (play (cmov arch.now cond size reg src next) at.old.left at.old.rest.now) result at.new.left at.new.rest.now }
 {
     let value = at.read_operand(arch, size, src, next)?;
     let moved = if StatusFlags::of(arch.flags).holds(cond) {

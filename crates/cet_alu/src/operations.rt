@@ -5,12 +5,12 @@ ghost use Rattle.cet_page.specs.Flags.{rflags};
 ghost use Rattle.cet_page.specs.Script.{play};
 ghost use Rattle.cet_page.specs.Plays.{Comes};
 ghost use Rattle.cet_page.specs.Operands.{register, stepped, assigned, settled};
-ghost use Rattle.cet_page.specs.Values.{bits, limit, sum, difference, keeping, complement, shifted_left, shifted_right, shifted_signed};
+ghost use Rattle.cet_page.specs.Values.{bits, limit, sum, difference, keeping, ones_complement, shifted_left, shifted_right, shifted_arithmetic};
 ghost use Rattle.cet_page.specs.Arithmetic.{carry, alu, test, multiply, with_carry, shift_count, shift};
 
 use crate::values::{
-    bits, complement, difference, keeping, logical, operation, product, shifted_left,
-    shifted_right, shifted_signed, sum,
+    bits, ones_complement, difference, keeping, logical, operation, product, shifted_left,
+    shifted_right, shifted_arithmetic, sum,
 };
 use cet_isa::{AluOp, Arch, Count, Operand, Record, Reg, Size};
 use cet_page::{
@@ -106,12 +106,12 @@ pub fn decrement(arch: &Arch, size: Size, reg: Reg, next: u64) -> (Arch, Record)
 /// NOT.
 pub fn invert(arch: &Arch, size: Size, reg: Reg, next: u64) -> (Arch, Record)
     requires { arch.now.count < 2 ^ 32 - 1 }
-    ensures { result ≡ assigned arch.now reg (complement size (register arch.now reg % limit size)) next }
+    ensures { result ≡ assigned arch.now reg (ones_complement size (register arch.now reg % limit size)) next }
 {
     assigned(
         arch,
         reg,
-        complement(size, register_of(arch, size, reg)),
+        ones_complement(size, register_of(arch, size, reg)),
         next,
     )
 }
@@ -164,16 +164,16 @@ pub fn shift_right(arch: &Arch, size: Size, reg: Reg, count: Count, next: u64) -
 }
 
 /// SAR.
-pub fn shift_signed(arch: &Arch, size: Size, reg: Reg, count: Count, next: u64) -> (Arch, Record)
+pub fn shift_arithmetic(arch: &Arch, size: Size, reg: Reg, count: Count, next: u64) -> (Arch, Record)
     requires { arch.now.count < 2 ^ 32 - 1 }
-    ensures { result ≡ shift arch.now size reg (shift_count arch.now size count) (shifted_signed size (register arch.now reg % limit size) (shift_count arch.now size count)) next }
+    ensures { result ≡ shift arch.now size reg (shift_count arch.now size count) (shifted_arithmetic size (register arch.now reg % limit size) (shift_count arch.now size count)) next }
 {
     let value = register_of(arch, size, reg);
     let count = shift_count(arch, size, count);
     if count == 0 {
         return assigned(arch, reg, value, next);
     }
-    settled(arch, reg, shifted_signed(size, value, count), next)
+    settled(arch, reg, shifted_arithmetic(size, value, count), next)
 }
 
 /// STC or CLC.

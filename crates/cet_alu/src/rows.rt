@@ -7,10 +7,10 @@ ghost use Rattle.cet_page.specs.Row.{next_address};
 ghost use Rattle.cet_page.specs.Arithmetic.{arithmetic};
 
 use crate::locked::{lock_cmpxchg, lock_xadd, xchg};
-use crate::moves::{load_address, mov, move_if, move_sign, move_zero};
+use crate::moves::{load_address, mov, cmov, movsxd, movzx};
 use crate::operations::{
     alu, decrement, increment, invert, multiply, negate, set_carry, shift_left, shift_right,
-    shift_signed, test,
+    shift_arithmetic, test,
 };
 use cet_isa::{Arch, Instr, Record};
 use cet_page::{Cursor, Next, Stop, Vals, assigned, invalid_opcode, next_address, stepped};
@@ -33,8 +33,8 @@ pub fn follow(
         Instr::Test { size, dst, src } => test(arch, size, dst, src, next, at),
         Instr::Mov { size, dst, src } => mov(arch, size, dst, src, next, at),
         Instr::MovWide { dst, value } => Ok(assigned(arch, dst, value, next)),
-        Instr::MovZero8 { dst, src } => move_zero(arch, dst, src, next, at),
-        Instr::MovSign32 { dst, src } => move_sign(arch, dst, src, next, at),
+        Instr::MovZero8 { dst, src } => movzx(arch, dst, src, next, at),
+        Instr::MovSign32 { dst, src } => movsxd(arch, dst, src, next, at),
         Instr::Lea { size, dst, src } => Ok(load_address(arch, size, dst, src, next)),
         Instr::Xchg { dst, reg } => xchg(arch, dst, reg, next, at),
         Instr::LockXadd { mem, reg } => lock_xadd(arch, mem, reg, next, at),
@@ -46,13 +46,13 @@ pub fn follow(
         Instr::Imul { size, dst, src } => multiply(arch, size, dst, src, next, at),
         Instr::Shl { size, reg, count } => Ok(shift_left(arch, size, reg, count, next)),
         Instr::Shr { size, reg, count } => Ok(shift_right(arch, size, reg, count, next)),
-        Instr::Sar { size, reg, count } => Ok(shift_signed(arch, size, reg, count, next)),
+        Instr::Sar { size, reg, count } => Ok(shift_arithmetic(arch, size, reg, count, next)),
         Instr::Cmov {
             cond,
             size,
             dst,
             src,
-        } => move_if(arch, cond, size, dst, src, next, at),
+        } => cmov(arch, cond, size, dst, src, next, at),
         Instr::Nop | Instr::Pause | Instr::Endbr64 => {
             Ok(stepped(arch, arch.regs, next, arch.flags, 0))
         }

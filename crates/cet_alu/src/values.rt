@@ -3,8 +3,8 @@
 
 ghost use Rattle.std.specs.Prelude.{◌≡◌, ◌+◌, ◌-◌, ◌*◌, ◌/◌, ◌%◌, ◌^◌, ◌<◌, ◌==◌, not, nat_le, nat_lt, pos, ◌+ℤ◌, ◌-ℤ◌, ◌*ℤ◌, FitsSigned};
 ghost use Rattle.std.specs.Int.{w64, cast_unsigned, int_shr};
-ghost use Rattle.cet_page.specs.Flags.{bit, differ};
-ghost use Rattle.cet_page.specs.Values.{bits, width, limit, top_bit, signed, in_signed_range, computed, sum, difference, logical, product, operation, keeping, complement, shifted_left, shifted_right, shifted_signed};
+ghost use Rattle.cet_page.specs.Flags.{bit, xor};
+ghost use Rattle.cet_page.specs.Values.{bits, width, limit, top_bit, signed, in_signed_range, computed, sum, difference, logical, product, operation, keeping, ones_complement, shifted_left, shifted_right, shifted_arithmetic};
 
 use cet_isa::{AluOp, Size};
 use cet_page::{Computed, StatusFlags, truncated};
@@ -29,7 +29,7 @@ fn top_bit(size: Size, value: u64) -> bool
     }
 }
 
-/// The number that the low bits mean in two's complement.
+/// The number that the low bits mean in two's ones_complement.
 fn signed(size: Size, value: u64) -> i128
     requires { value < limit size }
     ensures value { result ≡ signed size value }
@@ -201,9 +201,9 @@ pub fn keeping(carry: bool, of: Computed) -> Computed
 }
 
 /// Each bit the other way.
-pub fn complement(size: Size, value: u64) -> u64
+pub fn ones_complement(size: Size, value: u64) -> u64
     requires { value < limit size }
-    ensures { result ≡ complement size value }
+    ensures { result ≡ ones_complement size value }
 {
     match size {
         Size::Dword => u64::from(!(value as u32)),
@@ -275,11 +275,11 @@ pub fn shifted_right(size: Size, x: u64, count: u32) -> Computed
 }
 
 /// A shift to the right that brings in copies of the top bit.
-pub fn shifted_signed(size: Size, x: u64, count: u32) -> Computed
+pub fn shifted_arithmetic(size: Size, x: u64, count: u32) -> Computed
     requires left { x < limit size }
     requires low { 0 < count }
     requires high { count < bits size }
-    ensures { result ≡ shifted_signed size x count }
+    ensures { result ≡ shifted_arithmetic size x count }
 {
     computed(
         size,

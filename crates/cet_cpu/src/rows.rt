@@ -32,11 +32,11 @@ fn execute(
             let (after, noted) = cet_alu::follow(arch, instr, next, at)?;
             Ok(Finish::Noted(after, noted))
         }
-        Family::Transfer => {
+        Family::Flow => {
             let (after, noted) = cet_flow::follow(arch, instr, next, at)?;
             Ok(Finish::Noted(after, noted))
         }
-        Family::KernelCall => syscall(job, arch, next, at),
+        Family::SystemCall => syscall(job, arch, next, at),
         Family::Unbuilt => Err(invalid_opcode()),
     }
 }

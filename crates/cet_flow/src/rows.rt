@@ -2,7 +2,7 @@ ghost use Rattle.std.specs.Prelude.{◌≡◌, ◌-◌, ◌^◌, ◌<◌};
 ghost use Rattle.cet_page.specs.Script.{play};
 ghost use Rattle.cet_page.specs.Plays.{Comes, next_of};
 ghost use Rattle.cet_page.specs.Row.{next_address};
-ghost use Rattle.cet_page.specs.Flow.{transfer};
+ghost use Rattle.cet_page.specs.Flow.{flow};
 
 use crate::calls::{call_indirect, call_relative};
 use crate::jumps::{jump_if, jump_indirect, jumped, relative};
@@ -21,7 +21,7 @@ pub fn follow(
     at: &mut Cursor,
 ) -> Result<(Arch, Record), Stop>
     requires { arch.now.count < 2 ^ 32 - 1 }
-    ensures { Comes (play (transfer arch.now instr.now next) at.old.left at.old.rest.now) result at.new.left at.new.rest.now }
+    ensures { Comes (play (flow arch.now instr.now next) at.old.left at.old.rest.now) result at.new.left at.new.rest.now }
 {
     match *instr {
         Instr::CallRel { disp } => call_relative(arch, disp, next, at),
@@ -44,7 +44,7 @@ pub fn follow(
 #[tactic(auto, using(cet_page::specs::Plays::next_is))]
 pub fn next(job: &Job, arch: &Arch, vals: &Vals, instr: &Instr) -> Next
     requires { arch.now.count < 2 ^ 32 - 1 }
-    ensures { result ≡ next_of (play (transfer arch.now instr.now (next_address job.now arch.now)) vals.now.count vals.now.kept) }
+    ensures { result ≡ next_of (play (flow arch.now instr.now (next_address job.now arch.now)) vals.now.count vals.now.kept) }
 {
     Next::of(follow(arch, instr, next_address(job, arch), &mut vals.start()))
 }

@@ -13,7 +13,7 @@ use Rattle.cet_book.specs.Book.{Book, book_after, region, top}
 use Rattle.cet_book.specs.Relies.{Relies}
 use Rattle.cet_page.specs.Script.{Script, done, fault, ◌>>=◌}
 use Rattle.cet_page.specs.Page.{allows, page_fault}
-use Rattle.cet_page.specs.Parts.{tested, look_in, look, peek, load_as, load, store_as, store, exchange_as, exchange, swap, fetch_add_as, fetch_add, stores, misaligned}
+use Rattle.cet_page.specs.Parts.{tested, look_in, look, peek, load_as, load, store_as, store, exchange_as, exchange, swap, fetch_add_as, fetch_add, stores, alignment_check}
 use Rattle.cet_page.specs.Gate.{clears}
 use Rattle.cet_page.specs.declared.checks.Kind.{Kind}
 use Rattle.cet_page.specs.declared.checks.Kind.TheVariants as kind
@@ -53,7 +53,7 @@ module _ (job : JobData) (arch : Arch) where
   tested_then Q before s addr size f rest h =
       claim_bind Q before s (tested addr size) f
       (claim_cond (λ z n x. Claim job arch Q z n (f x)) before s (canonical addr) _ _
-      (λ c. claim_cond (λ z n x. Claim job arch Q z n (f x)) before s (addr % size == 0) (done tt) (fault (misaligned addr))
+      (λ c. claim_cond (λ z n x. Claim job arch Q z n (f x)) before s (addr % size == 0) (done tt) (fault (alignment_check addr))
       (λ e. h c (eqb-true (addr % size) 0 e)) (λ _. (rest, λ _. tt)))
       (λ _. (rest, λ _. tt)))
 

@@ -17,7 +17,7 @@ use Rattle.cet_page.specs.Script.{◌>>=◌}
 use Rattle.cet_page.specs.Fetch.{fetchable, joined, missing, missing_in}
 use Rattle.cet_page.specs.Finish.{Row, noted, above, rax, IsMade}
 use Rattle.cet_page.specs.Family.{family_of}
-use Rattle.cet_page.specs.Flow.{transfer}
+use Rattle.cet_page.specs.Flow.{flow}
 use Rattle.cet_page.specs.declared.families.Family.{Family}
 use Rattle.cet_page.specs.declared.families.Family.TheVariants as families
 use Rattle.cet_page.specs.Gate.{exit_word, pend_word, handler_word, exit_status, made_page, clears, exit, exit_group, no_call, service, syscall, inside, signal_of, kill, deliver}
@@ -66,11 +66,11 @@ stack_below job t j =
     let l : own_stack job t < job.procs = mod-lt t (omega arith) in
     omega arith
 
--- a near return is a transfer
-returns_transfer : (i : Instr) → is_near_return i ≡ true → family_of i ≡ families.Transfer
-returns_transfer instr.Ret r = refl
-returns_transfer (instr.RetImm bytes) r = refl
-returns_transfer i r = cc
+-- a near return is of control flow
+returns_flow : (i : Instr) → is_near_return i ≡ true → family_of i ≡ families.Flow
+returns_flow instr.Ret r = refl
+returns_flow (instr.RetImm bytes) r = refl
+returns_flow i r = cc
 
 exit_out : IsOut 1605632
 exit_out = record { shadow = inr (omega arith); entry = omega arith; token = λ k l. omega arith }
@@ -137,28 +137,28 @@ module _ (job : JobData) (j : IsJob job) (arch : Arch) where
   noted_claim : (before s : State) (m : Row) → Claim job arch (EndsRow job arch) before s m → Claim job arch (Ends job arch) before s (m >>= noted)
   noted_claim before s m h = claim_bind job arch (Ends job arch) before s m noted h
 
-  transfer_claim : (before s : State) (i : Instr) (len : ℕ) → AtRest arch.number s.book arch.ssp → decoded (instruction_bytes job arch) ≡ Read i len → Claim job arch (EndsRow job arch) before s (transfer arch i (above arch.rip len))
-  transfer_claim before s (instr.CallRel disp) len rest e =
+  flow_claim : (before s : State) (i : Instr) (len : ℕ) → AtRest arch.number s.book arch.ssp → decoded (instruction_bytes job arch) ≡ Read i len → Claim job arch (EndsRow job arch) before s (flow arch i (above arch.rip len))
+  flow_claim before s (instr.CallRel disp) len rest e =
       call_relative_claim job arch before s disp (above arch.rip len) rest (next_place job arch (instr.CallRel disp) len j e) (elsewhere _ e (λ x. cc))
-  transfer_claim before s (instr.CallInd target notrack) len rest e =
+  flow_claim before s (instr.CallInd target notrack) len rest e =
       call_indirect_claim job arch before s target (above arch.rip len) rest (next_place job arch (instr.CallInd target notrack) len j e) (elsewhere _ e (λ x. cc))
-  transfer_claim before s instr.Ret len rest e = ret_claim job j arch before s 0 rest
-  transfer_claim before s (instr.RetImm bytes) len rest e = ret_claim job j arch before s bytes rest
-  transfer_claim before s (instr.Push src) len rest e = push_claim job arch (elsewhere _ e (λ x. cc)) before s src (above arch.rip len) rest
-  transfer_claim before s (instr.Pop r) len rest e = pop_claim job arch (elsewhere _ e (λ x. cc)) before s r (above arch.rip len) rest
-  transfer_claim before s instr.Leave len rest e = leave_claim job arch (elsewhere _ e (λ x. cc)) before s (above arch.rip len) rest
-  transfer_claim before s (instr.JmpRel disp) len rest e = (rest, λ held now. elsewhere _ e (λ x. cc))
-  transfer_claim before s (instr.JmpInd target notrack) len rest e = jump_indirect_claim job arch (elsewhere _ e (λ x. cc)) before s target (above arch.rip len) rest
-  transfer_claim before s (instr.Jcc c disp) len rest e = (rest, λ held now. elsewhere _ e (λ x. cc))
-  transfer_claim before s i len rest e = no_return s _ rest e (λ x. cc)
+  flow_claim before s instr.Ret len rest e = ret_claim job j arch before s 0 rest
+  flow_claim before s (instr.RetImm bytes) len rest e = ret_claim job j arch before s bytes rest
+  flow_claim before s (instr.Push src) len rest e = push_claim job arch (elsewhere _ e (λ x. cc)) before s src (above arch.rip len) rest
+  flow_claim before s (instr.Pop r) len rest e = pop_claim job arch (elsewhere _ e (λ x. cc)) before s r (above arch.rip len) rest
+  flow_claim before s instr.Leave len rest e = leave_claim job arch (elsewhere _ e (λ x. cc)) before s (above arch.rip len) rest
+  flow_claim before s (instr.JmpRel disp) len rest e = (rest, λ held now. elsewhere _ e (λ x. cc))
+  flow_claim before s (instr.JmpInd target notrack) len rest e = jump_indirect_claim job arch (elsewhere _ e (λ x. cc)) before s target (above arch.rip len) rest
+  flow_claim before s (instr.Jcc c disp) len rest e = (rest, λ held now. elsewhere _ e (λ x. cc))
+  flow_claim before s i len rest e = no_return s _ rest e (λ x. cc)
 
   family_claim : (before s : State) (i : Instr) (len : ℕ) (p : Family) → family_of i ≡ p → IsMade arch.made → AtRest arch.number s.book arch.ssp → decoded (instruction_bytes job arch) ≡ Read i len → Claim job arch (Ends job arch) before s (execute_family job arch i (above arch.rip len) p)
   family_claim before s i len families.Arithmetic f made rest e =
-      noted_claim before s _ (arithmetic_claim job arch (elsewhere _ e (λ r. let t = returns_transfer i r in cc)) before s i (above arch.rip len) rest)
-  family_claim before s i len families.Transfer f made rest e = noted_claim before s _ (transfer_claim before s i len rest e)
-  family_claim before s i len families.KernelCall f made rest e =
-      syscall_claim before s (above arch.rip len) (elsewhere _ e (λ r. let t = returns_transfer i r in cc)) made rest
-  family_claim before s i len families.Unbuilt f made rest e = no_return s _ rest e (λ r. let t = returns_transfer i r in cc)
+      noted_claim before s _ (arithmetic_claim job arch (elsewhere _ e (λ r. let t = returns_flow i r in cc)) before s i (above arch.rip len) rest)
+  family_claim before s i len families.Flow f made rest e = noted_claim before s _ (flow_claim before s i len rest e)
+  family_claim before s i len families.SystemCall f made rest e =
+      syscall_claim before s (above arch.rip len) (elsewhere _ e (λ r. let t = returns_flow i r in cc)) made rest
+  family_claim before s i len families.Unbuilt f made rest e = no_return s _ rest e (λ r. let t = returns_flow i r in cc)
 
   missing_claim : (before s : State) (at : Option ℕ) (addr : ℕ) → AtRest arch.number s.book arch.ssp → Claim job arch (Ends job arch) before s (missing_in at addr)
   missing_claim before s None addr rest = (rest, λ r. tt)

@@ -17,11 +17,11 @@ use Rattle.cet_isa.specs.declared.instructions.Size.{Size}
 use Rattle.cet_isa.specs.declared.instructions.Size.TheVariants as size
 use Rattle.cet_isa.specs.declared.threads.Arch.{Arch}
 use Rattle.cet_page.specs.declared.flags.Computed.{Computed}
-use Rattle.cet_page.specs.Arithmetic.{operated, alu, test, multiply, move, move_zero, move_sign, move_if, xchg, lock_xadd, lock_cmpxchg, shift_count, arithmetic}
+use Rattle.cet_page.specs.Arithmetic.{operated, alu, test, multiply, move, movzx, movsxd, cmov, xchg, lock_xadd, lock_cmpxchg, shift_count, arithmetic}
 use Rattle.cet_page.specs.Flow.{push, pop, leave, jump_indirect}
 use Rattle.cet_page.specs.Operands.{register, assigned, settled}
 use Rattle.cet_page.specs.Parts.{invalid_opcode}
-use Rattle.cet_page.specs.Values.{limit, shifted_left, shifted_right, shifted_signed}
+use Rattle.cet_page.specs.Values.{limit, shifted_left, shifted_right, shifted_arithmetic}
 use Rattle.cet_own.specs.Safe.{IsElsewhere}
 use Rattle.cet_own.specs.Standing.{AtRest, rest_kept}
 use Rattle.cet_own.specs.Classes.{State}
@@ -91,17 +91,17 @@ module _ (job : JobData) (arch : Arch) (free : IsElsewhere job arch) where
   move_claim before s size.Dword (operand.Imm z) src next rest = invalid s rest
   move_claim before s size.Qword (operand.Imm z) src next rest = invalid s rest
 
-  move_zero_claim : (before s : State) (r : Reg) (m : Mem) (next : ℕ) → AtRest arch.number s.book arch.ssp → Claim job arch (EndsRow job arch) before s (move_zero arch r m next)
-  unfolding move_zero
+  move_zero_claim : (before s : State) (r : Reg) (m : Mem) (next : ℕ) → AtRest arch.number s.book arch.ssp → Claim job arch (EndsRow job arch) before s (movzx arch r m next)
+  unfolding movzx
   move_zero_claim before s r m next rest = load_at_then job arch (EndsRow job arch) before s _ 1 _ rest (λ z n rest1 value. (rest1, λ held now. free))
 
-  move_sign_claim : (before s : State) (r : Reg) (src : Operand) (next : ℕ) → AtRest arch.number s.book arch.ssp → Claim job arch (EndsRow job arch) before s (move_sign arch r src next)
-  unfolding move_sign
+  move_sign_claim : (before s : State) (r : Reg) (src : Operand) (next : ℕ) → AtRest arch.number s.book arch.ssp → Claim job arch (EndsRow job arch) before s (movsxd arch r src next)
+  unfolding movsxd
   move_sign_claim before s r src next rest =
       read_operand_then job arch (EndsRow job arch) before s size.Dword src next _ rest (λ z n rest1 value. (rest1, λ held now. free))
 
-  move_if_claim : (before s : State) (c : Cond) (sz : Size) (r : Reg) (src : Operand) (next : ℕ) → AtRest arch.number s.book arch.ssp → Claim job arch (EndsRow job arch) before s (move_if arch c sz r src next)
-  unfolding move_if
+  move_if_claim : (before s : State) (c : Cond) (sz : Size) (r : Reg) (src : Operand) (next : ℕ) → AtRest arch.number s.book arch.ssp → Claim job arch (EndsRow job arch) before s (cmov arch c sz r src next)
+  unfolding cmov
   move_if_claim before s c sz r src next rest =
       read_operand_then job arch (EndsRow job arch) before s sz src next _ rest (λ z n rest1 value. (rest1, λ held now. free))
 
@@ -151,7 +151,7 @@ module _ (job : JobData) (arch : Arch) (free : IsElsewhere job arch) where
   arithmetic_claim before s (instr.Imul sz r src) next rest = multiply_claim before s sz r src next rest
   arithmetic_claim before s (instr.Shl sz r c) next rest = shift_ends before s sz r (shifted_left sz (register arch r % limit sz) (shift_count arch sz c)) next (shift_count arch sz c == 0) rest
   arithmetic_claim before s (instr.Shr sz r c) next rest = shift_ends before s sz r (shifted_right sz (register arch r % limit sz) (shift_count arch sz c)) next (shift_count arch sz c == 0) rest
-  arithmetic_claim before s (instr.Sar sz r c) next rest = shift_ends before s sz r (shifted_signed sz (register arch r % limit sz) (shift_count arch sz c)) next (shift_count arch sz c == 0) rest
+  arithmetic_claim before s (instr.Sar sz r c) next rest = shift_ends before s sz r (shifted_arithmetic sz (register arch r % limit sz) (shift_count arch sz c)) next (shift_count arch sz c == 0) rest
   arithmetic_claim before s (instr.Cmov c sz r src) next rest = move_if_claim before s c sz r src next rest
   arithmetic_claim before s instr.Nop next rest = (rest, λ held now. free)
   arithmetic_claim before s instr.Pause next rest = (rest, λ held now. free)

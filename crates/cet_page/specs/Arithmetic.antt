@@ -26,7 +26,7 @@ use Rattle.cet_page.specs.Finish.{Row, rax}
 use Rattle.cet_page.specs.Operands.{register, with_register, effective, load_at, write_place, store_at, read_operand, stepped, assigned, settled, compared}
 use Rattle.cet_page.specs.Parts.{invalid_opcode, swap, fetch_add, exchange}
 use Rattle.cet_page.specs.Script.{done, fault, ◌>>=◌}
-use Rattle.cet_page.specs.Values.{bits, limit, sum, difference, logical, product, operation, keeping, complement, shifted_left, shifted_right, shifted_signed}
+use Rattle.cet_page.specs.Values.{bits, limit, sum, difference, logical, product, operation, keeping, ones_complement, shifted_left, shifted_right, shifted_arithmetic}
 
 -- ---- operations of two operands
 
@@ -70,20 +70,20 @@ move arch size.Qword (operand.Mem m) src next = do
 move arch s dst src next = fault invalid_opcode
 
 -- MOVZX of a byte
-unfoldable pub move_zero : Arch → Reg → Mem → (next : ℕ) → Row
-move_zero arch r m next = do
+unfoldable pub movzx : Arch → Reg → Mem → (next : ℕ) → Row
+movzx arch r m next = do
   value ← load_at (effective arch m next) 1
   done (assigned arch r value next)
 
 -- MOVSXD of 32 bits
-unfoldable pub move_sign : Arch → Reg → (src : Operand) → (next : ℕ) → Row
-move_sign arch r src next = do
+unfoldable pub movsxd : Arch → Reg → (src : Operand) → (next : ℕ) → Row
+movsxd arch r src next = do
   value ← read_operand arch size.Dword src next
   done (assigned arch r (cast_unsigned w64 (cast_signed w32 value)) next)
 
 -- CMOVcc reads its operand, and clears the upper half of a 32-bit destination, also where the condition fails
-unfoldable pub move_if : Arch → Cond → Size → Reg → (src : Operand) → (next : ℕ) → Row
-move_if arch c s r src next = do
+unfoldable pub cmov : Arch → Cond → Size → Reg → (src : Operand) → (next : ℕ) → Row
+cmov arch c s r src next = do
   value ← read_operand arch s src next
   done (assigned arch r (if holds c (status arch.flags) then value else register arch r % limit s) next)
 
@@ -136,21 +136,21 @@ arithmetic arch (instr.Alu op s dst src) next = alu arch op s dst src next
 arithmetic arch (instr.Test s dst src) next = test arch s dst src next
 arithmetic arch (instr.Mov s dst src) next = move arch s dst src next
 arithmetic arch (instr.MovWide r value) next = done (assigned arch r value next)
-arithmetic arch (instr.MovZero8 r m) next = move_zero arch r m next
-arithmetic arch (instr.MovSign32 r src) next = move_sign arch r src next
+arithmetic arch (instr.MovZero8 r m) next = movzx arch r m next
+arithmetic arch (instr.MovSign32 r src) next = movsxd arch r src next
 arithmetic arch (instr.Lea s r m) next = done (assigned arch r (effective arch m next % limit s) next)
 arithmetic arch (instr.Xchg dst r) next = xchg arch dst r next
 arithmetic arch (instr.LockXadd m r) next = lock_xadd arch m r next
 arithmetic arch (instr.LockCmpxchg m r) next = lock_cmpxchg arch m r next
 arithmetic arch (instr.Inc s r) next = done (settled arch r (keeping (carry arch) (sum s (register arch r % limit s) 1 0)) next)
 arithmetic arch (instr.Dec s r) next = done (settled arch r (keeping (carry arch) (difference s (register arch r % limit s) 1 0)) next)
-arithmetic arch (instr.Not s r) next = done (assigned arch r (complement s (register arch r % limit s)) next)
+arithmetic arch (instr.Not s r) next = done (assigned arch r (ones_complement s (register arch r % limit s)) next)
 arithmetic arch (instr.Neg s r) next = done (settled arch r (difference s 0 (register arch r % limit s) 0) next)
 arithmetic arch (instr.Imul s r src) next = multiply arch s r src next
 arithmetic arch (instr.Shl s r c) next = done (shift arch s r (shift_count arch s c) (shifted_left s (register arch r % limit s) (shift_count arch s c)) next)
 arithmetic arch (instr.Shr s r c) next = done (shift arch s r (shift_count arch s c) (shifted_right s (register arch r % limit s) (shift_count arch s c)) next)
-arithmetic arch (instr.Sar s r c) next = done (shift arch s r (shift_count arch s c) (shifted_signed s (register arch r % limit s) (shift_count arch s c)) next)
-arithmetic arch (instr.Cmov c s r src) next = move_if arch c s r src next
+arithmetic arch (instr.Sar s r c) next = done (shift arch s r (shift_count arch s c) (shifted_arithmetic s (register arch r % limit s) (shift_count arch s c)) next)
+arithmetic arch (instr.Cmov c s r src) next = cmov arch c s r src next
 arithmetic arch instr.Nop next = done (stepped arch arch.regs next arch.flags 0)
 arithmetic arch instr.Pause next = done (stepped arch arch.regs next arch.flags 0)
 arithmetic arch instr.Endbr64 next = done (stepped arch arch.regs next arch.flags 0)

@@ -6,17 +6,17 @@ use Rattle.cet_page.specs.declared.families.Family.TheVariants as families
 
 -- the instructions of shadow stacks aren't built
 abbrev pub family_of : Instr → Family
-family_of (instr.CallRel disp) = families.Transfer
-family_of (instr.CallInd target notrack) = families.Transfer
-family_of instr.Ret = families.Transfer
-family_of (instr.RetImm bytes) = families.Transfer
-family_of (instr.Push src) = families.Transfer
-family_of (instr.Pop r) = families.Transfer
-family_of instr.Leave = families.Transfer
-family_of (instr.JmpRel disp) = families.Transfer
-family_of (instr.JmpInd target notrack) = families.Transfer
-family_of (instr.Jcc c disp) = families.Transfer
-family_of instr.Syscall = families.KernelCall
+family_of (instr.CallRel disp) = families.Flow
+family_of (instr.CallInd target notrack) = families.Flow
+family_of instr.Ret = families.Flow
+family_of (instr.RetImm bytes) = families.Flow
+family_of (instr.Push src) = families.Flow
+family_of (instr.Pop r) = families.Flow
+family_of instr.Leave = families.Flow
+family_of (instr.JmpRel disp) = families.Flow
+family_of (instr.JmpInd target notrack) = families.Flow
+family_of (instr.Jcc c disp) = families.Flow
+family_of instr.Syscall = families.SystemCall
 family_of (instr.Incsspq r) = families.Unbuilt
 family_of (instr.Rdsspq r) = families.Unbuilt
 family_of (instr.Rstorssp m) = families.Unbuilt

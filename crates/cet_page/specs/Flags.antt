@@ -23,9 +23,9 @@ is_set flags mask = bit_and flags mask == mask
 abbrev pub status : ℕ → StatusFlags
 status flags = record { cf = is_set flags 0x1; pf = is_set flags 0x4; zf = is_set flags 0x40; sf = is_set flags 0x80; of = is_set flags 0x800 }
 
-abbrev pub differ : Bool → Bool → Bool
-differ true b = not b
-differ false b = b
+abbrev pub xor : Bool → Bool → Bool
+xor true b = not b
+xor false b = b
 
 -- below and above compare numbers without sign, less and greater those with a sign
 abbrev pub holds : Cond → StatusFlags → Bool
@@ -41,7 +41,7 @@ holds conds.S f = f.sf
 holds conds.Ns f = not f.sf
 holds conds.P f = f.pf
 holds conds.Np f = not f.pf
-holds conds.L f = differ f.sf f.of
-holds conds.Ge f = not (differ f.sf f.of)
-holds conds.Le f = f.zf || differ f.sf f.of
-holds conds.G f = not (f.zf || differ f.sf f.of)
+holds conds.L f = xor f.sf f.of
+holds conds.Ge f = not (xor f.sf f.of)
+holds conds.Le f = f.zf || xor f.sf f.of
+holds conds.G f = not (f.zf || xor f.sf f.of)

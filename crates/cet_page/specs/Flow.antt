@@ -143,15 +143,15 @@ jump_target arch c disp next = if holds c (status arch.flags) then relative next
 
 -- ---- the instructions; NOTRACK has no effect without branch tracking
 
-abbrev pub transfer : Arch → Instr → (next : ℕ) → Row
-transfer arch (instr.CallRel disp) next = call_relative arch disp next
-transfer arch (instr.CallInd target notrack) next = call_indirect arch target next
-transfer arch instr.Ret next = ret arch 0
-transfer arch (instr.RetImm bytes) next = ret arch bytes
-transfer arch (instr.Push src) next = push arch src next
-transfer arch (instr.Pop r) next = pop arch r next
-transfer arch instr.Leave next = leave arch next
-transfer arch (instr.JmpRel disp) next = done (jumped arch (relative next disp))
-transfer arch (instr.JmpInd target notrack) next = jump_indirect arch target next
-transfer arch (instr.Jcc c disp) next = done (jumped arch (jump_target arch c disp next))
-transfer arch i next = fault invalid_opcode
+abbrev pub flow : Arch → Instr → (next : ℕ) → Row
+flow arch (instr.CallRel disp) next = call_relative arch disp next
+flow arch (instr.CallInd target notrack) next = call_indirect arch target next
+flow arch instr.Ret next = ret arch 0
+flow arch (instr.RetImm bytes) next = ret arch bytes
+flow arch (instr.Push src) next = push arch src next
+flow arch (instr.Pop r) next = pop arch r next
+flow arch instr.Leave next = leave arch next
+flow arch (instr.JmpRel disp) next = done (jumped arch (relative next disp))
+flow arch (instr.JmpInd target notrack) next = jump_indirect arch target next
+flow arch (instr.Jcc c disp) next = done (jumped arch (jump_target arch c disp next))
+flow arch i next = fault invalid_opcode

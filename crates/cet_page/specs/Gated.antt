@@ -25,13 +25,13 @@ use Rattle.cet_isa.specs.declared.threads.End.{End}
 use Rattle.cet_isa.specs.declared.threads.Fault.{Fault}
 use Rattle.cet_page.specs.Script.{Script, done, fault, ask, tell, ◌>>=◌, Came, Wants, play, changes_at}
 use Rattle.cet_page.specs.Page.{allows, page_fault}
-use Rattle.cet_page.specs.Parts.{tested, look_in, look, peek, load, load_as, store, store_as, stores, exchange, exchange_as, swap, fetch_add, fetch_add_as, misaligned}
+use Rattle.cet_page.specs.Parts.{tested, look_in, look, peek, load, load_as, store, store_as, stores, exchange, exchange_as, swap, fetch_add, fetch_add_as, alignment_check}
 use Rattle.cet_page.specs.Orderly.{Spent}
 use Rattle.cet_page.specs.Finish.{Row, noted, above, below, rax, rsp}
 use Rattle.cet_page.specs.Operands.{register, effective, byte_count, load_word, load_at, write_place, store_at, read_operand, assigned, settled}
 use Rattle.cet_page.specs.declared.flags.Computed.{Computed}
-use Rattle.cet_page.specs.Arithmetic.{operated, alu, test, multiply, move, move_zero, move_sign, move_if, xchg, lock_xadd, lock_cmpxchg, arithmetic}
-use Rattle.cet_page.specs.Flow.{call, call_next, call_relative, call_to, call_indirect, returned_if, ret, push, pop, leave, rbp, jump_indirect, transfer}
+use Rattle.cet_page.specs.Arithmetic.{operated, alu, test, multiply, move, movzx, movsxd, cmov, xchg, lock_xadd, lock_cmpxchg, arithmetic}
+use Rattle.cet_page.specs.Flow.{call, call_next, call_relative, call_to, call_indirect, returned_if, ret, push, pop, leave, rbp, jump_indirect, flow}
 use Rattle.cet_page.specs.Gate.{exit_word, pend_word, handler_word, token, token_page, token_word, kernel_return, stack_of, busied_if, gate_in, gate_out, inside, made_page, exit_status, exit, exit_group, no_call, service, syscall, signal_of, kill, deliver}
 use Rattle.cet_page.specs.Fetch.{missing, missing_in}
 use Rattle.cet_page.specs.Family.{family_of}
@@ -126,7 +126,7 @@ still_store false k word value v held = refl
 
 gated_tested : (b : Bool) (k addr size : ℕ) → Gated b k (tested addr size)
 unfolding tested
-gated_tested b k addr size = gated_cond b k (canonical addr) _ _ (gated_cond b k (addr % size == 0) (done tt) (fault (misaligned addr)) tt tt) tt
+gated_tested b k addr size = gated_cond b k (canonical addr) _ _ (gated_cond b k (addr % size == 0) (done tt) (fault (alignment_check addr)) tt tt) tt
 
 gated_look_in : (b : Bool) (k : ℕ) (at : Option ℕ) (kd : Kind) (w : Who) (addr : ℕ) → Gated b k (look_in at kd w addr)
 unfolding look_in
@@ -176,7 +176,7 @@ gated_read b k arch s (operand.Reg r) next = tt
 gated_read b k arch s (operand.Imm z) next = tt
 gated_read b k arch s (operand.Mem m) next = gated_load_at b k (effective arch m next) (byte_count s)
 
--- ---- arithmetic and transfers, which don't enter the kernel
+-- ---- arithmetic and control flow, which don't enter the kernel
 
 gated_operated : (k : ℕ) (arch : Arch) (op : AluOp) (dst : Operand) (c : Computed) (next : ℕ) → Gated false k (operated arch op dst c next)
 gated_operated k arch ops.Cmp dst c next = tt
@@ -203,7 +203,7 @@ module _ (k : ℕ) (arch : Arch) (next : ℕ) where
   gated_xchg (operand.Imm z) r = tt
 
   gated_arithmetic : (i : Instr) → Gated false k (arithmetic arch i next)
-  unfolding alu test multiply move_zero move_sign move_if lock_xadd lock_cmpxchg fetch_add_as exchange_as
+  unfolding alu test multiply movzx movsxd cmov lock_xadd lock_cmpxchg fetch_add_as exchange_as
   gated_arithmetic (instr.Alu op s dst src) =
       gated_bind false k _ _ (gated_read false k arch s dst next) (λ x.
       gated_bind false k _ _ (gated_read false k arch s src next) (λ y. gated_operated k arch op dst _ next))
@@ -254,21 +254,21 @@ module _ (k : ℕ) (arch : Arch) (next : ℕ) where
       gated_bind false k (load_as (returned_if word) (word_in shadow arch.ssp)) _ (λ v. (returned_held ((word == v) && canonical word), tt)) (λ shadow_word.
       gated_cond false k (word == shadow_word) _ _ (gated_cond false k (canonical word) _ _ tt tt) tt)))))
 
-  gated_transfer : (i : Instr) → Gated false k (transfer arch i next)
+  gated_flow : (i : Instr) → Gated false k (flow arch i next)
   unfolding call_indirect push pop leave jump_indirect
-  gated_transfer (instr.CallRel disp) = gated_cond false k (cast_unsigned w64 disp == 0) _ _ (gated_call_next next) (gated_call next _)
-  gated_transfer (instr.CallInd src notrack) =
+  gated_flow (instr.CallRel disp) = gated_cond false k (cast_unsigned w64 disp == 0) _ _ (gated_call_next next) (gated_call next _)
+  gated_flow (instr.CallInd src notrack) =
       gated_bind false k _ _ (gated_read false k arch size.Qword src next) (λ target. gated_cond false k (canonical target) _ _ (gated_call next target) tt)
-  gated_transfer instr.Ret = gated_ret 0
-  gated_transfer (instr.RetImm bytes) = gated_ret bytes
-  gated_transfer (instr.Push src) =
+  gated_flow instr.Ret = gated_ret 0
+  gated_flow (instr.RetImm bytes) = gated_ret bytes
+  gated_flow (instr.Push src) =
       gated_bind false k _ _ (gated_read false k arch size.Qword src next) (λ value.
       gated_bind false k _ _ (gated_store_at false k (below (rsp arch) 8) value) (λ _. tt))
-  gated_transfer (instr.Pop r) = gated_bind false k _ _ (gated_load_at false k (rsp arch) 8) (λ value. tt)
-  gated_transfer instr.Leave = gated_bind false k _ _ (gated_load_at false k (rbp arch) 8) (λ value. tt)
-  gated_transfer (instr.JmpInd src notrack) =
+  gated_flow (instr.Pop r) = gated_bind false k _ _ (gated_load_at false k (rsp arch) 8) (λ value. tt)
+  gated_flow instr.Leave = gated_bind false k _ _ (gated_load_at false k (rbp arch) 8) (λ value. tt)
+  gated_flow (instr.JmpInd src notrack) =
       gated_bind false k _ _ (gated_read false k arch size.Qword src next) (λ target. gated_cond false k (canonical target) _ _ tt tt)
-  gated_transfer i = tt
+  gated_flow i = tt
 
 -- ---- the gate
 
@@ -347,22 +347,22 @@ module _ (arch : Arch) where
   gated_noted : (b : Bool) (k : ℕ) (m : Row) → Gated b k m → Gated b k (m >>= noted)
   gated_noted b k m h = gated_bind b k m noted h (λ x. tt)
 
-  calls_enter : (i : Instr) → family_of i ≡ families.KernelCall → is_syscall i ≡ true
+  calls_enter : (i : Instr) → family_of i ≡ families.SystemCall → is_syscall i ≡ true
   calls_enter instr.Syscall e = refl
   calls_enter i e = cc
 
-  family_enters : (i : Instr) → is_syscall i ≡ true → family_of i ≡ families.KernelCall
+  family_enters : (i : Instr) → is_syscall i ≡ true → family_of i ≡ families.SystemCall
   family_enters instr.Syscall e = refl
   family_enters i e = cc
 
   gated_family : (job : JobData) (i : Instr) (next : ℕ) (p : Family) (b : Bool) → family_of i ≡ p → is_syscall i ≡ b → Gated b (stack_of job arch) (execute_family job arch i next p)
   gated_family job i next families.Arithmetic false e f = gated_noted false (stack_of job arch) _ (gated_arithmetic (stack_of job arch) arch next i)
-  gated_family job i next families.Transfer false e f = gated_noted false (stack_of job arch) _ (gated_transfer (stack_of job arch) arch next i)
-  gated_family job i next families.KernelCall true e f = gated_syscall job next
+  gated_family job i next families.Flow false e f = gated_noted false (stack_of job arch) _ (gated_flow (stack_of job arch) arch next i)
+  gated_family job i next families.SystemCall true e f = gated_syscall job next
   gated_family job i next families.Unbuilt b e f = tt
   gated_family job i next families.Arithmetic true e f = let q = family_enters i f in cc
-  gated_family job i next families.Transfer true e f = let q = family_enters i f in cc
-  gated_family job i next families.KernelCall false e f = let q = calls_enter i e in cc
+  gated_family job i next families.Flow true e f = let q = family_enters i f in cc
+  gated_family job i next families.SystemCall false e f = let q = calls_enter i e in cc
 
   gated_missing : (b : Bool) (k : ℕ) (at : Option ℕ) (addr : ℕ) → Gated b k (missing_in {A = Finish} at addr)
   gated_missing b k None addr = tt

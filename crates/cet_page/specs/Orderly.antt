@@ -16,7 +16,7 @@ use Rattle.cet_words.specs.Change.{Change}
 use Rattle.cet_page.specs.Script.{Script, done, fault, ask, tell, ◌>>=◌, Came, Over, Faulted, Wants, play, changes_at, birth}
 use Rattle.cet_page.specs.Seen.{keeps, kept_after}
 use Rattle.cet_page.specs.Page.{allows, page_fault}
-use Rattle.cet_page.specs.Parts.{tested, look_in, look, peek, load_as, store_as, exchange_as, swap, fetch_add_as, misaligned}
+use Rattle.cet_page.specs.Parts.{tested, look_in, look, peek, load_as, store_as, exchange_as, swap, fetch_add_as, alignment_check}
 use Rattle.cet_page.specs.Values.{limit, width}
 use Rattle.cet_page.specs.Operands.{register, effective, byte_count, bytes_at, load_word, load_at, write_place, store_at, read_operand}
 use Rattle.cet_page.specs.declared.checks.Kind.{Kind}
@@ -65,7 +65,7 @@ pub tested_then : {A : Type 0} (n k : ℕ) (Q : ℕ → ℕ → Bool → A → T
 unfolding tested
 tested_then {A} n k Q addr size f h =
     orderly_bind n k false Q (tested addr size) f (orderly_cond n k false (λ n' k' w x. Orderly n' k' w Q (f x)) (canonical addr) _ _
-    (λ _. orderly_cond n k false (λ n' k' w x. Orderly n' k' w Q (f x)) (addr % size == 0) (done tt) (fault (misaligned addr)) (λ _. h) (λ _. refl))
+    (λ _. orderly_cond n k false (λ n' k' w x. Orderly n' k' w Q (f x)) (addr % size == 0) (done tt) (fault (alignment_check addr)) (λ _. h) (λ _. refl))
     (λ _. refl))
 
 look_in_orderly : (n k : ℕ) (Q : ℕ → ℕ → Bool → ℕ → Type 0) (at : Option ℕ) (kd : Kind) (w : Who) (addr : ℕ) → nat_le 1 n ≡ true → nat_le 1 k ≡ true → ((page : ℕ) → Q (n - 1) (k - 1) false page) → Orderly n k false Q (look_in at kd w addr)

@@ -31,10 +31,10 @@ use Rattle.cet_page.specs.declared.families.Family.{Family}
 use Rattle.cet_page.specs.declared.families.Family.TheVariants as families
 use Rattle.cet_page.specs.declared.flags.Computed.{Computed}
 use Rattle.cet_page.specs.Family.{family_of}
-use Rattle.cet_page.specs.Values.{limit, shifted_left, shifted_right, shifted_signed}
+use Rattle.cet_page.specs.Values.{limit, shifted_left, shifted_right, shifted_arithmetic}
 use Rattle.cet_page.specs.Operands.{register, assigned, settled}
-use Rattle.cet_page.specs.Arithmetic.{operated, alu, test, multiply, move, move_zero, move_sign, move_if, xchg, lock_xadd, lock_cmpxchg, shift_count, arithmetic}
-use Rattle.cet_page.specs.Flow.{call, call_next, call_relative, call_to, call_indirect, ret, push, pop, leave, jump_indirect, transfer}
+use Rattle.cet_page.specs.Arithmetic.{operated, alu, test, multiply, move, movzx, movsxd, cmov, xchg, lock_xadd, lock_cmpxchg, shift_count, arithmetic}
+use Rattle.cet_page.specs.Flow.{call, call_next, call_relative, call_to, call_indirect, ret, push, pop, leave, jump_indirect, flow}
 use Rattle.cet_page.specs.Gate.{gate_in, gate_out, clears, exit, exit_group, no_call, service, syscall, kill, deliver, stack_of, signal_of, token}
 use Rattle.cet_page.specs.Fetch.{missing, missing_in}
 use Rattle.cet_page.specs.Row.{execute_family, fetched, instruction, instruction_bytes, boundary, row, row_from}
@@ -182,18 +182,18 @@ orderly_jump_indirect arch src next =
     read_operand_then 4094 29 (EndsRow arch) arch size.Qword src next _ refl refl (λ target.
     orderly_cond 4092 27 false _ (canonical target) _ _ (λ _. (refl, refl, refl)) (λ _. refl))
 
-orderly_transfer : (arch : Arch) (i : Instr) (next : ℕ) → Orderly 4094 29 false (Results (EndsRow arch)) (transfer arch i next)
-orderly_transfer arch (instr.CallRel disp) next = orderly_call_relative arch disp next
-orderly_transfer arch (instr.CallInd target notrack) next = orderly_call_indirect arch target next
-orderly_transfer arch instr.Ret next = orderly_ret arch 0
-orderly_transfer arch (instr.RetImm bytes) next = orderly_ret arch bytes
-orderly_transfer arch (instr.Push src) next = orderly_push arch src next
-orderly_transfer arch (instr.Pop r) next = orderly_pop arch r next
-orderly_transfer arch instr.Leave next = orderly_leave arch next
-orderly_transfer arch (instr.JmpRel disp) next = (refl, refl, refl)
-orderly_transfer arch (instr.JmpInd target notrack) next = orderly_jump_indirect arch target next
-orderly_transfer arch (instr.Jcc c disp) next = (refl, refl, refl)
-orderly_transfer arch i next = refl
+orderly_flow : (arch : Arch) (i : Instr) (next : ℕ) → Orderly 4094 29 false (Results (EndsRow arch)) (flow arch i next)
+orderly_flow arch (instr.CallRel disp) next = orderly_call_relative arch disp next
+orderly_flow arch (instr.CallInd target notrack) next = orderly_call_indirect arch target next
+orderly_flow arch instr.Ret next = orderly_ret arch 0
+orderly_flow arch (instr.RetImm bytes) next = orderly_ret arch bytes
+orderly_flow arch (instr.Push src) next = orderly_push arch src next
+orderly_flow arch (instr.Pop r) next = orderly_pop arch r next
+orderly_flow arch instr.Leave next = orderly_leave arch next
+orderly_flow arch (instr.JmpRel disp) next = (refl, refl, refl)
+orderly_flow arch (instr.JmpInd target notrack) next = orderly_jump_indirect arch target next
+orderly_flow arch (instr.Jcc c disp) next = (refl, refl, refl)
+orderly_flow arch i next = refl
 
 -- ---- moves, arithmetic, tests, shifts and locked operations
 
@@ -229,17 +229,17 @@ orderly_move arch size.Dword (operand.Mem m) src next = refl
 orderly_move arch size.Dword (operand.Imm z) src next = refl
 orderly_move arch size.Qword (operand.Imm z) src next = refl
 
-orderly_move_zero : (arch : Arch) (r : Reg) (m : Mem) (next : ℕ) → Orderly 4094 29 false (Results (EndsRow arch)) (move_zero arch r m next)
-unfolding move_zero
-orderly_move_zero arch r m next = load_at_then 4094 29 (EndsRow arch) _ 1 _ refl refl (λ value. (refl, refl, refl))
+orderly_movzx : (arch : Arch) (r : Reg) (m : Mem) (next : ℕ) → Orderly 4094 29 false (Results (EndsRow arch)) (movzx arch r m next)
+unfolding movzx
+orderly_movzx arch r m next = load_at_then 4094 29 (EndsRow arch) _ 1 _ refl refl (λ value. (refl, refl, refl))
 
-orderly_move_sign : (arch : Arch) (r : Reg) (src : Operand) (next : ℕ) → Orderly 4094 29 false (Results (EndsRow arch)) (move_sign arch r src next)
-unfolding move_sign
-orderly_move_sign arch r src next = read_operand_then 4094 29 (EndsRow arch) arch size.Dword src next _ refl refl (λ value. (refl, refl, refl))
+orderly_movsxd : (arch : Arch) (r : Reg) (src : Operand) (next : ℕ) → Orderly 4094 29 false (Results (EndsRow arch)) (movsxd arch r src next)
+unfolding movsxd
+orderly_movsxd arch r src next = read_operand_then 4094 29 (EndsRow arch) arch size.Dword src next _ refl refl (λ value. (refl, refl, refl))
 
-orderly_move_if : (arch : Arch) (c : Cond) (s : Size) (r : Reg) (src : Operand) (next : ℕ) → Orderly 4094 29 false (Results (EndsRow arch)) (move_if arch c s r src next)
-unfolding move_if
-orderly_move_if arch c s r src next = read_operand_then 4094 29 (EndsRow arch) arch s src next _ refl refl (λ value. (refl, refl, refl))
+orderly_cmov : (arch : Arch) (c : Cond) (s : Size) (r : Reg) (src : Operand) (next : ℕ) → Orderly 4094 29 false (Results (EndsRow arch)) (cmov arch c s r src next)
+unfolding cmov
+orderly_cmov arch c s r src next = read_operand_then 4094 29 (EndsRow arch) arch s src next _ refl refl (λ value. (refl, refl, refl))
 
 orderly_xchg : (arch : Arch) (dst : Operand) (r : Reg) (next : ℕ) → Orderly 4094 29 false (Results (EndsRow arch)) (xchg arch dst r next)
 unfolding xchg
@@ -267,8 +267,8 @@ orderly_arithmetic arch (instr.Alu op s dst src) next = orderly_alu arch op s ds
 orderly_arithmetic arch (instr.Test s dst src) next = orderly_test arch s dst src next
 orderly_arithmetic arch (instr.Mov s dst src) next = orderly_move arch s dst src next
 orderly_arithmetic arch (instr.MovWide r value) next = (refl, refl, refl)
-orderly_arithmetic arch (instr.MovZero8 r m) next = orderly_move_zero arch r m next
-orderly_arithmetic arch (instr.MovSign32 r src) next = orderly_move_sign arch r src next
+orderly_arithmetic arch (instr.MovZero8 r m) next = orderly_movzx arch r m next
+orderly_arithmetic arch (instr.MovSign32 r src) next = orderly_movsxd arch r src next
 orderly_arithmetic arch (instr.Lea s r m) next = (refl, refl, refl)
 orderly_arithmetic arch (instr.Xchg dst r) next = orderly_xchg arch dst r next
 orderly_arithmetic arch (instr.LockXadd m r) next = orderly_lock_xadd arch m r next
@@ -280,8 +280,8 @@ orderly_arithmetic arch (instr.Neg s r) next = (refl, refl, refl)
 orderly_arithmetic arch (instr.Imul s r src) next = orderly_multiply arch s r src next
 orderly_arithmetic arch (instr.Shl s r c) next = shift_ends arch s r (shifted_left s (register arch r % limit s) (shift_count arch s c)) next (shift_count arch s c == 0)
 orderly_arithmetic arch (instr.Shr s r c) next = shift_ends arch s r (shifted_right s (register arch r % limit s) (shift_count arch s c)) next (shift_count arch s c == 0)
-orderly_arithmetic arch (instr.Sar s r c) next = shift_ends arch s r (shifted_signed s (register arch r % limit s) (shift_count arch s c)) next (shift_count arch s c == 0)
-orderly_arithmetic arch (instr.Cmov c s r src) next = orderly_move_if arch c s r src next
+orderly_arithmetic arch (instr.Sar s r c) next = shift_ends arch s r (shifted_arithmetic s (register arch r % limit s) (shift_count arch s c)) next (shift_count arch s c == 0)
+orderly_arithmetic arch (instr.Cmov c s r src) next = orderly_cmov arch c s r src next
 orderly_arithmetic arch instr.Nop next = (refl, refl, refl)
 orderly_arithmetic arch instr.Pause next = (refl, refl, refl)
 orderly_arithmetic arch instr.Endbr64 next = (refl, refl, refl)
@@ -374,8 +374,8 @@ orderly_deliver job arch e =
 
 orderly_family : (job : JobData) (arch : Arch) (i : Instr) (next : ℕ) (p : Family) → Orderly 4094 29 false (Results (Ends arch)) (execute_family job arch i next p)
 orderly_family job arch i next families.Arithmetic = orderly_noted 4094 29 false arch _ (orderly_arithmetic arch i next)
-orderly_family job arch i next families.Transfer = orderly_noted 4094 29 false arch _ (orderly_transfer arch i next)
-orderly_family job arch i next families.KernelCall = orderly_syscall job arch next
+orderly_family job arch i next families.Flow = orderly_noted 4094 29 false arch _ (orderly_flow arch i next)
+orderly_family job arch i next families.SystemCall = orderly_syscall job arch next
 orderly_family job arch i next families.Unbuilt = refl
 
 orderly_missing : (Q : ℕ → ℕ → Bool → Finish → Type 0) (at : Option ℕ) (addr : ℕ) → Orderly 4094 29 false Q (missing_in at addr)

@@ -13,16 +13,16 @@ abbrev pub has : ℕ → ℕ → Bool
 has entry mask = nat_lt 0 (bit_and entry mask)
 
 -- R/W clear (2) and D set (64)
-abbrev pub is_shadow_page : ℕ → Bool
-is_shadow_page entry = bit_and entry 0x42 == 0x40
+abbrev pub is_shadow_stack_page : ℕ → Bool
+is_shadow_stack_page entry = bit_and entry 0x42 == 0x40
 
 -- what the kind of access asks of a present entry; XD is bit 63
 abbrev pub kind_allows : Kind → ℕ → Bool
 kind_allows kind.Fetch entry = bit_and entry 0x8000000000000000 == 0
 kind_allows kind.Load entry = true
 kind_allows kind.Store entry = has entry 2
-kind_allows kind.ShadowLoad entry = is_shadow_page entry
-kind_allows kind.ShadowStore entry = is_shadow_page entry
+kind_allows kind.ShadowLoad entry = is_shadow_stack_page entry
+kind_allows kind.ShadowStore entry = is_shadow_stack_page entry
 
 -- U/S is 4
 abbrev pub who_allows : Who → ℕ → Bool

@@ -19,14 +19,14 @@ general_protection = record { name = Gp; code = 0; a = 0; b = 0 }
 abbrev pub invalid_opcode : Fault
 invalid_opcode = record { name = Ud; code = 0; a = 0; b = 0 }
 
-abbrev pub misaligned : ℕ → Fault
-misaligned addr = record { name = Ac; code = 0; a = addr; b = 0 }
+abbrev pub alignment_check : ℕ → Fault
+alignment_check addr = record { name = Ac; code = 0; a = addr; b = 0 }
 
 -- the canonical test, and then the test for a multiple of the size
 unfoldable pub tested : (addr size : ℕ) → Script (Unit {0})
 tested addr size =
     if canonical addr
-    then (if addr % size == 0 then done tt else fault (misaligned addr))
+    then (if addr % size == 0 then done tt else fault (alignment_check addr))
     else fault general_protection
 
 -- the look at a page and the page check, with the page's number as result; an address on no page counts as entry 0 and costs

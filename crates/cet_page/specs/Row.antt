@@ -11,7 +11,7 @@ use Rattle.cet_page.specs.Script.{Script, done, fault, ◌>>=◌}
 use Rattle.cet_page.specs.Parts.{general_protection, invalid_opcode, load}
 use Rattle.cet_page.specs.Finish.{noted, above}
 use Rattle.cet_page.specs.Arithmetic.{arithmetic}
-use Rattle.cet_page.specs.Flow.{transfer}
+use Rattle.cet_page.specs.Flow.{flow}
 use Rattle.cet_page.specs.Family.{family_of}
 use Rattle.cet_page.specs.declared.families.Family.{Family}
 use Rattle.cet_page.specs.declared.families.Family.TheVariants as families
@@ -22,8 +22,8 @@ use Rattle.cet_page.specs.declared.finishes.Finish.TheVariants as finish
 
 abbrev pub execute_family : JobData → Arch → Instr → (next : ℕ) → Family → Script Finish
 execute_family job arch i next families.Arithmetic = arithmetic arch i next >>= noted
-execute_family job arch i next families.Transfer = transfer arch i next >>= noted
-execute_family job arch i next families.KernelCall = syscall job arch next
+execute_family job arch i next families.Flow = flow arch i next >>= noted
+execute_family job arch i next families.SystemCall = syscall job arch next
 execute_family job arch i next families.Unbuilt = fault invalid_opcode
 
 -- An instruction, with the address of the next one. One that isn't built is an invalid opcode.

@@ -7,7 +7,7 @@ use Rattle.cet_isa.specs.declared.instructions.AluOp.TheVariants as ops
 use Rattle.cet_isa.specs.declared.instructions.Size.{Size}
 use Rattle.cet_isa.specs.declared.instructions.Size.TheVariants as size
 use Rattle.cet_page.specs.declared.flags.Computed.{Computed}
-use Rattle.cet_page.specs.Flags.{differ}
+use Rattle.cet_page.specs.Flags.{xor}
 
 -- ---- numbers of a size
 
@@ -32,7 +32,7 @@ half size.Qword = 2 ^ 63
 abbrev pub top_bit : Size → ℕ → Bool
 top_bit s x = nat_le (half s) x
 
--- the number that the bits mean in two's complement
+-- the number that the bits mean in two's ones_complement
 abbrev pub signed : Size → ℕ → ℤ
 signed s x = cast_signed (width s) x
 
@@ -88,19 +88,19 @@ operation ops.Cmp s x y c = difference s x y 0
 abbrev pub keeping : (carry : Bool) → Computed → Computed
 keeping carry c = record { value = c.value; flags = record { cf = carry; pf = c.flags.pf; zf = c.flags.zf; sf = c.flags.sf; of = c.flags.of } }
 
-abbrev pub complement : Size → ℕ → ℕ
-complement s x = limit s - 1 - x
+abbrev pub ones_complement : Size → ℕ → ℕ
+ones_complement s x = limit s - 1 - x
 
 -- ---- shifts by 1 to bits - 1: CF is the last bit that was shifted out, and OF is told for a shift by 1 alone
 
 abbrev pub shifted_left : Size → (x count : ℕ) → Computed
 shifted_left s x n =
     computed s (x * 2 ^ n % limit s) (x * 2 ^ n / limit s % 2 == 1)
-    ((n == 1) && differ (top_bit s (x * 2 ^ n % limit s)) (x * 2 ^ n / limit s % 2 == 1))
+    ((n == 1) && xor (top_bit s (x * 2 ^ n % limit s)) (x * 2 ^ n / limit s % 2 == 1))
 
 abbrev pub shifted_right : Size → (x count : ℕ) → Computed
 shifted_right s x n = computed s (x / 2 ^ n) (x / 2 ^ (n - 1) % 2 == 1) ((n == 1) && top_bit s x)
 
 -- the signed number divided by the power of two, rounded down
-abbrev pub shifted_signed : Size → (x count : ℕ) → Computed
-shifted_signed s x n = computed s (cast_unsigned (width s) (int_shr (signed s x) n)) (x / 2 ^ (n - 1) % 2 == 1) false
+abbrev pub shifted_arithmetic : Size → (x count : ℕ) → Computed
+shifted_arithmetic s x n = computed s (cast_unsigned (width s) (int_shr (signed s x) n)) (x / 2 ^ (n - 1) % 2 == 1) false

@@ -1,5 +1,5 @@
 ghost use Rattle.std.specs.Prelude.{◌≡◌};
-ghost use Rattle.cet_page.specs.Page.{checked, index_at, page_fault, kind_allows, who_allows, is_shadow_page};
+ghost use Rattle.cet_page.specs.Page.{checked, index_at, page_fault, kind_allows, who_allows, is_shadow_stack_page};
 
 use cet_isa::{Fault, FaultName};
 
@@ -30,8 +30,8 @@ const DIRTY: u64 = 1 << 6;
 
 const NO_EXECUTE: u64 = 1 << 63;
 
-fn is_shadow_page(entry: u64) -> bool
-    ensures { result ≡ is_shadow_page entry }
+fn is_shadow_stack_page(entry: u64) -> bool
+    ensures { result ≡ is_shadow_stack_page entry }
 {
     entry & 0x42 == DIRTY
 }
@@ -43,8 +43,8 @@ fn kind_allows(kind: Kind, entry: u64) -> bool
         Kind::Fetch => entry & NO_EXECUTE == 0,
         Kind::Load => true,
         Kind::Store => entry & WRITABLE != 0,
-        Kind::ShadowLoad => is_shadow_page(entry),
-        Kind::ShadowStore => is_shadow_page(entry),
+        Kind::ShadowLoad => is_shadow_stack_page(entry),
+        Kind::ShadowStore => is_shadow_stack_page(entry),
     }
 }
 

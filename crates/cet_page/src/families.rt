@@ -9,8 +9,9 @@ pub enum Family {
     /// Moves, arithmetic, tests, shifts and locked operations.
     Arithmetic,
     /// Calls, returns, pushes, pops and jumps.
-    Transfer,
-    KernelCall,
+    Flow,
+    /// SYSCALL.
+    SystemCall,
     /// What is an invalid opcode for want of being built.
     Unbuilt,
 }
@@ -29,8 +30,8 @@ pub fn family_of(instr: &Instr) -> Family
         | Instr::Leave
         | Instr::JmpRel { .. }
         | Instr::JmpInd { .. }
-        | Instr::Jcc { .. } => Family::Transfer,
-        Instr::Syscall => Family::KernelCall,
+        | Instr::Jcc { .. } => Family::Flow,
+        Instr::Syscall => Family::SystemCall,
         Instr::Incsspq { .. }
         | Instr::Rdsspq { .. }
         | Instr::Rstorssp { .. }

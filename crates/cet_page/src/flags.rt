@@ -1,7 +1,7 @@
 //! The status flags.
 
 ghost use Rattle.std.specs.Prelude.{◌≡◌};
-ghost use Rattle.cet_page.specs.Flags.{with_flag, rflags, status, holds, differ};
+ghost use Rattle.cet_page.specs.Flags.{with_flag, rflags, status, holds, xor};
 
 use bitflags::Flags;
 use cet_isa::{Cond, Rflags};
@@ -29,8 +29,8 @@ fn with(flags: Rflags, flag: Rflags, set: bool) -> Rflags
     if set { flags.union(flag) } else { flags }
 }
 
-fn differ(a: bool, b: bool) -> bool
-    ensures { result ≡ differ a b }
+fn xor(a: bool, b: bool) -> bool
+    ensures { result ≡ xor a b }
 {
     a != b
 }
@@ -78,10 +78,10 @@ impl StatusFlags {
             Cond::Ns => !self.sf,
             Cond::P => self.pf,
             Cond::Np => !self.pf,
-            Cond::L => differ(self.sf, self.of),
-            Cond::Ge => !differ(self.sf, self.of),
-            Cond::Le => self.zf || differ(self.sf, self.of),
-            Cond::G => !(self.zf || differ(self.sf, self.of)),
+            Cond::L => xor(self.sf, self.of),
+            Cond::Ge => !xor(self.sf, self.of),
+            Cond::Le => self.zf || xor(self.sf, self.of),
+            Cond::G => !(self.zf || xor(self.sf, self.of)),
         }
     }
 }

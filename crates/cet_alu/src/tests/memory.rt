@@ -212,7 +212,7 @@ fn refused_addresses(rt: HostRuntime) {
     }
     let (mem, reg) = (based(Reg::Rcx, 0), Reg::Rax);
     let (dst, rax) = (Operand::Mem(mem), Operand::Reg(reg));
-    let misaligned = [
+    let alignment_check = [
         (mov(Qword, rax, dst), ADDR + 4),
         (mov(Qword, rax, dst), 0x1001),
         (mov(Dword, rax, dst), ADDR + 2),
@@ -222,7 +222,7 @@ fn refused_addresses(rt: HostRuntime) {
         (Instr::LockXadd { mem, reg }, ADDR + 1),
         (Instr::LockCmpxchg { mem, reg }, ADDR + 4),
     ];
-    for (instr, addr) in misaligned {
+    for (instr, addr) in alignment_check {
         let arch = &thread(5, addr, 0);
         expect(&rt, arch, instr, fault(FaultName::Ac, 0, addr, 0));
     }
