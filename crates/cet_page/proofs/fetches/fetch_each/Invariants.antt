@@ -1,7 +1,7 @@
 -- the bytes so far, and those that can be fetched from there on, are all
 use Rattle.std.proofs.Common.{◌≡◌, ◌+◌, ◌-◌, ◌^◌, ◌<◌, ◌++◌, length, take}
 use Rattle.cet_page.specs.Fetch.{fetchable}
-use Rattle.cet_page.proofs.fetches.fetch.Given as goal
+use Rattle.cet_page.proofs.fetches.fetch_each.Given as goal
 
 abbrev pub invariant-loop-at : goal.invariant-loop-at
 invariant-loop-at l = record {

@@ -1,7 +1,7 @@
 use Rattle.std.proofs.Common.{arith, ◌∙◌, ap, sym}
 use Rattle.cet_page.specs.Fetch.{fetchable}
 use Rattle.cet_page.proofs.Fetching.{fetch_more, fetch_none, fetch_full}
-use Rattle.cet_page.proofs.fetches.fetch.Goals as goal
+use Rattle.cet_page.proofs.fetches.fetch_each.Goals as goal
 
 pub loop-at-preserved : goal.loop-at-preserved
 loop-at-preserved c =
