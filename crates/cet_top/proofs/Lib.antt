@@ -4,6 +4,7 @@ mod Listed
 mod Known
 mod InputReads
 mod Steps
+mod LiveGuests
 mod WordsFrom
 mod QuietTraces
 mod Finished
