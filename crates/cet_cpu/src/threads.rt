@@ -9,8 +9,9 @@ ghost use Rattle.cet_page.specs.Faults.{Faults};
 ghost use Rattle.cet_page.specs.Within.{IsCore};
 ghost use Rattle.cet_page.specs.Core.{core_at, first_core, next_access, taken, held_after, unheld, kept_by, recorded, fault_record, faulted};
 ghost use Rattle.cet_page.specs.Seen.{nothing_seen};
-ghost use Rattle.cet_cpu.specs.Cpu.{CpuData, IsCpu, IsNext};
+ghost use Rattle.cet_cpu.specs.Cpu.{CpuData, IsCpu, IsNext, KeepsCode};
 
+use crate::fetches::Code;
 use crate::gate::{stack_of, token, token_word};
 use crate::rows::row;
 use cet_isa::{Arch, End, Fault, Record, What};
@@ -26,6 +27,8 @@ pub struct Cpu {
     over: Option<End>,
     /// The access that it waits for.
     next: Option<Access>,
+    /// The code at RIP, once its row has read that.
+    code: Option<Code>,
 }
 
 impl Model for Cpu {
@@ -33,7 +36,7 @@ impl Model for Cpu {
 
     ghost Value = { CpuData };
 
-    ghost view = { λ c. record { core = record { arch = c.arch; seen = c.vals; over = c.over }; next = c.next } };
+    ghost view = { λ c. record { core = record { arch = c.arch; seen = c.vals; over = c.over }; next = c.next; code = c.code } };
 }
 
 /// What an access completed: a record, the birth of a thread, the thread's end.
@@ -50,6 +53,7 @@ const FIRST_REGS: [u64; 16] = [0, 0, 0, 0, 0x7fff_ffc0, 0, 0, 0, 0, 0, 0, 0, 0, 
 fn thread_at(entry: u64) -> Cpu
     ensures core { result.core ≡ core_at entry }
     ensures waits { result.next ≡ None }
+    ensures code { result.code ≡ None }
 {
     let arch = Arch {
         regs: FIRST_REGS,
@@ -69,6 +73,7 @@ fn thread_at(entry: u64) -> Cpu
         vals: Vals::new(),
         over: None,
         next: None,
+        code: None,
     }
 }
 
@@ -199,7 +204,7 @@ impl Cpu {
         if self.over.is_some() {
             return None;
         }
-        match row(job, &unheld(&self.arch), &mut self.vals.start()) {
+        match row(job, &unheld(&self.arch), &mut None, &mut self.vals.start()) {
             Err(Stop::Access(access)) => Some(access),
             _ => None,
         }
@@ -209,6 +214,7 @@ impl Cpu {
     fn wait(&mut self, job: &Job)
         requires state { IsCore job.now self.old.core }
         requires waits { IfSome self.old.next (IsNext job.now self.old.core) }
+        requires code { KeepsCode job.now self.old }
         ensures core { self.new.core ≡ self.old.core }
         ensures state { IsCpu job.now self.new }
     {
@@ -227,12 +233,13 @@ impl Cpu {
         ensures core { self.new.core ≡ (taken job.now self.old.core answer).core }
         ensures noted { result ≡ (taken job.now self.old.core answer).noted }
         ensures waits { IfSome self.new.next (IsNext job.now self.new.core) }
+        ensures code { KeepsCode job.now self.new }
     {
         let access = self.next?;
         let held = held_after(stack_of(job, &self.arch), access, answer, self.arch.held);
         self.vals.add(access, answer);
         let arch = self.arch;
-        match row(job, &unheld(&arch), &mut self.vals.start()) {
+        match row(job, &unheld(&arch), &mut self.code, &mut self.vals.start()) {
             Err(Stop::Access(access)) => {
                 self.arch = kept_by(&arch, held, &arch);
                 self.next = Some(access);
@@ -265,6 +272,7 @@ impl Cpu {
     fn settle(&mut self, job: &Job, next: Arch)
         ensures core { self.new.core ≡ recorded job.now next }
         ensures waits { self.new.next ≡ None }
+        ensures code { self.new.code ≡ None }
     {
         let over = if next.count == job.limit {
             Some(End::Limit)
@@ -278,10 +286,12 @@ impl Cpu {
     fn begin(&mut self, next: Arch, over: Option<End>)
         ensures core { self.new.core ≡ record { arch = next; seen = nothing_seen; over = over } }
         ensures waits { self.new.next ≡ None }
+        ensures code { self.new.code ≡ None }
     {
         self.arch = next;
         self.vals = Vals::new();
         self.over = over;
         self.next = None;
+        self.code = None;
     }
 }
