@@ -1,5 +1,5 @@
 ghost use Rattle.std.specs.Prelude.{◌≤◌, length};
-ghost use Rattle.cet_page.specs.Within.{IsCore};
+ghost use Rattle.cet_cpu.specs.Cpu.{IsCpu};
 
 use super::*;
 use cet_isa::{Record, What};
@@ -59,8 +59,8 @@ fn expect_access(
     want: Access,
     record: Option<Record>,
 )
-    requires { IsCore job.now cpu.old }
-    ensures { IsCore job.now cpu.new }
+    requires { IsCpu job.now cpu.old }
+    ensures { IsCpu job.now cpu.new }
 {
     assert!(rt; cpu.end().is_none(), "{want:?}");
     let access = cpu.next(job).expect(rt, "no access");
@@ -79,8 +79,8 @@ fn expect_accesses(
     cpu: &mut Cpu,
     rows: &[(Access, Option<Record>)],
 )
-    requires { IsCore job.now cpu.old }
-    ensures { IsCore job.now cpu.new }
+    requires { IsCpu job.now cpu.old }
+    ensures { IsCpu job.now cpu.new }
 {
     for (want, record) in rows {
         expect_access(rt, job, words, cpu, *want, *record);

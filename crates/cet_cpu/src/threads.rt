@@ -1,6 +1,6 @@
 //! A thread, access by access.
 
-ghost use Rattle.std.specs.Prelude.{◌≡◌, ◌+◌, ◌-◌, ◌^◌, ◌<◌, ◌≤◌, length, Some, None, IfSome};
+ghost use Rattle.std.specs.Prelude.{◌≡◌, ◌+◌, ◌-◌, ◌^◌, ◌<◌, ◌≤◌, length, Some, None, IfSome, option_map};
 ghost use Rattle.cet_words.specs.Access.{InRange};
 ghost use Rattle.cet_words.specs.declared.accesses.Access.{Access};
 ghost use Rattle.cet_isa.specs.declared.threads.End.{End};
@@ -10,7 +10,10 @@ ghost use Rattle.cet_page.specs.Within.{IsCore};
 ghost use Rattle.cet_page.specs.Gate.{stack_of};
 ghost use Rattle.cet_page.specs.Gated.{gate_held, enters_kernel};
 ghost use Rattle.cet_page.specs.Core.{core_at, first_core, next_access, taken, next_held, unheld, kept_by, recorded, fault_record, faulted};
+ghost use Rattle.cet_page.specs.Seen.{nothing_seen};
+ghost use Rattle.cet_cpu.specs.Cpu.{CpuData, IsCpu, IsNext, KeepsCode};
 
+use crate::fetches::Code;
 use crate::gate::{stack_of, token, token_word};
 use crate::rows::row;
 use cet_decode::Decoded;
@@ -25,14 +28,18 @@ pub struct Cpu {
     arch: Arch,
     vals: Vals,
     over: Option<End>,
+    /// The access that it waits for.
+    next: Option<Access>,
+    /// The code at RIP, once its row has read that.
+    code: Option<Code>,
 }
 
 impl Model for Cpu {
-    ghost use Rattle.cet_page.specs.Core.{Core};
+    ghost use Rattle.cet_cpu.specs.Cpu.{CpuData};
 
-    ghost Value = { Core };
+    ghost Value = { CpuData };
 
-    ghost view = { λ c. record { arch = c.arch; seen = c.vals; over = c.over } };
+    ghost view = { λ c. record { core = record { arch = c.arch; seen = c.vals; over = c.over }; next = c.next; code = c.code } };
 }
 
 /// What an access completed: a record, the birth of a thread, the thread's end.
@@ -47,7 +54,9 @@ pub struct Taken {
 const FIRST_REGS: [u64; 16] = [0, 0, 0, 0, 0x7fff_ffc0, 0, 0, 0, 0, 0, 0, 0, 0, 0, 0, 0];
 
 fn thread_at(entry: u64) -> Cpu
-    ensures { result ≡ core_at entry }
+    ensures core { result.core ≡ core_at entry }
+    ensures waits { result.next ≡ None }
+    ensures code { result.code ≡ None }
 {
     let arch = Arch {
         regs: FIRST_REGS,
@@ -66,16 +75,20 @@ fn thread_at(entry: u64) -> Cpu
         arch,
         vals: Vals::new(),
         over: None,
+        next: None,
+        code: None,
     }
 }
 
 /// Thread 0 of a job, before its first access.
 pub fn first(job: &Job) -> Cpu
-    ensures core { result ≡ first_core job.now }
-    ensures state { IsCore job.now result }
+    ensures core { result.core ≡ first_core job.now }
+    ensures state { IsCpu job.now result }
 {
     let image = job.image;
-    thread_at(image.entry)
+    let mut cpu = thread_at(image.entry);
+    cpu.wait(job);
+    cpu
 }
 
 fn unheld(arch: &Arch) -> Arch
@@ -156,51 +169,47 @@ fn faulted(arch: &Arch, fault: &Fault) -> Arch
 impl Cpu {
     /// The thread's state.
     pub fn arch(&self) -> &Arch
-        ensures { result.now ≡ self.now.arch }
+        ensures { result.now ≡ self.now.core.arch }
     {
         &self.arch
     }
 
     /// How the thread ended, or none where it hasn't.
     pub fn end(&self) -> Option<End>
-        ensures { result ≡ self.now.over }
+        ensures { result ≡ self.now.core.over }
     {
         self.over
     }
 
     /// The thread's next access, or none where it has ended.
-    #[tactic(auto, using(cet_page::specs::Within::goes, cet_page::specs::Within::stops), unfolding(cet_page::specs::Core::next_access))]
+    #[tactic(auto, using(cet_page::specs::Within::stops))]
     pub fn next(&self, job: &Job) -> Option<Access>
-        requires state { IsCore job.now self.now }
-        ensures access { result ≡ next_access job.now self.now }
-        ensures goes { self.now.over ≡ None → (access : Access) × (result ≡ Some access) }
-        ensures ended { (end : End) → self.now.over ≡ Some end → result ≡ None }
+        requires state { IsCpu job.now self.now }
+        ensures access { result ≡ next_access job.now self.now.core }
+        ensures goes { self.now.core.over ≡ None → (access : Access) × (result ≡ Some access) }
+        ensures ended { (end : End) → self.now.core.over ≡ Some end → result ≡ None }
         ensures range { IfSome result InRange }
     {
-        if self.over.is_some() {
-            return None;
-        }
-        match row(job, &unheld(&self.arch), &mut self.vals.start()) {
-            Err(Stop::Access(access)) => Some(access),
-            _ => None,
-        }
+        self.next
     }
 
     /// Takes the answer to the thread's next access.
     #[tactic(auto, using(cet_page::specs::Within::room, cet_page::specs::Within::taken_at, cet_page::specs::Within::no_child, cet_page::specs::Faults::faults_of))]
     pub fn take(&mut self, job: &Job, answer: u64) -> Taken
-        requires state { IsCore job.now self.old }
-        requires going { self.old.over ≡ None }
-        ensures core { self.new ≡ (taken job.now self.old answer).core }
-        ensures noted { result.noted ≡ (taken job.now self.old answer).noted }
-        ensures child { result.child ≡ (taken job.now self.old answer).child }
-        ensures end { result.end ≡ self.new.over }
-        ensures state { IsCore job.now self.new }
+        requires state { IsCpu job.now self.old }
+        requires going { self.old.core.over ≡ None }
+        ensures core { self.new.core ≡ (taken job.now self.old.core answer).core }
+        ensures noted { result.noted ≡ (taken job.now self.old.core answer).noted }
+        ensures child { option_map (λ (child : CpuData). child.core) result.child ≡ (taken job.now self.old.core answer).child }
+        ensures born { IfSome result.child (IsCpu job.now) }
+        ensures end { result.end ≡ self.new.core.over }
+        ensures state { IsCpu job.now self.new }
 
         // A faulting instruction changes no register, flag, SSP or word, and its fault is due.
-        ensures fault { (r : Record) (name : FaultName) → result.noted ≡ Some r → r.what ≡ What.Fault name → Faults job.now self.old self.new answer r }
+        ensures fault { (r : Record) (name : FaultName) → result.noted ≡ Some r → r.what ≡ What.Fault name → Faults job.now self.old.core self.new.core answer r }
     {
         let noted = self.answered(job, answer);
+        self.wait(job);
         Taken {
             noted,
             child: None,
@@ -208,33 +217,66 @@ impl Cpu {
         }
     }
 
+    /// The access that the thread's row comes to, or none where it has ended.
+    #[tactic(auto, unfolding(cet_page::specs::Core::next_access))]
+    fn wanted(&self, job: &Job) -> Option<Access>
+        requires { IsCore job.now self.now.core }
+        ensures access { result ≡ next_access job.now self.now.core }
+        ensures range { IfSome result InRange }
+    {
+        if self.over.is_some() {
+            return None;
+        }
+        match row(job, &unheld(&self.arch), &mut None, &mut self.vals.start()) {
+            Err(Stop::Access(access)) => Some(access),
+            _ => None,
+        }
+    }
+
     /// The supervisor stack that the thread holds after the answer to its next access.
     #[tactic(auto, using(cet_page::specs::Gated::held_is))]
     fn held_after(&self, job: &Job, access: Access, answer: u64) -> Option<u8>
-        requires state { IsCore job.now self.now }
-        requires going { self.now.over ≡ None }
-        requires access { next_access job.now self.now ≡ Some access }
-        ensures { result ≡ next_held job.now self.now answer }
+        requires state { IsCore job.now self.now.core }
+        requires going { self.now.core.over ≡ None }
+        requires access { next_access job.now self.now.core ≡ Some access }
+        ensures { result ≡ next_held job.now self.now.core answer }
     {
         held_after(job, &self.arch, access, answer)
     }
 
+    /// Keeps the access that the thread waits for.
+    fn wait(&mut self, job: &Job)
+        requires state { IsCore job.now self.old.core }
+        requires waits { IfSome self.old.next (IsNext job.now self.old.core) }
+        requires code { KeepsCode job.now self.old }
+        ensures core { self.new.core ≡ self.old.core }
+        ensures state { IsCpu job.now self.new }
+    {
+        if self.next.is_none() {
+            self.next = self.wanted(job);
+        }
+    }
+
+    /// Takes the answer to the thread's next access, but for the first access of the next row.
     #[tactic(auto, unfolding(cet_page::specs::Core::taken, cet_page::specs::Core::next_access))]
     fn answered(&mut self, job: &Job, answer: u64) -> Option<Record>
-        requires state { IsCore job.now self.old }
-        requires going { self.old.over ≡ None }
-        requires room { length self.old.seen.kept < 32 }
-        requires more { self.old.seen.count < 4096 }
-        ensures core { self.new ≡ (taken job.now self.old answer).core }
-        ensures noted { result ≡ (taken job.now self.old answer).noted }
+        requires state { IsCpu job.now self.old }
+        requires going { self.old.core.over ≡ None }
+        requires room { length self.old.core.seen.kept < 32 }
+        requires more { self.old.core.seen.count < 4096 }
+        ensures core { self.new.core ≡ (taken job.now self.old.core answer).core }
+        ensures noted { result ≡ (taken job.now self.old.core answer).noted }
+        ensures waits { IfSome self.new.next (IsNext job.now self.new.core) }
+        ensures code { KeepsCode job.now self.new }
     {
-        let access = self.next(job)?;
+        let access = self.next?;
         let held = self.held_after(job, access, answer);
         self.vals.add(access, answer);
         let arch = self.arch;
-        match row(job, &unheld(&arch), &mut self.vals.start()) {
-            Err(Stop::Access(_)) => {
+        match row(job, &unheld(&arch), &mut self.code, &mut self.vals.start()) {
+            Err(Stop::Access(access)) => {
                 self.arch = kept_by(&arch, held, &arch);
+                self.next = Some(access);
                 None
             }
             Err(Stop::Fault(fault)) => {
@@ -246,20 +288,15 @@ impl Cpu {
                 Some(noted)
             }
             Ok(Finish::Posted(next)) => {
-                self.arch = kept_by(&arch, held, &next);
-                self.vals = Vals::new();
+                self.begin(kept_by(&arch, held, &next), None);
                 None
             }
             Ok(Finish::Exited(next, noted, status)) => {
-                self.arch = kept_by(&arch, held, &next);
-                self.vals = Vals::new();
-                self.over = Some(End::Exit(status));
+                self.begin(kept_by(&arch, held, &next), Some(End::Exit(status)));
                 Some(noted)
             }
             Ok(Finish::Stopped) => {
-                self.arch = kept_by(&arch, held, &arch);
-                self.vals = Vals::new();
-                self.over = Some(End::Group);
+                self.begin(kept_by(&arch, held, &arch), Some(End::Group));
                 None
             }
         }
@@ -267,14 +304,28 @@ impl Cpu {
 
     /// The thread after a record, which may bring it to its limit.
     fn settle(&mut self, job: &Job, next: Arch)
-        ensures { self.new ≡ recorded job.now next }
+        ensures core { self.new.core ≡ recorded job.now next }
+        ensures waits { self.new.next ≡ None }
+        ensures code { self.new.code ≡ None }
     {
-        self.arch = next;
-        self.vals = Vals::new();
-        self.over = if next.count == job.limit {
+        let over = if next.count == job.limit {
             Some(End::Limit)
         } else {
             None
         };
+        self.begin(next, over);
+    }
+
+    /// The thread in this state before the first access of its row, or at its end.
+    fn begin(&mut self, next: Arch, over: Option<End>)
+        ensures core { self.new.core ≡ record { arch = next; seen = nothing_seen; over = over } }
+        ensures waits { self.new.next ≡ None }
+        ensures code { self.new.code ≡ None }
+    {
+        self.arch = next;
+        self.vals = Vals::new();
+        self.over = over;
+        self.next = None;
+        self.code = None;
     }
 }

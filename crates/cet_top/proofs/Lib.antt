@@ -8,6 +8,7 @@ mod Listed
 mod Known
 mod InputReads
 mod Steps
+mod LiveGuests
 mod WordsFrom
 mod QuietTraces
 mod Finished

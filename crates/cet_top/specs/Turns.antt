@@ -1,14 +1,9 @@
 -- A run by Robin, from one machine to another. Source: own.
-use Rattle.std.specs.Prelude.{◌≡◌, ℕ, ◌++◌, List, Option, Some, None, slice_get, All, sum_by}
+use Rattle.std.specs.Prelude.{◌≡◌, ℕ, ◌++◌, List, Option, Some, None, slice_get, sum_by}
 use Rattle.cet_words.specs.Job.{JobData}
 use Rattle.cet_page.specs.Left.{left_of}
 use Rattle.cet_page.specs.Machine.{Machine, Thread, run}
-use Rattle.cet_page.specs.Within.{IsCore}
 use Rattle.cet_top.specs.Schedule.{IsRobin}
-
--- each is a thread of the job
-abbrev pub AllCores : JobData → List Thread → Type 0
-AllCores job threads = All (λ thread. IsCore job thread.core) threads
 
 -- the thread of this number is there and hasn't ended
 abbrev pub IsGoing : List Thread → ℕ → Type 0

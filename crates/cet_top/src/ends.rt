@@ -1,6 +1,7 @@
 //! How a process ended.
 
 ghost use Rattle.std.specs.Prelude.{◌≡◌, ◌<◌, ◌≤◌, length, map, IfOk, IfSome};
+ghost use Rattle.cet_top.specs.Guests.{threads_of};
 ghost use Rattle.cet_top.specs.Outcome.{first_limit, first_status, process_end, thread_out, status_in, ended_by};
 
 use crate::guests::Guest;
@@ -58,7 +59,7 @@ pub(crate) fn process_end(exit: u64, outs: &[ThreadOut]) -> ProcessEnd
 
 /// The threads of a finished run, by number.
 pub(crate) fn thread_outs(alloc: Global, mut guests: Vec<Guest>) -> Result<ThreadOuts, NoMemory>
-    ensures { IfOk result (λ outs. outs ≡ map thread_out guests.items) }
+    ensures { IfOk result (λ outs. outs ≡ map thread_out (threads_of guests.items)) }
 {
     let mut outs = ThreadOuts::new(alloc);
     'threads: while !guests.is_empty() {

@@ -5,7 +5,8 @@ ghost use Rattle.cet_words.specs.Access.{answer, after};
 ghost use Rattle.cet_words.specs.declared.accesses.Access.{Access};
 ghost use Rattle.cet_page.specs.Core.{next_access, taken};
 ghost use Rattle.cet_page.specs.Machine.{thread_after};
-ghost use Rattle.cet_page.specs.Within.{IsCore};
+ghost use Rattle.cet_cpu.specs.Cpu.{IsCpu};
+ghost use Rattle.cet_top.specs.Guests.{thread_of};
 ghost use Rattle.cet_top.specs.Outcome.{thread_out};
 
 use crate::outcomes::{Records, ThreadOut};
@@ -23,17 +24,17 @@ pub struct Guest {
 }
 
 impl Model for Guest {
-    ghost use Rattle.cet_page.specs.Machine.{Thread};
+    ghost use Rattle.cet_top.specs.Guests.{GuestData};
 
-    ghost Value = { Thread };
+    ghost Value = { GuestData };
 
-    ghost view = { λ g. record { core = g.cpu; trace = g.records } };
+    ghost view = { λ g. record { cpu = g.cpu; trace = g.records } };
 }
 
 impl Guest {
     /// A thread before its first record.
     pub fn new(alloc: Global, cpu: Cpu) -> Guest
-        ensures { result ≡ record { core = cpu; trace = [] } }
+        ensures { result ≡ record { cpu = cpu; trace = [] } }
     {
         Guest {
             cpu,
@@ -43,21 +44,21 @@ impl Guest {
 
     /// How the thread ended, or none where it hasn't.
     pub fn end(&self) -> Option<End>
-        ensures { result ≡ self.now.core.over }
+        ensures { result ≡ self.now.cpu.core.over }
     {
         self.cpu.end()
     }
 
     /// The thread's shadow stack pointer.
     pub fn ssp(&self) -> u64
-        ensures { result ≡ self.now.core.arch.ssp }
+        ensures { result ≡ self.now.cpu.core.arch.ssp }
     {
         self.cpu.arch().ssp
     }
 
     /// The thread, which has ended, as a part of an outcome.
     pub fn out(self) -> ThreadOut
-        ensures { result ≡ thread_out self }
+        ensures { result ≡ thread_out (thread_of self) }
     {
         let end = self.end().unwrap_or(End::Group);
         let Guest { cpu: _, records } = self;
@@ -71,11 +72,11 @@ impl Guest {
         job: &Job,
         words: &mut P,
     ) -> Result<(), NoMemory>
-        requires state { IsCore job.now self.old.core }
-        requires going { self.old.core.over ≡ None }
-        ensures step { (a : Access) × (next_access job.now self.old.core ≡ Some a) × (P.words words.new ≡ after (P.words words.old) a)
-            × OnOk result (self.new ≡ thread_after self.old (taken job.now self.old.core (answer (P.words words.old) a))) }
-        ensures state { OnOk result (IsCore job.now self.new.core) }
+        requires state { IsCpu job.now self.old.cpu }
+        requires going { self.old.cpu.core.over ≡ None }
+        ensures step { (a : Access) × (next_access job.now self.old.cpu.core ≡ Some a) × (P.words words.new ≡ after (P.words words.old) a)
+            × OnOk result (thread_of self.new ≡ thread_after (thread_of self.old) (taken job.now self.old.cpu.core (answer (P.words words.old) a))) }
+        ensures state { OnOk result (IsCpu job.now self.new.cpu) }
     {
         let Some(access) = self.cpu.next(job) else {
             unreachable!()

@@ -5,7 +5,7 @@ ghost use Rattle.cet_page.specs.Machine.{Starts, machine};
 ghost use Rattle.cet_top.specs.Answer.{SafeRun};
 ghost use Rattle.cet_top.specs.FirstStack.{KeepsFirsts, first_stacks, read_outcome};
 ghost use Rattle.cet_top.specs.Schedule.{ByRobin};
-ghost use Rattle.cet_top.specs.Turns.{AllCores};
+ghost use Rattle.cet_top.specs.Guests.{AllGuests, threads_of};
 
 use crate::ends::{process_end, thread_outs};
 use crate::guests::Guest;
@@ -26,9 +26,9 @@ fn first_stacks<P: Perform>(
     words: &mut P,
     guests: &[Guest],
 ) -> Result<StackReports, NoMemory>
-    requires { KeepsFirsts guests.now }
+    requires { KeepsFirsts (threads_of guests.now) }
     ensures same { P.words words.new ≡ P.words words.old }
-    ensures stacks { IfOk result (λ stacks. stacks ≡ first_stacks (P.words words.old) guests.now) }
+    ensures stacks { IfOk result (λ stacks. stacks ≡ first_stacks (P.words words.old) (threads_of guests.now)) }
 {
     let mut stacks = StackReports::new(alloc);
     if let [guest, ..] = guests {
@@ -44,9 +44,9 @@ fn read_outcome<P: Perform>(
     words: &mut P,
     guests: Vec<Guest>,
 ) -> Result<Outcome, NoMemory>
-    requires keeps { KeepsFirsts guests.items }
+    requires keeps { KeepsFirsts (threads_of guests.items) }
     requires few { length guests.items ≤ 32 }
-    ensures { IfOk result (λ outcome. outcome ≡ read_outcome (P.words words.old) guests.items) }
+    ensures { IfOk result (λ outcome. outcome ≡ read_outcome (P.words words.old) (threads_of guests.items)) }
 {
     let exit = words.perform(Access::Load(EXIT_WORD));
     let stacks = first_stacks(alloc, words, guests.as_slice())?;
@@ -61,8 +61,8 @@ fn read_outcome<P: Perform>(
 
 /// The start of a job: the start words, and thread 0.
 fn start(alloc: Global, job: &Job) -> Result<(Plain, Vec<Guest>), NoMemory>
-    ensures starts { IfOk result (λ at. Starts job.now (machine at.0 at.1.items)) }
-    ensures cores { IfOk result (λ at. AllCores job.now at.1.items) }
+    ensures starts { IfOk result (λ at. Starts job.now (machine at.0 (threads_of at.1.items))) }
+    ensures cores { IfOk result (λ at. AllGuests job.now at.1.items) }
 {
     let words = Plain::new(alloc, job.image)?;
     let mut guests = Vec::new(alloc);
@@ -77,8 +77,8 @@ fn finish(
     mut words: Plain,
     mut guests: Vec<Guest>,
 ) -> Result<Outcome, NoMemory>
-    requires starts { Starts job.now (machine words guests.items) }
-    requires cores { AllCores job.now guests.items }
+    requires starts { Starts job.now (machine words (threads_of guests.items)) }
+    requires cores { AllGuests job.now guests.items }
     ensures { IfOk result (SafeRun job.now (ByRobin job.now)) }
 {
     let _limit = job.limit;

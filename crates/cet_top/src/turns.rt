@@ -4,7 +4,8 @@ ghost use Rattle.std.specs.Prelude.{◌≡◌, ℕ, ◌+◌, ◌<◌, ◌≤◌,
 ghost use Rattle.cet_words.specs.Job.{JobData};
 ghost use Rattle.cet_page.specs.Machine.{machine, step};
 ghost use Rattle.cet_top.specs.Schedule.{first_live, next_turn};
-ghost use Rattle.cet_top.specs.Turns.{AllCores, IsGoing, Robined, total_left};
+ghost use Rattle.cet_top.specs.Guests.{AllGuests, left_to, threads_of};
+ghost use Rattle.cet_top.specs.Turns.{IsGoing, Robined};
 
 use crate::guests::Guest;
 use cet_words::{Job, NoMemory, Perform};
@@ -13,8 +14,8 @@ use std::alloc::Global;
 /// The number of the first live thread from `from` on.
 fn first_live(guests: &[Guest], from: usize) -> Option<usize>
     requires { from ≤ length guests.now }
-    ensures first { result ≡ first_live (drop from guests.now) from }
-    ensures going { IfSome result (IsGoing guests.now) }
+    ensures first { result ≡ first_live (drop from (threads_of guests.now)) from }
+    ensures going { IfSome result (IsGoing (threads_of guests.now)) }
     ensures range { IfSome result (λ t. t < length guests.now) }
 {
     for at in from..guests.len() {
@@ -28,8 +29,8 @@ fn first_live(guests: &[Guest], from: usize) -> Option<usize>
 /// The thread that has the turn after the last one, by Robin.
 fn next_turn(guests: &[Guest], last: Option<usize>) -> Option<usize>
     requires { IfSome last (λ t. t < length guests.now) }
-    ensures turn { result ≡ next_turn guests.now last }
-    ensures going { IfSome result (IsGoing guests.now) }
+    ensures turn { result ≡ next_turn (threads_of guests.now) last }
+    ensures going { IfSome result (IsGoing (threads_of guests.now)) }
     ensures range { IfSome result (λ t. t < length guests.now) }
 {
     let from = match last {
@@ -50,13 +51,13 @@ fn turn<P: Perform>(
     guests: &mut Vec<Guest>,
     at: usize,
 ) -> Result<(), NoMemory>
-    requires cores { AllCores job.now guests.old.items }
+    requires cores { AllGuests job.now guests.old.items }
     requires range { at < length guests.old.items }
-    requires going { IsGoing guests.old.items at }
-    ensures step { OnOk result (machine (P.words words.new) guests.new.items ≡ step job.now (machine (P.words words.old) guests.old.items) at) }
+    requires going { IsGoing (threads_of guests.old.items) at }
+    ensures step { OnOk result (machine (P.words words.new) (threads_of guests.new.items) ≡ step job.now (machine (P.words words.old) (threads_of guests.old.items)) at) }
     ensures len { OnOk result (length guests.new.items ≡ length guests.old.items) }
-    ensures cores { OnOk result (AllCores job.now guests.new.items) }
-    ensures falls { OnOk result (total_left job.now guests.new.items < total_left job.now guests.old.items) }
+    ensures cores { OnOk result (AllGuests job.now guests.new.items) }
+    ensures falls { OnOk result (left_to job.now guests.new.items < left_to job.now guests.old.items) }
 {
     guests[at].step(alloc, job, words)
 }
@@ -68,9 +69,9 @@ pub fn robin<P: Perform>(
     words: &mut P,
     guests: &mut Vec<Guest>,
 ) -> Result<(), NoMemory>
-    requires cores { AllCores job.now guests.old.items }
-    ensures ran { OnOk result (Robined job.now (machine (P.words words.old) guests.old.items) (machine (P.words words.new) guests.new.items)) }
-    ensures cores { OnOk result (AllCores job.now guests.new.items) }
+    requires cores { AllGuests job.now guests.old.items }
+    ensures ran { OnOk result (Robined job.now (machine (P.words words.old) (threads_of guests.old.items)) (machine (P.words words.new) (threads_of guests.new.items))) }
+    ensures cores { OnOk result (AllGuests job.now guests.new.items) }
 {
     let mut last = None;
     while let Some(at) = next_turn(guests, last) {

@@ -1,10 +1,11 @@
 use Rattle.std.proofs.Common.{◌≡◌, ◌++◌, length}
 use Rattle.std.specs.Prelude.{map}
+use Rattle.cet_top.specs.Guests.{threads_of}
 use Rattle.cet_top.specs.Outcome.{thread_out}
 use Rattle.cet_top.proofs.ends.thread_outs.Given as goal
 
 abbrev pub invariant-threads : goal.invariant-threads
-invariant-threads l = l.outs ++ map thread_out l.guests.items ≡ map thread_out l.fn.guests.items
+invariant-threads l = l.outs ++ map thread_out (threads_of l.guests.items) ≡ map thread_out (threads_of l.fn.guests.items)
 
 abbrev pub decreases-threads : goal.decreases-threads
 decreases-threads l = length l.guests.items

@@ -1,8 +1,10 @@
-use Rattle.std.proofs.Common.{subst}
+use Rattle.std.proofs.Common.{subst, ◌≤◌}
+use Rattle.std.proofs.lemmas.List.{length-map}
 use Rattle.std.proofs.lemmas.Result.{IfOk-weaker}
 use Rattle.cet_words.specs.Job.{IsJob}
 use Rattle.cet_own.specs.Reported.{last_book}
 use Rattle.cet_own.specs.Run.{safe_run}
+use Rattle.cet_top.specs.Guests.{thread_of}
 use Rattle.cet_top.proofs.Finished.{ended_keeps, ended_ran}
 use Rattle.cet_top.proofs.runs.finish.Goals as goal
 
@@ -14,7 +16,7 @@ read_outcome-requires-clause-keeps c =
 pub read_outcome-requires-clause-few : goal.read_outcome-requires-clause-few
 read_outcome-requires-clause-few c =
     let job = subst IsJob c.job.view_is c.job.invariant in
-    (ended_keeps _ _ _ _ (λ turns. last_book _ _ turns job c.requires.starts) c.in_ok-robin.ensures.ran).1
+    subst (λ n. n ≤ 32) (length-map c.robin.new.guests.items thread_of) (ended_keeps _ _ _ _ (λ turns. last_book _ _ turns job c.requires.starts) c.in_ok-robin.ensures.ran).1
 
 pub returns : goal.returns
 returns c =

@@ -1,5 +1,5 @@
 use Rattle.cet_page.specs.Within.{taken_at}
 use Rattle.cet_cpu.proofs.threads.Cpu.take.Goals as goal
 
-pub returns-clause-state : goal.returns-clause-state
-returns-clause-state c = taken_at c.args.job.now c.args.self.now c.answered-noted.new.self c.args.answer c.requires.state c.requires.going c.answered-noted.ensures.core
+pub wait-requires-clause-state : goal.wait-requires-clause-state
+wait-requires-clause-state c = taken_at c.args.job.now c.args.self.now.core c.answered-noted.new.self.core c.args.answer c.requires.state.state c.requires.going c.answered-noted.ensures.core
