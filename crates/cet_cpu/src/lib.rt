@@ -5,6 +5,7 @@
 //! thread has kept since its last record.
 #![tactic(auto)]
 
+mod fetches;
 mod gate;
 mod rows;
 mod threads;
