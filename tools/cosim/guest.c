@@ -68,7 +68,7 @@ static uint64_t field(const struct guest *guest, size_t place)
     return value;
 }
 
-/* Reads the headers of an image that `asm` wrote: the text is the first segment, the data the second, if there is one. */
+/* Reads the headers of an image that `asm` wrote: the text is the first segment, and the data the second. */
 static void read_headers(struct guest *guest)
 {
     enum { ENTRY = 24, HEADERS = 64, HEADER = 56, ADDRESS = 16, FILE_SIZE = 32 };
@@ -128,7 +128,7 @@ static void read_report(struct guest *guest, char *report)
     }
 }
 
-/* Assembles, lists and runs a program. Files of that number are left in the folder where cetvm refuses the program. */
+/* Assembles, lists and runs a program, by files of that number in the folder. */
 struct guest guest_of(const char *cetvm, const char *folder, size_t number, const struct program *program)
 {
     struct guest guest = {0};

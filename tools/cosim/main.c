@@ -10,7 +10,7 @@
 #include <time.h>
 #include <unistd.h>
 
-enum { MOST_WORKERS = 4, RANDOM_CASES = 60000 };
+enum { MOST_WORKERS = 4, RANDOM_CASES = 150000 };
 
 struct job {
     const char *cetvm, *folder;

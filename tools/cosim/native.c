@@ -1,8 +1,8 @@
 /* Runs an image on the processor, one instruction at a time.
  *
- * The image and a main stack are mapped in this process where cetvm has them. A signal handler on a stack of its own puts
- * the start registers in place of this program's, with the trap flag set, so that the processor comes back to it after
- * each instruction of the image. At the end it puts this program's registers back. */
+ * The image and a main stack are mapped in this process where cetvm has them. A signal handler on a stack of its own
+ * puts the start registers in place of this program's, with the trap flag set, so that the processor comes back to it
+ * after each instruction of the image. At the end it puts this program's registers back. */
 #define _GNU_SOURCE
 #include "cosim.h"
 
@@ -68,7 +68,7 @@ static uint64_t address_of(const struct memory *memory, const uint64_t *register
     return address;
 }
 
-/* Notes what stands before an instruction. Answers false at the end of the program, or where there is no instruction. */
+/* Notes what stands before an instruction. Answers false at the end of the program, and where nothing can be run. */
 static bool begin_step(const greg_t *registers)
 {
     struct trace *trace = &run.trace;
@@ -207,7 +207,7 @@ static void map(uint64_t address, size_t size, const uint8_t *bytes, size_t coun
         fail("no rights for memory at %p", place);
 }
 
-/* Runs an image on the processor up to the service that ends it, for at most as many instructions as the program has. */
+/* Runs an image on the processor up to the service that ends it, for at most as many steps as it has instructions. */
 struct trace traced(const struct guest *guest, const struct program *program)
 {
     size_t text = (guest->data - TEXT), data = (guest->data_size + PAGE - 1) / PAGE * PAGE;

@@ -256,8 +256,9 @@ static void a_case(struct draw *draw)
         a_shift,      a_shift,      an_imul,      a_cmov,       a_cmov,       a_load,
         a_load,       a_store,      an_exchange,  a_lea,        on_the_stack, a_jump};
     enum { KINDS = sizeof kinds / sizeof *kinds };
-    if (below(draw, 2))
-        set(draw->program, below(draw, REGISTERS), value_of(draw));
+    int reg = below(draw, 2 * REGISTERS);
+    if (reg < REGISTERS)
+        set(draw->program, reg, value_of(draw));
     if (below(draw, 4) == 0)
         set_flags(draw->program, below(draw, SETTINGS));
     kinds[below(draw, KINDS)](draw);
