@@ -58,7 +58,7 @@ pub record IsNext (name : CommandName) (found : Found) (words : List (List ℕ))
   pub within : next.words ≤ length words
   pub spelled : IsOption next.setting (take next.words words)
 
--- no option begins with this word, where the first of these words stands
+-- no open option begins with this word
 abbrev pub NoneBegins : CommandName → Found → (word : List ℕ) → Type 0
 NoneBegins name found word = (s : Setting) (rest : List (List ℕ)) → IsOpen name found (option_of s) → IsOption s (word ∷ rest) → ⊥
 

@@ -13,8 +13,8 @@ use cet_io::{Sink, Source};
 use std::alloc::Global;
 
 /// Carries out the command that the words are, on the bytes of a source, and writes its output to a
-/// sink. `run` runs the image that the source gives, the live threads in turn by their numbers, and
-/// reports.
+/// sink. `run` runs the image that the source gives, the live threads in turn by their numbers and up
+/// to the limit of the words, and reports.
 pub fn plain<S: Source, K: Sink>(
     alloc: Global,
     words: &[String],
