@@ -1,6 +1,6 @@
 //! Arithmetic, tests and shifts, and the instructions that change CF (Intel SDM volume 2).
 
-ghost use Rattle.std.specs.Prelude.{◌≡◌, ◌+◌, ◌-◌, ◌%◌, ◌^◌, ◌<◌};
+ghost use Rattle.std.specs.Prelude.{◌≡◌, ◌-◌, ◌%◌, ◌^◌, ◌<◌};
 ghost use Rattle.cet_page.specs.Flags.{rflags};
 ghost use Rattle.cet_page.specs.Script.{play};
 ghost use Rattle.cet_page.specs.Plays.{Comes};

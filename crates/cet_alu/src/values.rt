@@ -3,7 +3,7 @@
 
 ghost use Rattle.std.specs.Prelude.{◌≡◌, ◌+◌, ◌-◌, ◌*◌, ◌/◌, ◌%◌, ◌^◌, ◌<◌, ◌==◌, not, nat_le, nat_lt, pos, ◌+ℤ◌, ◌-ℤ◌, ◌*ℤ◌, FitsSigned};
 ghost use Rattle.std.specs.Int.{w64, cast_unsigned, int_shr};
-ghost use Rattle.cet_page.specs.Flags.{bit, differ};
+ghost use Rattle.cet_page.specs.Flags.{bit};
 ghost use Rattle.cet_page.specs.Values.{bits, width, limit, top_bit, signed, in_signed_range, computed, sum, difference, logical, product, operation, keeping, complement, shifted_left, shifted_right, shifted_signed};
 
 use cet_isa::{AluOp, Size};
@@ -263,7 +263,8 @@ pub fn shifted_left(size: Size, x: u64, count: u32) -> Computed
     computed(size, value, carry, overflow)
 }
 
-/// A shift to the right that brings in zeros.
+/// A shift to the right that brings in zeros. CF is the last bit that it moves out, and a shift by 1
+/// tells in OF the top bit before it.
 pub fn shifted_right(size: Size, x: u64, count: u32) -> Computed
     requires left { x < limit size }
     requires low { 0 < count }
@@ -274,7 +275,7 @@ pub fn shifted_right(size: Size, x: u64, count: u32) -> Computed
     computed(size, x >> count, right_carry(x, count), overflow)
 }
 
-/// A shift to the right that brings in copies of the top bit.
+/// A shift to the right that brings in copies of the top bit. CF is the last bit that it moves out.
 pub fn shifted_signed(size: Size, x: u64, count: u32) -> Computed
     requires left { x < limit size }
     requires low { 0 < count }
