@@ -22,7 +22,7 @@ fn hex_digit_at(value: u64, place: u32) -> u8
     requires { place < 16 }
     ensures { result ≡ hex_digit_at value place }
 {
-    digit_glyph((value / 16u64.pow(place) % 16) as u8)
+    digit_glyph(((value >> (4 * place)) % 16) as u8)
 }
 
 /// The sixteen lower-case hexadecimal digits of a number, leading zeros among them.

@@ -1,12 +1,15 @@
-use Rattle.std.proofs.Common.{◌^◌, ◌≤◌, ◌<◌, arith}
-use Rattle.std.proofs.Math.Nat.{one-le-pow, pow-le-pow_right}
+use Rattle.std.proofs.Common.{◌≡◌, ℕ, zero, suc, ◌+◌, ◌*◌, ◌/◌, ◌%◌, ◌^◌, false, refl, ap, ◌∙◌, arith}
+use Rattle.std.specs.Fmt.{digit_glyph}
+use Rattle.std.proofs.Math.Nat.{pow-suc}
+use Rattle.std.proofs.lemmas.Nat.{pow-add}
 use Rattle.cet_base.proofs.write.hex_digit_at.Goals as goal
 
-pub pow-requires : goal.pow-requires
-pow-requires c =
-    let base : 0 < 16 = omega arith in
-    let most : 16 ^ c.args.place ≤ 16 ^ 15 = let le : c.args.place ≤ 15 = omega arith in pow-le-pow_right base le in
-    omega arith
+-- a shift by four bits is one place
+pow16 : (n : ℕ) → 2 ^ (4 * n) ≡ 16 ^ n
+pow16 zero = refl
+pow16 (suc n) =
+    let e : 4 * suc n ≡ 4 * n + 4 = omega arith in
+    rw (pow-suc 16 n, e, pow-add 2 (4 * n) 4, pow16 n) refl
 
-pub nonzero_div-value : goal.nonzero_div-value
-nonzero_div-value c = omega (arith, one-le-pow c.args.place 16 (omega arith))
+pub returns : goal.returns
+returns c = c.digit_glyph.ensures ∙ ap (λ p. digit_glyph false (c.args.value / p % 16)) (pow16 c.args.place)
