@@ -9,8 +9,8 @@ ghost use Rattle.cet_page.specs.Values.{bits, limit, sum, difference, keeping, o
 ghost use Rattle.cet_page.specs.Arithmetic.{carry, alu, test, multiply, with_carry, shift_count, shift};
 
 use crate::values::{
-    bits, ones_complement, difference, keeping, logical, operation, product, shifted_left,
-    shifted_right, shifted_arithmetic, sum,
+    bits, difference, keeping, logical, ones_complement, operation, product, shifted_arithmetic,
+    shifted_left, shifted_right, sum,
 };
 use cet_isa::{AluOp, Arch, Count, Operand, Record, Reg, Size};
 use cet_page::{
@@ -164,7 +164,13 @@ pub fn shift_right(arch: &Arch, size: Size, reg: Reg, count: Count, next: u64) -
 }
 
 /// SAR.
-pub fn shift_arithmetic(arch: &Arch, size: Size, reg: Reg, count: Count, next: u64) -> (Arch, Record)
+pub fn shift_arithmetic(
+    arch: &Arch,
+    size: Size,
+    reg: Reg,
+    count: Count,
+    next: u64,
+) -> (Arch, Record)
     requires { arch.now.count < 2 ^ 32 - 1 }
     ensures { result ≡ shift arch.now size reg (shift_count arch.now size count) (shifted_arithmetic size (register arch.now reg % limit size) (shift_count arch.now size count)) next }
 {

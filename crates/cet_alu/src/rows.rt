@@ -7,10 +7,10 @@ ghost use Rattle.cet_page.specs.Row.{next_address};
 ghost use Rattle.cet_page.specs.Arithmetic.{arithmetic};
 
 use crate::locked::{lock_cmpxchg, lock_xadd, xchg};
-use crate::moves::{load_address, mov, cmov, movsxd, movzx};
+use crate::moves::{cmov, load_address, mov, movsxd, movzx};
 use crate::operations::{
-    alu, decrement, increment, invert, multiply, negate, set_carry, shift_left, shift_right,
-    shift_arithmetic, test,
+    alu, decrement, increment, invert, multiply, negate, set_carry, shift_arithmetic, shift_left,
+    shift_right, test,
 };
 use cet_isa::{Arch, Instr, Record};
 use cet_page::{Cursor, Next, Stop, Vals, assigned, invalid_opcode, next_address, stepped};

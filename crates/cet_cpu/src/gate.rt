@@ -165,11 +165,7 @@ fn exit(arch: &Arch, k: u8, at: &mut Cursor) -> Result<Finish, Stop>
     at.stores(8, FIRST_ENTRY_WORD + page, 0, 0)?;
     gate_out(k, at)?;
     let status = exit_status(arch);
-    Ok(Finish::Exited(
-        counted(arch),
-        sys_record(arch, u64::from(status)),
-        status,
-    ))
+    Ok(Finish::Exited(counted(arch), sys_record(arch, u64::from(status)), status))
 }
 
 /// The service exit_group, which ends the process. The thread goes on to its next boundary.
@@ -182,10 +178,7 @@ fn exit_group(arch: &Arch, next: u64, k: u8, at: &mut Cursor) -> Result<Finish, 
     let status = u64::from(exit_status(arch));
     at.exchange(EXIT_WORD, 0, 0x100 + status)?;
     gate_out(k, at)?;
-    Ok(Finish::Noted(
-        served(arch, next, status),
-        sys_record(arch, status),
-    ))
+    Ok(Finish::Noted(served(arch, next, status), sys_record(arch, status)))
 }
 
 /// A kernel call that isn't there.

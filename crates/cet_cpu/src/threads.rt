@@ -132,7 +132,11 @@ fn held_after(job: &Job, arch: &Arch, access: Access, answer: u64) -> Option<u8>
     if expected != token(k) {
         return None;
     }
-    if answer == token(k) { Some(k) } else { arch.held }
+    if answer == token(k) {
+        Some(k)
+    } else {
+        arch.held
+    }
 }
 
 fn kept_by(arch: &Arch, held: Option<u8>, next: &Arch) -> Arch

@@ -10,10 +10,10 @@ mod lines;
 mod listing;
 #[cfg(test)]
 mod listing_tests;
-mod options;
-mod outcomes;
 #[cfg(test)]
 mod machine_tests;
+mod options;
+mod outcomes;
 #[cfg(test)]
 mod program_tests;
 mod programs;

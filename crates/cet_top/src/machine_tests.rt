@@ -44,9 +44,7 @@ process killed 11
 ";
 
 /// `call f`, `ud2`, `f: call` of the next instruction, `ret`.
-const CALL_TO_NEXT_LINE_TEXT: [u8; 13] = [
-    0xe8, 2, 0, 0, 0, 0x0f, 0x0b, 0xe8, 0, 0, 0, 0, 0xc3,
-];
+const CALL_TO_NEXT_LINE_TEXT: [u8; 13] = [0xe8, 2, 0, 0, 0, 0x0f, 0x0b, 0xe8, 0, 0, 0, 0, 0xc3];
 
 const CALL_TO_NEXT_LINE: &str = "cetvm report 1
 thread 0 records 4 group
@@ -74,7 +72,13 @@ fn smashed_return(rt: HostRuntime) -> Result<(), Fail> {
 #[test]
 fn call_to_next_line(rt: HostRuntime) -> Result<(), Fail> {
     let bytes = file(rt.alloc(), &CALL_TO_NEXT_LINE_TEXT)?;
-    reports(&rt, rt.alloc(), &bytes, Status::Killed(11), CALL_TO_NEXT_LINE)
+    reports(
+        &rt,
+        rt.alloc(),
+        &bytes,
+        Status::Killed(11),
+        CALL_TO_NEXT_LINE,
+    )
 }
 
 const SPIN: &str = "cetvm report 1
