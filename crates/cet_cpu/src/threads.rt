@@ -327,7 +327,7 @@ impl Cpu {
         ensures code { self.new.code ≡ None }
     {
         self.arch = next;
-        self.vals = Vals::new();
+        self.vals.clear();
         self.over = over;
         self.next = None;
         self.code = None;

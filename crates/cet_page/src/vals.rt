@@ -42,6 +42,14 @@ impl Vals {
         }
     }
 
+    /// Forgets all values and accesses.
+    pub fn clear(&mut self)
+        ensures { self.new ≡ nothing_seen }
+    {
+        self.used = 0;
+        self.accesses = 0;
+    }
+
     /// Counts an access, and keeps its value unless it is a store.
     pub fn add(&mut self, access: Access, value: u64)
         requires room { length self.old.kept < 32 }
