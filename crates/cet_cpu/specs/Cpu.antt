@@ -1,10 +1,14 @@
 -- A thread between two of its accesses, with what is kept beside it. Source: own.
-use Rattle.std.specs.Prelude.{◌≡◌, Option, Some, IfSome}
+use Rattle.std.specs.Prelude.{◌≡◌, ℕ, List, Option, Some, IfSome, Result, Ok, Err}
 use Rattle.cet_words.specs.Access.{InRange}
 use Rattle.cet_words.specs.Job.{JobData}
 use Rattle.cet_words.specs.declared.accesses.Access.{Access}
 use Rattle.cet_page.specs.Core.{Core, next_access}
+use Rattle.cet_page.specs.Plays.{Stopped}
+use Rattle.cet_page.specs.Script.{Came, Over}
 use Rattle.cet_page.specs.Within.{IsCore}
+use Rattle.cet_page.specs.declared.cursors.Stop.{Stop}
+use Rattle.cet_page.specs.declared.finishes.Finish.{Finish}
 use Rattle.cet_cpu.specs.Code.{IsCode}
 use Rattle.cet_cpu.specs.declared.fetches.Code.{Code}
 
@@ -29,3 +33,8 @@ pub record IsCpu (job : JobData) (cpu : CpuData) : Type 0 where
 pub record IsNext (job : JobData) (core : Core) (access : Access) : Type 0 where
   pub waits : next_access job core ≡ Some access
   pub range : InRange access
+
+-- what a row has come to, as a function over a cursor returns it
+abbrev pub CameTo : Came Finish → Result Finish Stop → Type 0
+CameTo came (Ok finish) = (left : ℕ) × (values : List ℕ) × (came ≡ Over finish left values)
+CameTo came (Err stop) = Stopped came stop

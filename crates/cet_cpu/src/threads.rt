@@ -7,11 +7,12 @@ ghost use Rattle.cet_isa.specs.declared.threads.End.{End};
 ghost use Rattle.cet_isa.specs.declared.threads.FaultName.{FaultName};
 ghost use Rattle.cet_page.specs.Faults.{Faults};
 ghost use Rattle.cet_page.specs.Within.{IsCore};
-ghost use Rattle.cet_page.specs.Gate.{stack_of};
+ghost use Rattle.cet_page.specs.Core.{come, core_at, first_core, next_access, next_held, taken, kept_by, recorded, fault_record};
 ghost use Rattle.cet_page.specs.Gated.{gate_held, enters_kernel};
-ghost use Rattle.cet_page.specs.Core.{core_at, first_core, next_access, taken, next_held, unheld, kept_by, recorded, fault_record, faulted};
+ghost use Rattle.cet_page.specs.Finish.{IsMade};
+ghost use Rattle.cet_page.specs.Gate.{stack_of};
 ghost use Rattle.cet_page.specs.Seen.{nothing_seen};
-ghost use Rattle.cet_cpu.specs.Cpu.{CpuData, IsCpu, IsNext, KeepsCode};
+ghost use Rattle.cet_cpu.specs.Cpu.{CameTo, CpuData, IsCpu, IsNext, KeepsCode};
 
 use crate::fetches::Code;
 use crate::gate::{stack_of, token, token_word};
@@ -91,14 +92,6 @@ pub fn first(job: &Job) -> Cpu
     cpu
 }
 
-fn unheld(arch: &Arch) -> Arch
-    ensures { result ≡ unheld arch.now }
-{
-    let mut bare = *arch;
-    bare.held = None;
-    bare
-}
-
 /// Whether the row of a thread goes through the gate into the kernel: that of a due fault, and SYSCALL.
 fn enters_kernel(job: &Job, arch: &Arch) -> bool
     ensures { result ≡ enters_kernel job.now arch.now }
@@ -139,15 +132,6 @@ fn held_after(job: &Job, arch: &Arch, access: Access, answer: u64) -> Option<u8>
     }
 }
 
-fn kept_by(arch: &Arch, held: Option<u8>, next: &Arch) -> Arch
-    ensures { result ≡ kept_by arch.now held next.now }
-{
-    let mut kept = *next;
-    kept.number = arch.number;
-    kept.held = held;
-    kept
-}
-
 fn fault_record(arch: &Arch, fault: &Fault) -> Record
     ensures { result ≡ fault_record arch.now fault.now }
 {
@@ -158,16 +142,6 @@ fn fault_record(arch: &Arch, fault: &Fault) -> Record
         a: fault.a,
         b: fault.b,
     }
-}
-
-fn faulted(arch: &Arch, fault: &Fault) -> Arch
-    requires { arch.now.count < 2 ^ 32 - 1 }
-    ensures { result ≡ faulted arch.now fault.now }
-{
-    let mut after = *arch;
-    after.due = Some(*fault);
-    after.count = arch.count + 1;
-    after
 }
 
 impl Cpu {
@@ -220,21 +194,40 @@ impl Cpu {
             end: self.over,
         }
     }
-
-    /// The access that the thread's row comes to, or none where it has ended.
+    /// Keeps the access that the thread waits for.
     #[tactic(auto, unfolding(cet_page::specs::Core::next_access))]
-    fn wanted(&self, job: &Job) -> Option<Access>
-        requires { IsCore job.now self.now.core }
-        ensures access { result ≡ next_access job.now self.now.core }
-        ensures range { IfSome result InRange }
+    fn wait(&mut self, job: &Job)
+        requires state { IsCore job.now self.old.core }
+        requires waits { IfSome self.old.next (IsNext job.now self.old.core) }
+        requires code { KeepsCode job.now self.old }
+        ensures core { self.new.core ≡ self.old.core }
+        ensures state { IsCpu job.now self.new }
     {
-        if self.over.is_some() {
-            return None;
+        if self.next.is_some() || self.over.is_some() {
+            return;
         }
-        match row(job, &unheld(&self.arch), &mut None, &mut self.vals.start()) {
-            Err(Stop::Access(access)) => Some(access),
-            _ => None,
+        if let Err(Stop::Access(access)) = self.play(job) {
+            self.next = Some(access);
         }
+    }
+
+    /// What the thread's row comes to after the accesses so far.
+    fn play(&mut self, job: &Job) -> Result<Finish, Stop>
+        requires count { self.old.core.arch.count < 2 ^ 32 - 1 }
+        requires made { IsMade self.old.core.arch.made }
+        requires number { self.old.core.arch.number < 32 }
+        requires code { KeepsCode job.now self.old }
+        ensures came { CameTo (come job.now self.old.core.arch self.old.core.seen) result }
+        ensures core { self.new.core ≡ self.old.core }
+        ensures waits { self.new.next ≡ self.old.next }
+        ensures code { KeepsCode job.now self.new }
+    {
+        // Nothing within a row depends on the supervisor stack that is held.
+        let held = self.arch.held;
+        self.arch.held = None;
+        let came = row(job, &self.arch, &mut self.code, &mut self.vals.start());
+        self.arch.held = held;
+        came
     }
 
     /// The supervisor stack that the thread holds after the answer to its next access.
@@ -248,20 +241,7 @@ impl Cpu {
         held_after(job, &self.arch, access, answer)
     }
 
-    /// Keeps the access that the thread waits for.
-    fn wait(&mut self, job: &Job)
-        requires state { IsCore job.now self.old.core }
-        requires waits { IfSome self.old.next (IsNext job.now self.old.core) }
-        requires code { KeepsCode job.now self.old }
-        ensures core { self.new.core ≡ self.old.core }
-        ensures state { IsCpu job.now self.new }
-    {
-        if self.next.is_none() {
-            self.next = self.wanted(job);
-        }
-    }
-
-    /// Takes the answer to the thread's next access, but for the first access of the next row.
+    /// Takes the answer, and keeps the access that is waited for, but for the first one of a new row.
     #[tactic(auto, unfolding(cet_page::specs::Core::taken, cet_page::specs::Core::next_access))]
     fn answered(&mut self, job: &Job, answer: u64) -> Option<Record>
         requires state { IsCpu job.now self.old }
@@ -274,59 +254,72 @@ impl Cpu {
         ensures code { KeepsCode job.now self.new }
     {
         let access = self.next?;
-        let held = self.held_after(job, access, answer);
+        self.arch.held = self.held_after(job, access, answer);
         self.vals.add(access, answer);
-        let arch = self.arch;
-        match row(job, &unheld(&arch), &mut self.code, &mut self.vals.start()) {
+        match self.play(job) {
             Err(Stop::Access(access)) => {
-                self.arch = kept_by(&arch, held, &arch);
                 self.next = Some(access);
                 None
             }
             Err(Stop::Fault(fault)) => {
-                self.settle(job, kept_by(&arch, held, &faulted(&arch, &fault)));
-                Some(fault_record(&arch, &fault))
+                let noted = fault_record(&self.arch, &fault);
+                self.arch.due = Some(fault);
+                self.arch.count += 1;
+                self.settle(job);
+                Some(noted)
             }
             Ok(Finish::Noted(next, noted)) => {
-                self.settle(job, kept_by(&arch, held, &next));
+                self.enter(next);
+                self.settle(job);
                 Some(noted)
             }
             Ok(Finish::Posted(next)) => {
-                self.begin(kept_by(&arch, held, &next), None);
+                self.enter(next);
+                self.begin(None);
                 None
             }
             Ok(Finish::Exited(next, noted, status)) => {
-                self.begin(kept_by(&arch, held, &next), Some(End::Exit(status)));
+                self.enter(next);
+                self.begin(Some(End::Exit(status)));
                 Some(noted)
             }
             Ok(Finish::Stopped) => {
-                self.begin(kept_by(&arch, held, &arch), Some(End::Group));
+                self.begin(Some(End::Group));
                 None
             }
         }
     }
 
+    /// The thread in another state, but for its number and the supervisor stack that it holds.
+    fn enter(&mut self, next: Arch)
+        ensures { self.new.core ≡ record self.old.core { arch = kept_by self.old.core.arch self.old.core.arch.held next } }
+    {
+        let (number, held) = (self.arch.number, self.arch.held);
+        self.arch = next;
+        self.arch.number = number;
+        self.arch.held = held;
+    }
+
     /// The thread after a record, which may bring it to its limit.
-    fn settle(&mut self, job: &Job, next: Arch)
-        ensures core { self.new.core ≡ recorded job.now next }
+    fn settle(&mut self, job: &Job)
+        ensures core { self.new.core ≡ recorded job.now self.old.core.arch }
         ensures waits { self.new.next ≡ None }
         ensures code { self.new.code ≡ None }
     {
-        let over = if next.count == job.limit {
+        let over = if self.arch.count == job.limit {
             Some(End::Limit)
         } else {
             None
         };
-        self.begin(next, over);
+        self.begin(over);
     }
 
-    /// The thread in this state before the first access of its row, or at its end.
-    fn begin(&mut self, next: Arch, over: Option<End>)
-        ensures core { self.new.core ≡ record { arch = next; seen = nothing_seen; over = over } }
+    /// The thread before the first access of its row, or at its end.
+    fn begin(&mut self, over: Option<End>)
+        ensures core { self.new.core ≡ record { arch = self.old.core.arch; seen = nothing_seen; over = over } }
         ensures waits { self.new.next ≡ None }
         ensures code { self.new.code ≡ None }
     {
-        self.arch = next;
         self.vals.clear();
         self.over = over;
         self.next = None;
