@@ -1,15 +1,18 @@
 //! Values and flags by the pages of the instructions in the Intel SDM, volume 2, worked by hand.
 
-ghost use Rattle.std.specs.Prelude.{◌≡◌, ◌-◌, ◌^◌, ◌<◌};
+ghost use Rattle.std.specs.Prelude.{◌≡◌, ◌-◌, ◌^◌, ◌<◌, ◌≤◌, length};
 
 mod arithmetic;
 mod memory;
 mod moves;
 
 use super::*;
-use cet_isa::{Arch, Base, Fault, FaultName, Instr, Mem, Record, Reg, What};
-use cet_page::{Cursor, Stop, with_register};
+use cet_isa::{Arch, Base, Fault, FaultName, Instr, Mem, Operand, Record, Reg, Size, What};
+use cet_page::{Cursor, Next, Stop, Vals, with_register};
+use cet_words::{Access, Bytes, Image, Job, NoMemory, Segment, Segments};
+use std::alloc::Global;
 use std::process::Abort;
+use std::test::Fail;
 
 const CF: u64 = 0x1;
 
@@ -112,4 +115,63 @@ fn based(base: Reg, disp: i32) -> Mem {
 /// A fault with this code, address and entry.
 fn fault(name: FaultName, code: u32, a: u64, b: u64) -> Result<(Arch, Record), Stop> {
     Err(Stop::Fault(Fault { name, code, a, b }))
+}
+
+/// The image of a text of at most 16 bytes at 0x401000.
+fn image_of(alloc: Global, text: &[u8]) -> Result<Image, NoMemory>
+    requires { length text.now ≤ 16 }
+{
+    let mut bytes = Bytes::new(alloc);
+    bytes.extend(alloc, text)?;
+    let segment = Segment {
+        start: 0x40_1000,
+        bytes,
+        size: 16,
+        write: false,
+        exec: true,
+    };
+    let mut segments = Segments::new(alloc);
+    segments.push(alloc, segment)?;
+    Ok(Image {
+        entry: 0x40_1000,
+        marked: true,
+        tracked: false,
+        segments,
+    })
+}
+
+/// `mov rax, [rcx]` of three bytes at RIP: its look and load, and then the address behind it.
+#[test]
+fn next_of_a_load(rt: HostRuntime) -> Result<(), Fail> {
+    let image = image_of(rt.alloc(), &[0x48, 0x8b, 0x01])?;
+    let job = Job {
+        image: &image,
+        procs: 1,
+        limit: 10,
+        signals: &[],
+    };
+    let load = Instr::Mov {
+        size: Size::Qword,
+        dst: Operand::Reg(Reg::Rax),
+        src: Operand::Mem(based(Reg::Rcx, 0)),
+    };
+    let arch = thread(1, 0x7fff_ffa8, CF);
+    let mut vals = Vals::new();
+    // The last page of the main stack, and the word at 0x7fffffa8.
+    let look = Access::Look(1087);
+    assert_eq!(rt; next(&job, &arch, &vals, &load), Next::Access(look));
+    vals.add(look, 0x8000_0000_0053_f067);
+    let word = Access::Load(557_045);
+    assert_eq!(rt; next(&job, &arch, &vals, &load), Next::Access(word));
+    vals.add(word, 0x1234);
+    match next(&job, &arch, &vals, &load) {
+        Next::Done(after, noted) => {
+            assert_eq!(rt; (after.rip, after.flags), (0x40_1003, CF | 2));
+            assert_eq!(rt; after.regs, with_register(&arch, Reg::Rax, 0x1234));
+            let noted = noted.expect(&rt, "no record");
+            assert_eq!(rt; (noted.a, noted.b), (0x1234, CF | 2));
+        }
+        other => assert!(rt; false, "{other:?}"),
+    }
+    Ok(())
 }

@@ -29,7 +29,7 @@ fn top_bit(size: Size, value: u64) -> bool
     }
 }
 
-/// The number that the low bits mean in two's ones_complement.
+/// The number that the low bits mean in two's complement.
 fn signed(size: Size, value: u64) -> i128
     requires { value < limit size }
     ensures value { result ≡ signed size value }

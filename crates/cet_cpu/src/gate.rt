@@ -1,4 +1,4 @@
-//! The gate into the kernel, the service exit, and the kill.
+//! The gate into the kernel, the services exit and exit_group, and the kill.
 
 ghost use Rattle.std.specs.Prelude.{◌≡◌, ◌+◌, ◌-◌, ◌*◌, ◌%◌, ◌^◌, ◌<◌, ◌≤◌, [], ◌∷◌};
 ghost use Rattle.cet_words.specs.Change.{Ended};

@@ -12,14 +12,15 @@ ghost use Rattle.cet_page.specs.Gated.{gate_held, enters_kernel};
 ghost use Rattle.cet_page.specs.Finish.{IsMade};
 ghost use Rattle.cet_page.specs.Gate.{stack_of};
 ghost use Rattle.cet_page.specs.Seen.{nothing_seen};
+ghost use Rattle.cet_cpu.specs.Code.{IsCode};
 ghost use Rattle.cet_cpu.specs.Cpu.{CameTo, CpuData, IsCpu, IsNext, KeepsCode};
 
-use crate::fetches::Code;
+use crate::fetches::{Code, code_at};
 use crate::gate::{stack_of, token, token_word};
 use crate::rows::row;
 use cet_decode::Decoded;
 use cet_isa::{Arch, End, Fault, Instr, Record, What};
-use cet_page::{Finish, Stop, Vals, fetch, read};
+use cet_page::{Finish, Stop, Vals};
 use cet_words::{Access, Job};
 use std::marker::Model;
 
@@ -93,16 +94,19 @@ pub fn first(job: &Job) -> Cpu
 }
 
 /// Whether the row of a thread goes through the gate into the kernel: that of a due fault, and SYSCALL.
-fn enters_kernel(job: &Job, arch: &Arch) -> bool
+fn enters_kernel(job: &Job, arch: &Arch, code: &Option<Code>) -> bool
+    requires { IfSome code.now (IsCode job.now.image.segments arch.now.rip) }
     ensures { result ≡ enters_kernel job.now arch.now }
 {
     if arch.due.is_some() {
         return true;
     }
-    let mut buffer = [0u8; 15];
-    let fetched = fetch(job.image, arch.rip, &mut buffer);
+    let here = match code {
+        Some(here) => *here,
+        None => code_at(job.image, arch.rip),
+    };
     matches!(
-        read(&buffer[..fetched]),
+        here.decoded,
         Decoded::Ok {
             instr: Instr::Syscall,
             ..
@@ -112,14 +116,21 @@ fn enters_kernel(job: &Job, arch: &Arch) -> bool
 
 /// The supervisor stack that a thread holds after an access. The gate's exchanges alone change it: the
 /// first, where it finds the token free, takes the stack, and the last gives it back.
-fn held_after(job: &Job, arch: &Arch, access: Access, answer: u64) -> Option<u8>
+fn held_after(
+    job: &Job,
+    arch: &Arch,
+    code: &Option<Code>,
+    access: Access,
+    answer: u64,
+) -> Option<u8>
+    requires { IfSome code.now (IsCode job.now.image.segments arch.now.rip) }
     ensures { result ≡ gate_held (enters_kernel job.now arch.now) (stack_of job.now arch.now) access answer arch.now.held }
 {
     let Access::CompareExchange(word, expected, _) = access else {
         return arch.held;
     };
     let k = stack_of(job, arch);
-    if word != token_word(k) || !enters_kernel(job, arch) {
+    if word != token_word(k) || !enters_kernel(job, arch, code) {
         return arch.held;
     }
     if expected != token(k) {
@@ -234,11 +245,12 @@ impl Cpu {
     #[tactic(auto, using(cet_page::specs::Gated::held_is))]
     fn held_after(&self, job: &Job, access: Access, answer: u64) -> Option<u8>
         requires state { IsCore job.now self.now.core }
+        requires code { KeepsCode job.now self.now }
         requires going { self.now.core.over ≡ None }
         requires access { next_access job.now self.now.core ≡ Some access }
         ensures { result ≡ next_held job.now self.now.core answer }
     {
-        held_after(job, &self.arch, access, answer)
+        held_after(job, &self.arch, &self.code, access, answer)
     }
 
     /// Takes the answer, and keeps the access that is waited for, but for the first one of a new row.

@@ -6,6 +6,7 @@ ghost use Rattle.cet_page.specs.Plays.{Comes};
 ghost use Rattle.cet_page.specs.Flow.{called, call, call_next, call_relative, call_to, call_indirect};
 
 use crate::RSP;
+use crate::jumps::relative;
 use cet_isa::{Arch, Operand, Record, Size, What, is_canonical};
 use cet_page::{Cursor, Kind, Stop, Who, general_protection, word_in};
 
@@ -70,7 +71,7 @@ pub fn call_relative(
     if disp == 0 {
         return call_next(arch, next, at);
     }
-    call(arch, next, next.wrapping_add_signed(i64::from(disp)), at)
+    call(arch, next, relative(next, disp), at)
 }
 
 fn call_to(arch: &Arch, back: u64, target: u64, at: &mut Cursor) -> Result<(Arch, Record), Stop>

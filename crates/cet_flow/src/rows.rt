@@ -1,6 +1,8 @@
-ghost use Rattle.std.specs.Prelude.{◌≡◌, ◌-◌, ◌^◌, ◌<◌};
+ghost use Rattle.std.specs.Prelude.{◌≡◌, ◌-◌, ◌^◌, ◌<◌, false};
+ghost use Rattle.cet_isa.specs.declared.threads.Fault.{Fault};
 ghost use Rattle.cet_page.specs.Script.{play};
-ghost use Rattle.cet_page.specs.Plays.{Comes, next_of};
+ghost use Rattle.cet_page.specs.Plays.{Comes, NextInRange, next_of};
+ghost use Rattle.cet_page.specs.Faults.{written};
 ghost use Rattle.cet_page.specs.Row.{next_address};
 ghost use Rattle.cet_page.specs.Flow.{flow};
 
@@ -41,10 +43,14 @@ pub fn follow(
 /// What a call, return, push, pop or jump does next, after the accesses that were made and the values
 /// kept of them: its next access, its result with the record, or its fault. The address of the next
 /// instruction is that after the instruction at RIP.
-#[tactic(auto, using(cet_page::specs::Plays::next_is))]
+#[tactic(auto, using(cet_page::specs::Plays::next_is, cet_page::specs::Plays::next_ranges, cet_page::specs::Faults::flow_clean))]
 pub fn next(job: &Job, arch: &Arch, vals: &Vals, instr: &Instr) -> Next
     requires { arch.now.count < 2 ^ 32 - 1 }
-    ensures { result ≡ next_of (play (flow arch.now instr.now (next_address job.now arch.now)) vals.now.count vals.now.kept) }
+    ensures next { result ≡ next_of (play (flow arch.now instr.now (next_address job.now arch.now)) vals.now.count vals.now.kept) }
+    ensures range { NextInRange result }
+
+    // An instruction that faults has changed no word.
+    ensures fault { (e : Fault) → result ≡ Next.Fault e → written false (flow arch.now instr.now (next_address job.now arch.now)) vals.now.count vals.now.kept ≡ false }
 {
     Next::of(follow(arch, instr, next_address(job, arch), &mut vals.start()))
 }

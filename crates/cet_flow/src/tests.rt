@@ -1,12 +1,14 @@
-ghost use Rattle.std.specs.Prelude.{◌<◌, ◌-◌, ◌^◌};
+ghost use Rattle.std.specs.Prelude.{◌<◌, ◌-◌, ◌^◌, ◌≤◌, length};
 
 use super::*;
 use cet_isa::{Arch, Base, Cond, Fault, FaultName, Instr, Mem, Operand, Record, Reg, What};
-use cet_page::{Cursor, Stop};
-use cet_words::Access;
+use cet_page::{Cursor, Next, Stop, Vals};
+use cet_words::{Access, Bytes, Image, Job, NoMemory, Segment, Segments};
+use std::alloc::Global;
 use std::process::Abort;
+use std::test::Fail;
 
-/// The entries of a page of the main stack, of the shadow area and of the image's code.
+/// The entries of the last page of the main stack and of the last page of the first shadow stack.
 const STACK_ENTRY: u64 = 0x8000_0000_0053_f067;
 
 const SHADOW_ENTRY: u64 = 0x8000_0000_0094_8065;
@@ -408,4 +410,58 @@ fn conditional_jumps(rt: HostRuntime) {
             );
         }
     }
+}
+
+/// The image of a text of at most 16 bytes at 0x401000.
+fn image_of(alloc: Global, text: &[u8]) -> Result<Image, NoMemory>
+    requires { length text.now ≤ 16 }
+{
+    let mut bytes = Bytes::new(alloc);
+    bytes.extend(alloc, text)?;
+    let segment = Segment {
+        start: 0x40_1000,
+        bytes,
+        size: 16,
+        write: false,
+        exec: true,
+    };
+    let mut segments = Segments::new(alloc);
+    segments.push(alloc, segment)?;
+    Ok(Image {
+        entry: 0x40_1000,
+        marked: true,
+        tracked: false,
+        segments,
+    })
+}
+
+/// `push rcx` of one byte at RIP: its looks and store, and then the address behind it.
+#[test]
+fn next_of_a_push(rt: HostRuntime) -> Result<(), Fail> {
+    let image = image_of(rt.alloc(), &[0x51])?;
+    let job = Job {
+        image: &image,
+        procs: 1,
+        limit: 10,
+        signals: &[],
+    };
+    let push = Instr::Push {
+        src: Operand::Reg(Reg::Rcx),
+    };
+    let arch = thread();
+    let mut vals = Vals::new();
+    let look = Access::Look(1087);
+    assert_eq!(rt; next(&job, &arch, &vals, &push), Next::Access(look));
+    vals.add(look, STACK_ENTRY);
+    let store = Access::Store(557_045, 0x22);
+    assert_eq!(rt; next(&job, &arch, &vals, &push), Next::Access(store));
+    vals.add(store, 0);
+    match next(&job, &arch, &vals, &push) {
+        Next::Done(after, noted) => {
+            assert_eq!(rt; (after.rip, after.regs[4]), (0x40_1001, 0x7fff_ffa8));
+            assert_eq!(rt; noted, Some(step(0x22)));
+        }
+        other => assert!(rt; false, "{other:?}"),
+    }
+    Ok(())
 }

@@ -6,6 +6,7 @@ use Rattle.cet_words.specs.Access.{answer, after}
 use Rattle.cet_words.specs.Job.{JobData}
 use Rattle.cet_words.specs.declared.accesses.Access.{Access}
 use Rattle.cet_words.specs.declared.accesses.Access.TheVariants as access
+use Rattle.cet_isa.specs.declared.instructions.Instr.{Instr}
 use Rattle.cet_isa.specs.declared.threads.Arch.{Arch}
 use Rattle.cet_isa.specs.declared.threads.End.{End}
 use Rattle.cet_isa.specs.declared.threads.Fault.{Fault}
@@ -17,7 +18,11 @@ use Rattle.cet_page.specs.Seen.{Seen, seen_after}
 use Rattle.cet_page.specs.Row.{row}
 use Rattle.cet_page.specs.Core.{Core, unheld, come, wanted, access_of, next_access, fault_record, core_by, noted_by, answered, taken}
 use Rattle.cet_page.specs.Orderly.{Orderly, OnOver, over_play, writes}
-use Rattle.cet_page.specs.OrderlyRows.{Ends, tells, orderly_row}
+use Rattle.cet_page.specs.OrderlyRows.{Ends, tells, orderly_row, orderly_arithmetic, orderly_flow}
+use Rattle.cet_page.specs.Arithmetic.{arithmetic}
+use Rattle.cet_page.specs.Flow.{flow}
+use Rattle.cet_page.specs.Plays.{next_of, faulted_of}
+use Rattle.cet_page.specs.declared.nexts.Next.TheVariants as nexts
 use Rattle.cet_page.specs.declared.finishes.Finish.{Finish}
 use Rattle.cet_page.specs.declared.finishes.Finish.TheVariants.{Noted, Posted, Exited, Stopped}
 
@@ -64,6 +69,13 @@ fault_clean Q wrote (ask a changes c) n k (suc i) [] e h p = cc
 fault_clean Q wrote (ask a changes c) n k (suc i) (v ∷ vs) e h p = let g = h.3 v in fault_clean Q (wrote || writes a v) (c v) (n - 1) (k - 1) i vs e g.1 p
 fault_clean Q wrote (tell word value changes c) n k zero values e h p = cc
 fault_clean Q wrote (tell word value changes c) n k (suc i) values e h p = fault_clean Q true c (n - 1) k i values e h.2 p
+
+-- an instruction that faults next has written nothing
+pub arithmetic_clean : (arch : Arch) (i : Instr) (next n : ℕ) (values : List ℕ) (e : Fault) → next_of (play (arithmetic arch i next) n values) ≡ nexts.Fault e → written false (arithmetic arch i next) n values ≡ false
+arithmetic_clean arch i next n values e h = fault_clean _ false (arithmetic arch i next) 4094 29 n values e (orderly_arithmetic arch i next) (faulted_of _ e h)
+
+pub flow_clean : (arch : Arch) (i : Instr) (next n : ℕ) (values : List ℕ) (e : Fault) → next_of (play (flow arch i next) n values) ≡ nexts.Fault e → written false (flow arch i next) n values ≡ false
+flow_clean arch i next n values e h = fault_clean _ false (flow arch i next) 4094 29 n values e (orderly_flow arch i next) (faulted_of _ e h)
 
 -- ---- what the answer to an access leaves
 

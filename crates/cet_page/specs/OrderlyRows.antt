@@ -182,7 +182,7 @@ orderly_jump_indirect arch src next =
     read_operand_then 4094 29 (EndsRow arch) arch size.Qword src next _ refl refl (λ target.
     orderly_cond 4092 27 false _ (canonical target) _ _ (λ _. (refl, refl, refl)) (λ _. refl))
 
-orderly_flow : (arch : Arch) (i : Instr) (next : ℕ) → Orderly 4094 29 false (Results (EndsRow arch)) (flow arch i next)
+pub orderly_flow : (arch : Arch) (i : Instr) (next : ℕ) → Orderly 4094 29 false (Results (EndsRow arch)) (flow arch i next)
 orderly_flow arch (instr.CallRel disp) next = orderly_call_relative arch disp next
 orderly_flow arch (instr.CallInd target notrack) next = orderly_call_indirect arch target next
 orderly_flow arch instr.Ret next = orderly_ret arch 0
@@ -262,7 +262,7 @@ shift_ends : (arch : Arch) (s : Size) (r : Reg) (c : Computed) (next : ℕ) (b :
 shift_ends arch s r c next true = (refl, refl, refl)
 shift_ends arch s r c next false = (refl, refl, refl)
 
-orderly_arithmetic : (arch : Arch) (i : Instr) (next : ℕ) → Orderly 4094 29 false (Results (EndsRow arch)) (arithmetic arch i next)
+pub orderly_arithmetic : (arch : Arch) (i : Instr) (next : ℕ) → Orderly 4094 29 false (Results (EndsRow arch)) (arithmetic arch i next)
 orderly_arithmetic arch (instr.Alu op s dst src) next = orderly_alu arch op s dst src next
 orderly_arithmetic arch (instr.Test s dst src) next = orderly_test arch s dst src next
 orderly_arithmetic arch (instr.Mov s dst src) next = orderly_move arch s dst src next

@@ -106,12 +106,6 @@ play_exchange_as changes word expected value zero values = refl
 play_exchange_as changes word expected value (suc n) [] = refl
 play_exchange_as changes word expected value (suc n) (v ∷ values) = refl
 
-pub play_fetch_add_as : (changes : ℕ → List Change) (word value n : ℕ) (values : List ℕ) → play (fetch_add_as changes word value) n values ≡ play (fetch_add word value) n values
-unfolding fetch_add_as
-play_fetch_add_as changes word value zero values = refl
-play_fetch_add_as changes word value (suc n) [] = refl
-play_fetch_add_as changes word value (suc n) (v ∷ values) = refl
-
 abbrev pub wants_store : (word value : ℕ) → Came (Unit {0})
 wants_store word value = Wants (access.Store word value)
 

@@ -1,6 +1,7 @@
 -- What a function over a cursor comes to is what a script comes to. Source: own.
 use Rattle.std.specs.Prelude.{◌≡◌, ℕ, List, Some, Result, Ok, Err, refl}
 use Rattle.cet_isa.specs.declared.threads.Arch.{Arch}
+use Rattle.cet_isa.specs.declared.threads.Fault.{Fault}
 use Rattle.cet_isa.specs.declared.threads.Record.{Record}
 use Rattle.cet_words.specs.Access.{InRange}
 use Rattle.cet_page.specs.Script.{Came, Over, Faulted, Wants}
@@ -28,6 +29,12 @@ next_of (Wants a) = nexts.Access a
 next_of (Faulted e) = nexts.Fault e
 next_of (Over x left values) = nexts.Done x.0 (Some x.1)
 
+-- the page or word of an access is in range
+abbrev pub NextInRange : Next → Type 0
+NextInRange (nexts.Access a) = InRange a
+NextInRange (nexts.Done arch noted) = Unit {0}
+NextInRange (nexts.Fault e) = Unit {0}
+
 -- the same of what was returned over a cursor
 abbrev pub next_after : Result (Arch × Record) Stop → Next
 next_after (Ok x) = nexts.Done x.0 (Some x.1)
@@ -39,3 +46,14 @@ pub next_is : (came : Came (Arch × Record)) (reached : Result (Arch × Record) 
 next_is came (Ok x) left values h = rw h refl
 next_is came (Err (stop.Access a)) left values h = rw h.0 refl
 next_is came (Err (stop.Fault e)) left values h = rw h refl
+
+pub next_ranges : (came : Came (Arch × Record)) (reached : Result (Arch × Record) Stop) (left : ℕ) (values : List ℕ) → Comes came reached left values → NextInRange (next_after reached)
+next_ranges came (Ok x) left values h = tt
+next_ranges came (Err (stop.Access a)) left values h = h.1
+next_ranges came (Err (stop.Fault e)) left values h = tt
+
+-- a fault next is one that the script has come to
+pub faulted_of : (came : Came (Arch × Record)) (e : Fault) → next_of came ≡ nexts.Fault e → came ≡ Faulted e
+faulted_of (Wants a) e h = cc
+faulted_of (Faulted f) e h = cc
+faulted_of (Over x left values) e h = cc

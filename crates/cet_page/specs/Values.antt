@@ -32,7 +32,7 @@ half size.Qword = 2 ^ 63
 abbrev pub top_bit : Size → ℕ → Bool
 top_bit s x = nat_le (half s) x
 
--- the number that the bits mean in two's ones_complement
+-- the number that the bits mean in two's complement
 abbrev pub signed : Size → ℕ → ℤ
 signed s x = cast_signed (width s) x
 

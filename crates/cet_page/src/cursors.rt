@@ -88,6 +88,7 @@ impl<'a> Cursor<'a> {
         Ok(())
     }
 
+    /// The load of a word.
     #[tactic(auto, unfolding(crate::specs::Parts::load_as))]
     pub fn load(&mut self, word: u32) -> Result<u64, Stop>
         requires { word < 1618002 }

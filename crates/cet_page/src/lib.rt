@@ -1,4 +1,5 @@
-//! Pages and their check, the values read in a row, and the parts that rows are made of.
+//! Pages and their check, operands and status flags, the fetch, the values read in a row, and the parts that
+//! rows are made of.
 //!
 //! What a thread does is written as a script of accesses for each instruction, kernel call and
 //! delivery (`specs/`). The crates above run such a script over the answers that the thread has kept

@@ -119,16 +119,20 @@ fn call_and_return_are_reported(rt: HostRuntime) -> Result<(), Fail> {
 }
 
 #[test]
-fn kills_are_reported(rt: HostRuntime) -> Result<(), Fail> {
-    let alloc = rt.alloc();
-    let bytes = file(alloc, &[0xc3])?;
+fn bare_return(rt: HostRuntime) -> Result<(), Fail> {
+    let bytes = file(rt.alloc(), &[0xc3])?;
     reports(
         &rt,
         rt.alloc(),
         &bytes,
         Status::Killed(11),
         RETURN_ON_AN_EMPTY_STACK,
-    )?;
+    )
+}
+
+#[test]
+fn kills_are_reported(rt: HostRuntime) -> Result<(), Fail> {
+    let alloc = rt.alloc();
     let bytes = file(alloc, &[0xbf, 7, 0, 0, 0])?;
     reports(&rt, rt.alloc(), &bytes, Status::Killed(4), PAST_THE_TEXT)?;
     let bytes = file(alloc, &[0xe8, 0xfb, 0xff, 0xff, 0xff])?;
