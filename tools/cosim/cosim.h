@@ -80,7 +80,7 @@ enum value {
     VALUE_EXIT,     /* the end of the program, which the processor doesn't run */
 };
 
-/* The flags that the manual leaves undefined. cetvm makes them 0. */
+/* The flags that cetvm makes 0: those that the manual leaves undefined, and SF after IMUL by its own rule. */
 enum undefined {
     DEFINED,
     AFTER_IMUL,     /* ZF, SF and PF */
