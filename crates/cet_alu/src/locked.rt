@@ -12,7 +12,7 @@ use cet_page::{
 };
 
 /// XCHG of two registers, or of a register with memory.
-#[tactic(auto, using(cet_page::specs::Script::play_bind), unfolding(cet_page::specs::Arithmetic::xchg))]
+#[tactic(auto, using(cet_page::proofs::ScriptLaws::play_bind), unfolding(cet_page::specs::Arithmetic::xchg))]
 pub fn xchg(
     arch: &Arch,
     dst: Operand,
@@ -40,7 +40,7 @@ pub fn xchg(
 }
 
 /// LOCK XADD.
-#[tactic(auto, using(cet_page::specs::Script::play_bind), unfolding(cet_page::specs::Arithmetic::lock_xadd))]
+#[tactic(auto, using(cet_page::proofs::ScriptLaws::play_bind), unfolding(cet_page::specs::Arithmetic::lock_xadd))]
 pub fn lock_xadd(
     arch: &Arch,
     mem: Mem,
@@ -71,7 +71,7 @@ fn rax_found(arch: &Arch, found: u64) -> [u64; 16]
 }
 
 /// LOCK CMPXCHG.
-#[tactic(auto, using(cet_page::specs::Script::play_bind), unfolding(cet_page::specs::Arithmetic::lock_cmpxchg))]
+#[tactic(auto, using(cet_page::proofs::ScriptLaws::play_bind), unfolding(cet_page::specs::Arithmetic::lock_cmpxchg))]
 pub fn lock_cmpxchg(
     arch: &Arch,
     mem: Mem,

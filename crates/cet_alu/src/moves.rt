@@ -13,7 +13,7 @@ use cet_page::{
 };
 
 /// MOV to a register, or of 64 bits to memory.
-#[tactic(auto, using(cet_page::specs::Script::play_bind, crate::proofs::MoveCases::move_register, crate::proofs::MoveCases::move_memory, crate::proofs::MoveCases::move_no_half, crate::proofs::MoveCases::move_nowhere))]
+#[tactic(auto, using(cet_page::proofs::ScriptLaws::play_bind, crate::proofs::MoveCases::move_register, crate::proofs::MoveCases::move_memory, crate::proofs::MoveCases::move_no_half, crate::proofs::MoveCases::move_nowhere))]
 pub fn mov(
     arch: &Arch,
     size: Size,
@@ -40,7 +40,7 @@ pub fn mov(
 }
 
 /// MOVZX of a byte.
-#[tactic(auto, using(cet_page::specs::Script::play_bind), unfolding(cet_page::specs::Arithmetic::movzx))]
+#[tactic(auto, using(cet_page::proofs::ScriptLaws::play_bind), unfolding(cet_page::specs::Arithmetic::movzx))]
 pub fn movzx(
     arch: &Arch,
     reg: Reg,
@@ -56,7 +56,7 @@ pub fn movzx(
 }
 
 /// MOVSXD of 32 bits.
-#[tactic(auto, using(cet_page::specs::Script::play_bind), unfolding(cet_page::specs::Arithmetic::movsxd))]
+#[tactic(auto, using(cet_page::proofs::ScriptLaws::play_bind), unfolding(cet_page::specs::Arithmetic::movsxd))]
 pub fn movsxd(
     arch: &Arch,
     reg: Reg,
@@ -74,7 +74,7 @@ pub fn movsxd(
 
 /// CMOVcc. It reads its operand, and clears the upper half of a 32-bit register, also where the
 /// condition fails.
-#[tactic(auto, using(cet_page::specs::Script::play_bind), unfolding(cet_page::specs::Arithmetic::cmov))]
+#[tactic(auto, using(cet_page::proofs::ScriptLaws::play_bind), unfolding(cet_page::specs::Arithmetic::cmov))]
 pub fn cmov(
     arch: &Arch,
     cond: Cond,

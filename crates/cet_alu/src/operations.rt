@@ -26,7 +26,7 @@ fn carry(arch: &Arch) -> bool
 }
 
 /// ADD, OR, ADC, SBB, AND, SUB, XOR or CMP.
-#[tactic(auto, using(cet_page::specs::Script::play_bind), unfolding(cet_page::specs::Arithmetic::alu))]
+#[tactic(auto, using(cet_page::proofs::ScriptLaws::play_bind), unfolding(cet_page::specs::Arithmetic::alu))]
 pub fn alu(
     arch: &Arch,
     op: AluOp,
@@ -50,7 +50,7 @@ pub fn alu(
 }
 
 /// TEST.
-#[tactic(auto, using(cet_page::specs::Script::play_bind), unfolding(cet_page::specs::Arithmetic::test))]
+#[tactic(auto, using(cet_page::proofs::ScriptLaws::play_bind), unfolding(cet_page::specs::Arithmetic::test))]
 pub fn test(
     arch: &Arch,
     size: Size,
@@ -68,7 +68,7 @@ pub fn test(
 }
 
 /// IMUL of two operands.
-#[tactic(auto, using(cet_page::specs::Script::play_bind), unfolding(cet_page::specs::Arithmetic::multiply))]
+#[tactic(auto, using(cet_page::proofs::ScriptLaws::play_bind), unfolding(cet_page::specs::Arithmetic::multiply))]
 pub fn multiply(
     arch: &Arch,
     size: Size,

@@ -67,7 +67,7 @@ pub fn follow(
 /// What an instruction of this crate does next, after the accesses that were made and the values kept of
 /// them: its next access, its result with the record, or its fault. The address of the next instruction
 /// is that after the instruction at RIP.
-#[tactic(auto, using(cet_page::specs::Plays::next_is, cet_page::specs::Plays::next_ranges, cet_page::specs::Faults::arithmetic_clean))]
+#[tactic(auto, using(cet_page::proofs::PlayLaws::next_is, cet_page::proofs::PlayLaws::next_ranges, cet_page::proofs::FaultLaws::arithmetic_clean))]
 pub fn next(job: &Job, arch: &Arch, vals: &Vals, instr: &Instr) -> Next
     requires { arch.now.count < 2 ^ 32 - 1 }
     ensures next { result ≡ next_of (play (arithmetic arch.now instr.now (next_address job.now arch.now)) vals.now.count vals.now.kept) }

@@ -21,3 +21,4 @@ pub mod PassLaws
 pub mod CheckLaws
 pub mod SmallLaws
 pub mod AnswerLaws
+pub mod PartsLeft

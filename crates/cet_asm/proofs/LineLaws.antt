@@ -5,9 +5,9 @@ use Rattle.std.specs.Str.{IsUtf8, is_utf8}
 use Rattle.std.proofs.lemmas.Str.{IsUtf8-from_is_utf8, is_utf8-from_IsUtf8}
 use Rattle.cet_isa.specs.declared.instructions.Instr.{Instr}
 use Rattle.cet_isa.specs.Canonical.{canonical_spelling}
-use Rattle.cet_isa.specs.CanonicalSpells.{canonical_spells}
+use Rattle.cet_isa.proofs.CanonicalSpells.{canonical_spells}
 use Rattle.cet_isa.specs.Spelled.{has_spelling, InstrFits}
-use Rattle.cet_isa.specs.SpelledLaws.{spelled_has}
+use Rattle.cet_isa.proofs.SpelledLaws.{spelled_has}
 use Rattle.cet_isa.specs.Spells.{Spells}
 use Rattle.cet_asm.specs.declared.classes.Class.TheVariants.{Blank, NameByte}
 use Rattle.cet_asm.specs.Tokens.{front, behind}

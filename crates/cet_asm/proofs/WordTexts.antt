@@ -3,7 +3,7 @@ use Rattle.std.proofs.Common.{◌≡◌, ℕ, ℤ, pos, negsuc, zero, suc, ◌<�
 use Rattle.std.specs.Fmt.{decimal, digits, digits_onto, digit_glyph}
 use Rattle.std.specs.List.{list_all}
 use Rattle.std.proofs.lemmas.Bool.{agree_below_at, eqb-true}
-use Rattle.cet_base.specs.NumberLaws.{number_of-hex}
+use Rattle.cet_base.proofs.NumberLaws.{number_of-hex}
 use Rattle.cet_base.specs.Numbers.{number_of}
 use Rattle.cet_encode.specs.Names.{register_name}
 use Rattle.cet_isa.specs.Spelled.{scale_ok}

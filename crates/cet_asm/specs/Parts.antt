@@ -2,11 +2,7 @@
 use Rattle.std.specs.Prelude.{ℕ, ◌==◌, List, [], map, Option, Some, None}
 use Rattle.std.specs.Borrow.{Bor}
 use Rattle.std.specs.List.{slice_split}
-use Rattle.cet_asm.specs.Line.{Line, line_of}
 
 abbrev pub parts_left : Option (Bor (List ℕ)) → List (List ℕ)
 parts_left None = []
 parts_left (Some text) = slice_split (λ b. b == 10) text.now
-
-abbrev pub lines_left : Option (Bor (List ℕ)) → List Line
-lines_left text = map line_of (parts_left text)

@@ -27,8 +27,3 @@ word_of tops addr Blank = 0
 abbrev pub words_of : (tops : ℕ → ℕ) → (addr : ℕ) → List Entry → List ℕ
 words_of tops addr [] = []
 words_of tops addr (e ∷ es) = word_of tops addr e ∷ words_of tops (addr + 8) es
-
--- the words from an address on are those of the entries, the newest first
-abbrev pub Stack : List ℕ → (tops : ℕ → ℕ) → (addr : ℕ) → List Entry → Type 0
-Stack words tops addr [] = Unit {0}
-Stack words tops addr (e ∷ es) = (slot_word words addr ≡ word_of tops addr e) × Stack words tops (addr + 8) es

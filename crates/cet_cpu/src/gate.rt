@@ -68,7 +68,7 @@ pub fn token_word(k: u8) -> u32
 }
 
 /// The gate's way in. Where the supervisor stack is busy, the word found.
-#[tactic(auto, using(cet_page::specs::Script::play_bind, cet_page::specs::Parts::play_exchange_as), unfolding(cet_page::specs::Gate::gate_in))]
+#[tactic(auto, using(cet_page::proofs::ScriptLaws::play_bind, cet_page::proofs::PartLaws::play_exchange_as), unfolding(cet_page::specs::Gate::gate_in))]
 fn gate_in(k: u8, at: &mut Cursor) -> Result<Option<u64>, Stop>
     requires { k < 8 }
     ensures { Comes (play (gate_in k) at.old.left at.old.rest.now) result at.new.left at.new.rest.now }
@@ -84,7 +84,7 @@ fn gate_in(k: u8, at: &mut Cursor) -> Result<Option<u64>, Stop>
 }
 
 /// The gate's way out. What follows is the same whatever it finds.
-#[tactic(auto, using(cet_page::specs::Script::play_bind, cet_page::specs::Parts::play_exchange_as), unfolding(cet_page::specs::Gate::gate_out))]
+#[tactic(auto, using(cet_page::proofs::ScriptLaws::play_bind, cet_page::proofs::PartLaws::play_exchange_as), unfolding(cet_page::specs::Gate::gate_out))]
 fn gate_out(k: u8, at: &mut Cursor) -> Result<(), Stop>
     requires { k < 8 }
     ensures { Comes (play (gate_out [] k) at.old.left at.old.rest.now) result at.new.left at.new.rest.now }
@@ -154,7 +154,7 @@ fn exit_status(arch: &Arch) -> u8
 }
 
 /// The service exit, which ends the thread.
-#[tactic(auto, using(cet_page::specs::Script::play_bind, crate::proofs::GateOut::play_gate_out), unfolding(cet_page::specs::Gate::exit))]
+#[tactic(auto, using(cet_page::proofs::ScriptLaws::play_bind, crate::proofs::GateOut::play_gate_out), unfolding(cet_page::specs::Gate::exit))]
 fn exit(arch: &Arch, k: u8, at: &mut Cursor) -> Result<Finish, Stop>
     requires stack { k < 8 }
     requires count { arch.now.count < 2 ^ 32 - 1 }
@@ -169,7 +169,7 @@ fn exit(arch: &Arch, k: u8, at: &mut Cursor) -> Result<Finish, Stop>
 }
 
 /// The service exit_group, which ends the process. The thread goes on to its next boundary.
-#[tactic(auto, using(cet_page::specs::Script::play_bind), unfolding(cet_page::specs::Gate::exit_group))]
+#[tactic(auto, using(cet_page::proofs::ScriptLaws::play_bind), unfolding(cet_page::specs::Gate::exit_group))]
 fn exit_group(arch: &Arch, next: u64, k: u8, at: &mut Cursor) -> Result<Finish, Stop>
     requires stack { k < 8 }
     requires count { arch.now.count < 2 ^ 32 - 1 }
@@ -182,7 +182,7 @@ fn exit_group(arch: &Arch, next: u64, k: u8, at: &mut Cursor) -> Result<Finish, 
 }
 
 /// A kernel call that isn't there.
-#[tactic(auto, using(cet_page::specs::Script::play_bind), unfolding(cet_page::specs::Gate::no_call))]
+#[tactic(auto, using(cet_page::proofs::ScriptLaws::play_bind), unfolding(cet_page::specs::Gate::no_call))]
 fn no_call(arch: &Arch, next: u64, k: u8, at: &mut Cursor) -> Result<Finish, Stop>
     requires stack { k < 8 }
     requires count { arch.now.count < 2 ^ 32 - 1 }
@@ -206,7 +206,7 @@ fn service(arch: &Arch, next: u64, k: u8, at: &mut Cursor) -> Result<Finish, Sto
 }
 
 /// SYSCALL, with the address of the next instruction.
-#[tactic(auto, using(cet_page::specs::Script::play_bind), unfolding(cet_page::specs::Gate::syscall))]
+#[tactic(auto, using(cet_page::proofs::ScriptLaws::play_bind), unfolding(cet_page::specs::Gate::syscall))]
 pub fn syscall(job: &Job, arch: &Arch, next: u64, at: &mut Cursor) -> Result<Finish, Stop>
     requires count { arch.now.count < 2 ^ 32 - 1 }
     requires made { IsMade arch.now.made }
@@ -251,7 +251,7 @@ fn killed(arch: &Arch, signal: u8, before: u64) -> Finish
 }
 
 /// The kill of the process by a signal.
-#[tactic(auto, using(cet_page::specs::Script::play_bind), unfolding(cet_page::specs::Gate::kill))]
+#[tactic(auto, using(cet_page::proofs::ScriptLaws::play_bind), unfolding(cet_page::specs::Gate::kill))]
 fn kill(arch: &Arch, signal: u8, k: u8, at: &mut Cursor) -> Result<Finish, Stop>
     requires signal { signal < 32 }
     requires stack { k < 8 }
@@ -265,7 +265,7 @@ fn kill(arch: &Arch, signal: u8, k: u8, at: &mut Cursor) -> Result<Finish, Stop>
 }
 
 /// The delivery of a due fault.
-#[tactic(auto, using(cet_page::specs::Script::play_bind), unfolding(cet_page::specs::Gate::deliver))]
+#[tactic(auto, using(cet_page::proofs::ScriptLaws::play_bind), unfolding(cet_page::specs::Gate::deliver))]
 pub fn deliver(job: &Job, arch: &Arch, fault: &Fault, at: &mut Cursor) -> Result<Finish, Stop>
     requires { arch.now.count < 2 ^ 32 - 1 }
     ensures { Comes (play (deliver job.now arch.now fault.now) at.old.left at.old.rest.now) result at.new.left at.new.rest.now }

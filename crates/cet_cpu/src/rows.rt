@@ -18,7 +18,7 @@ use cet_page::{
 use cet_words::Job;
 
 /// An instruction, with the address of the next one.
-#[tactic(auto, using(cet_page::specs::Script::play_bind))]
+#[tactic(auto, using(cet_page::proofs::ScriptLaws::play_bind))]
 fn execute(
     job: &Job,
     arch: &Arch,
@@ -87,7 +87,7 @@ fn instruction(
 }
 
 /// What a thread does between instructions, and then the instruction.
-#[tactic(auto, using(cet_page::specs::Script::play_bind), unfolding(cet_page::specs::Row::boundary))]
+#[tactic(auto, using(cet_page::proofs::ScriptLaws::play_bind), unfolding(cet_page::specs::Row::boundary))]
 fn boundary(
     job: &Job,
     arch: &Arch,

@@ -171,7 +171,7 @@ impl Cpu {
     }
 
     /// The thread's next access, or none where it has ended.
-    #[tactic(auto, using(cet_page::specs::Within::stops))]
+    #[tactic(auto, using(cet_page::proofs::WithinLaws::stops))]
     pub fn next(&self, job: &Job) -> Option<Access>
         requires state { IsCpu job.now self.now }
         ensures access { result ≡ next_access job.now self.now.core }
@@ -183,7 +183,7 @@ impl Cpu {
     }
 
     /// Takes the answer to the thread's next access.
-    #[tactic(auto, using(cet_page::specs::Within::room, cet_page::specs::Within::taken_at, cet_page::specs::Within::no_child, cet_page::specs::Faults::faults_of))]
+    #[tactic(auto, using(cet_page::proofs::WithinLaws::room, cet_page::proofs::WithinLaws::taken_at, cet_page::proofs::WithinLaws::no_child, cet_page::proofs::FaultLaws::faults_of))]
     pub fn take(&mut self, job: &Job, answer: u64) -> Taken
         requires state { IsCpu job.now self.old }
         requires going { self.old.core.over ≡ None }
@@ -242,7 +242,7 @@ impl Cpu {
     }
 
     /// The supervisor stack that the thread holds after the answer to its next access.
-    #[tactic(auto, using(cet_page::specs::Gated::held_is))]
+    #[tactic(auto, using(cet_page::proofs::GatedLaws::held_is))]
     fn held_after(&self, job: &Job, access: Access, answer: u64) -> Option<u8>
         requires state { IsCore job.now self.now.core }
         requires code { KeepsCode job.now self.now }

@@ -6,7 +6,7 @@ use Rattle.cet_isa.specs.Forms.{forms}
 use Rattle.cet_isa.specs.Spells.{has}
 use Rattle.cet_isa.specs.Reader.{Differs, IsBytes}
 use Rattle.cet_isa.specs.Reading.{any_at}
-use Rattle.cet_isa.specs.Apart.{run}
+use Rattle.cet_isa.proofs.Apart.{run}
 use Rattle.cet_decode.specs.declared.forms.TheConstants.{FORMS}
 use Rattle.cet_decode.specs.declared.index.TheConstants.{INDEX, PICKS}
 use Rattle.cet_decode.specs.Index.{picks_at, some_at, key_at}

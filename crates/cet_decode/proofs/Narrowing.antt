@@ -11,8 +11,8 @@ use Rattle.cet_isa.specs.Form as table
 use Rattle.cet_isa.specs.Spells.{allows, places}
 use Rattle.cet_isa.specs.Reader.{Miss, Differs, or_else}
 use Rattle.cet_isa.specs.Reading.{read_at, form_at, row_at, any_at}
-use Rattle.cet_isa.specs.ReadingLaws.{filled_places}
-use Rattle.cet_isa.specs.Apart.{conflict, run, chain_apart}
+use Rattle.cet_isa.proofs.ReadingLaws.{filled_places}
+use Rattle.cet_isa.proofs.Apart.{conflict, run, chain_apart}
 use Rattle.cet_decode.specs.declared.forms.Form.{Form}
 use Rattle.cet_decode.specs.Views.{form_view}
 use Rattle.cet_decode.specs.Index.{maybe_row_at, some_at}

@@ -34,7 +34,7 @@ fn jump_to(arch: &Arch, target: u64) -> Result<(Arch, Record), Stop>
 }
 
 /// An indirect near jump.
-#[tactic(auto, using(cet_page::specs::Script::play_bind), unfolding(cet_page::specs::Flow::jump_indirect))]
+#[tactic(auto, using(cet_page::proofs::ScriptLaws::play_bind), unfolding(cet_page::specs::Flow::jump_indirect))]
 pub fn jump_indirect(
     arch: &Arch,
     target: Operand,

@@ -10,7 +10,7 @@ use cet_isa::{Arch, Operand, Record, Reg, Size};
 use cet_page::{Cursor, Stop, stepped};
 
 /// PUSH. The value is read before RSP changes.
-#[tactic(auto, using(cet_page::specs::Script::play_bind), unfolding(cet_page::specs::Flow::push))]
+#[tactic(auto, using(cet_page::proofs::ScriptLaws::play_bind), unfolding(cet_page::specs::Flow::push))]
 pub fn push(arch: &Arch, src: Operand, next: u64, at: &mut Cursor) -> Result<(Arch, Record), Stop>
     requires { arch.now.count < 2 ^ 32 - 1 }
     ensures { Comes (play (push arch.now src next) at.old.left at.old.rest.now) result at.new.left at.new.rest.now }
@@ -24,7 +24,7 @@ pub fn push(arch: &Arch, src: Operand, next: u64, at: &mut Cursor) -> Result<(Ar
 }
 
 /// POP. Where the register is RSP, it keeps the value.
-#[tactic(auto, using(cet_page::specs::Script::play_bind), unfolding(cet_page::specs::Flow::pop))]
+#[tactic(auto, using(cet_page::proofs::ScriptLaws::play_bind), unfolding(cet_page::specs::Flow::pop))]
 pub fn pop(arch: &Arch, reg: Reg, next: u64, at: &mut Cursor) -> Result<(Arch, Record), Stop>
     requires { arch.now.count < 2 ^ 32 - 1 }
     ensures { Comes (play (pop arch.now reg next) at.old.left at.old.rest.now) result at.new.left at.new.rest.now }
@@ -38,7 +38,7 @@ pub fn pop(arch: &Arch, reg: Reg, next: u64, at: &mut Cursor) -> Result<(Arch, R
 }
 
 /// LEAVE: RSP becomes RBP, and RBP is popped.
-#[tactic(auto, using(cet_page::specs::Script::play_bind), unfolding(cet_page::specs::Flow::leave))]
+#[tactic(auto, using(cet_page::proofs::ScriptLaws::play_bind), unfolding(cet_page::specs::Flow::leave))]
 pub fn leave(arch: &Arch, next: u64, at: &mut Cursor) -> Result<(Arch, Record), Stop>
     requires { arch.now.count < 2 ^ 32 - 1 }
     ensures { Comes (play (leave arch.now next) at.old.left at.old.rest.now) result at.new.left at.new.rest.now }

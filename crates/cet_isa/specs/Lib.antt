@@ -5,17 +5,6 @@ pub mod Forms
 pub mod Meaning
 pub mod Spells
 pub mod Reader
-pub mod ReaderLaws
-pub mod Exact
 pub mod Reading
-pub mod ReadingLaws
-pub mod ExactReading
-pub mod Apart
-pub mod DecodedLaws
 pub mod Canonical
 pub mod Spelled
-pub mod OperandLaws
-pub mod CanonicalLaws
-pub mod CanonicalSpells
-pub mod SpelledLaws
-pub mod RoundTrip

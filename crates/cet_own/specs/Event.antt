@@ -1,5 +1,5 @@
 -- The events of a run: what its accesses do to the book of shadow stacks. Source: own.
-use Rattle.std.specs.Prelude.{ℕ, List, [], ◌∷◌, ◌++◌, map, Option, Some, None, IsSome, slice_get, option_and_then}
+use Rattle.std.specs.Prelude.{ℕ, List, [], ◌∷◌, ◌++◌, map, Option, Some, None, slice_get, option_and_then}
 use Rattle.cet_words.specs.Access.{answer}
 use Rattle.cet_words.specs.Change.{Change}
 use Rattle.cet_words.specs.Job.{JobData}
@@ -42,7 +42,3 @@ book_by b (e ∷ es) = option_and_then (λ next. book_by next es) (book_after e.
 -- the last book of a run from the start
 abbrev pub book_of : JobData → Machine → (turns : List ℕ) → Option Book
 book_of job start turns = book_by first_book (events job start turns)
-
--- every event has its case in the book before it
-abbrev pub Legal : JobData → Machine → (turns : List ℕ) → Type 0
-Legal job start turns = IsSome (book_of job start turns)

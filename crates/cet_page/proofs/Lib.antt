@@ -1,2 +1,11 @@
 pub mod Fetching
 pub mod Runs
+pub mod OrderlyRows
+pub mod FaultLaws
+pub mod GatedLaws
+pub mod LeftLaws
+pub mod OrderlyLaws
+pub mod PartLaws
+pub mod PlayLaws
+pub mod ScriptLaws
+pub mod WithinLaws

@@ -15,7 +15,6 @@ pub mod Row
 pub mod Core
 pub mod Plays
 pub mod Orderly
-pub mod OrderlyRows
 pub mod Faults
 pub mod Within
 pub mod Machine

@@ -8,7 +8,7 @@ use Rattle.cet_isa.specs.Address.{canonical}
 use Rattle.cet_isa.specs.declared.threads.Fault.{Fault}
 use Rattle.cet_isa.specs.declared.threads.FaultName.TheVariants.{Gp, Ac, Ud}
 use Rattle.cet_words.specs.Change.{Change}
-use Rattle.cet_page.specs.Script.{Script, done, fault, ask, tell, play, silent, Came, Over, Wants}
+use Rattle.cet_page.specs.Script.{Script, done, fault, ask, tell, silent}
 use Rattle.cet_page.specs.Page.{allows, page_fault}
 use Rattle.cet_page.specs.declared.checks.Kind.{Kind}
 use Rattle.cet_page.specs.declared.checks.Who.{Who}
@@ -87,50 +87,3 @@ fetch_and word value = ask (access.FetchAnd word value) silent done
 unfoldable pub stores : (count word value step : ℕ) → Script (Unit {0})
 stores zero word value step = done tt
 stores (suc count) word value step = tell word value [] (stores count (word + 1) (value + step) step)
-
--- The changes don't matter for the accesses.
-pub play_load_as : (changes : ℕ → List Change) (word n : ℕ) (values : List ℕ) → play (load_as changes word) n values ≡ play (load word) n values
-unfolding load_as
-play_load_as changes word zero values = refl
-play_load_as changes word (suc n) [] = refl
-play_load_as changes word (suc n) (value ∷ values) = refl
-
-pub play_store_as : (changes : List Change) (word value n : ℕ) (values : List ℕ) → play (store_as changes word value) n values ≡ play (store word value) n values
-unfolding store_as
-play_store_as changes word value zero values = refl
-play_store_as changes word value (suc n) values = refl
-
-pub play_exchange_as : (changes : ℕ → List Change) (word expected value n : ℕ) (values : List ℕ) → play (exchange_as changes word expected value) n values ≡ play (exchange word expected value) n values
-unfolding exchange_as
-play_exchange_as changes word expected value zero values = refl
-play_exchange_as changes word expected value (suc n) [] = refl
-play_exchange_as changes word expected value (suc n) (v ∷ values) = refl
-
-abbrev pub wants_store : (word value : ℕ) → Came (Unit {0})
-wants_store word value = Wants (access.Store word value)
-
-abbrev pub stored : (left : ℕ) → List ℕ → Came (Unit {0})
-stored left values = Over tt left values
-
--- a run of stores that is over
-pub play_stores_over : (count word value step n : ℕ) (values : List ℕ) → count ≤ n → play (stores count word value step) n values ≡ stored (n - count) values
-unfolding stores
-play_stores_over zero word value step n values l = ap (λ k. stored k values) (omega arith)
-play_stores_over (suc count) word value step zero values l = absurd (omega arith)
-play_stores_over (suc count) word value step (suc n) values l =
-    let k : n - count ≡ suc n - suc count = omega arith in
-    play_stores_over count (word + 1) (value + step) step n values (omega arith) ∙ ap (λ k. stored k values) k
-
--- one that isn't goes on with the store whose index is the number of accesses
-pub play_stores_wants : (count word value step n : ℕ) (values : List ℕ) → n < count → play (stores count word value step) n values ≡ wants_store (word + n) (value + step * n)
-unfolding stores
-play_stores_wants zero word value step n values l = absurd (omega arith)
-play_stores_wants (suc count) word value step zero values l =
-    let w : word ≡ word + 0 = omega arith in
-    let v : value ≡ value + step * 0 = omega arith in
-    ap (λ k. wants_store k value) w ∙ ap (λ k. wants_store (word + 0) k) v
-play_stores_wants (suc count) word value step (suc n) values l =
-    let w : word + 1 + n ≡ word + suc n = omega arith in
-    let v : value + step + step * n ≡ value + step * suc n = omega (arith, mul-suc step n) in
-    play_stores_wants count (word + 1) (value + step) step n values (omega arith)
-    ∙ ap (λ k. wants_store k (value + step + step * n)) w ∙ ap (λ k. wants_store (word + suc n) k) v

@@ -16,9 +16,9 @@ pub data Script (A : Type 0) : Type 0 where
   ask : Access → (ℕ → List Change) → (ℕ → Script A) → Script A
   -- a store, its changes, and what follows
   tell : (word value : ℕ) → List Change → Script A → Script A
-
 -- one script after another
 infixl 10 ◌>>=◌
+
 unfoldable pub ◌>>=◌ : {A B : Type 0} → Script A → (A → Script B) → Script B
 (done x) >>= f = f x
 (fault e) >>= f = fault e
@@ -42,22 +42,6 @@ play (ask a changes k) (suc n) [] = Wants a
 play (ask a changes k) (suc n) (value ∷ values) = play (k value) n values
 play (tell word value changes k) zero values = Wants (access.Store word value)
 play (tell word value changes k) (suc n) values = play k n values
-
-abbrev pub resume : {A B : Type 0} → Came A → (A → Script B) → Came B
-resume (Over x n values) f = play (f x) n values
-resume (Faulted e) f = Faulted e
-resume (Wants a) f = Wants a
-
--- the second script goes on where the first is over
-pub play_bind : {A B : Type 0} (m : Script A) (f : A → Script B) (n : ℕ) (values : List ℕ) → play (m >>= f) n values ≡ resume (play m n values) f
-unfolding ◌>>=◌
-play_bind (done x) f n values = refl
-play_bind (fault e) f n values = refl
-play_bind (ask a changes k) f zero values = refl
-play_bind (ask a changes k) f (suc n) [] = refl
-play_bind (ask a changes k) f (suc n) (value ∷ values) = play_bind (k value) f n values
-play_bind (tell word value changes k) f zero values = refl
-play_bind (tell word value changes k) f (suc n) values = play_bind k f n values
 
 -- the changes that come with the next access, where it gives this answer
 abbrev pub changes_at : {A : Type 0} → Script A → ℕ → List ℕ → ℕ → List Change

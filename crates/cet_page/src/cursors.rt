@@ -144,7 +144,7 @@ impl<'a> Cursor<'a> {
 
     /// Stores to so many words, the lowest first: the first gets the value, and each further one the value
     /// before and the step. They are passed over at once.
-    #[tactic(auto, using(crate::specs::Parts::play_stores_over, crate::specs::Parts::play_stores_wants))]
+    #[tactic(auto, using(crate::proofs::PartLaws::play_stores_over, crate::proofs::PartLaws::play_stores_wants))]
     pub fn stores(&mut self, count: u32, word: u32, value: u64, step: u64) -> Result<(), Stop>
         requires words { word + count ≤ 1618002 }
         requires values { value + step * count < 2 ^ 64 }
@@ -199,7 +199,7 @@ impl<'a> Cursor<'a> {
         self.look_in(page, who, kind, addr)
     }
 
-    #[tactic(auto, using(crate::specs::Script::play_bind), unfolding(crate::specs::Parts::look_in))]
+    #[tactic(auto, using(crate::proofs::ScriptLaws::play_bind), unfolding(crate::specs::Parts::look_in))]
     fn look_in(&mut self, page: u32, who: Who, kind: Kind, addr: u64) -> Result<u32, Stop>
         requires { page < 3154 }
         ensures comes { Comes (play (look_in (Some page) kind who addr) self.old.left self.old.rest.now) result self.new.left self.new.rest.now }

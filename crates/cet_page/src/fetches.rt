@@ -35,7 +35,7 @@ fn segment_of(segments: &[Segment], number: u64) -> Option<&Segment>
 }
 
 /// The segment that has a byte in the page of an address.
-#[tactic(auto, using(cet_words::specs::Bytes::found_place))]
+#[tactic(auto, using(cet_words::proofs::ByteLaws::found_place))]
 fn segment_at(image: &Image, addr: u64) -> Option<&Segment>
     ensures found { option_copied result ≡ find (covers (addr / 4096)) image.now.segments }
     ensures range { IfSome result (λ segment. addr < 0x800000) }
@@ -94,7 +94,7 @@ pub fn fetch(image: &Image, addr: u64, buffer: &mut [u8]) -> usize
 }
 
 /// The page fault of a fetch at an address whose byte can't be fetched, after a look at its page.
-#[tactic(auto, using(crate::specs::Script::play_bind), unfolding(crate::specs::Fetch::missing))]
+#[tactic(auto, using(crate::proofs::ScriptLaws::play_bind), unfolding(crate::specs::Fetch::missing))]
 pub fn missing(addr: u64, at: &mut Cursor) -> Result<Finish, Stop>
     ensures { Comes (play (missing addr) at.old.left at.old.rest.now) result at.new.left at.new.rest.now }
 {

@@ -96,7 +96,7 @@ fn byte_count(size: Size) -> u64
 }
 
 impl<'a> Cursor<'a> {
-    #[tactic(auto, using(crate::specs::Script::play_bind), unfolding(crate::specs::Operands::load_word))]
+    #[tactic(auto, using(crate::proofs::ScriptLaws::play_bind), unfolding(crate::specs::Operands::load_word))]
     fn load_word(&mut self, addr: u64, count: u64) -> Result<u64, Stop>
         requires { 0 < count }
         ensures { Comes (play (load_word addr count) self.old.left self.old.rest.now) result self.new.left self.new.rest.now }
@@ -107,7 +107,7 @@ impl<'a> Cursor<'a> {
     }
 
     /// The load of a byte.
-    #[tactic(auto, using(crate::specs::Script::play_bind), unfolding(crate::specs::Operands::load_at))]
+    #[tactic(auto, using(crate::proofs::ScriptLaws::play_bind), unfolding(crate::specs::Operands::load_at))]
     pub fn load_byte(&mut self, addr: u64) -> Result<u64, Stop>
         ensures comes { Comes (play (load_at addr 1) self.old.left self.old.rest.now) result self.new.left self.new.rest.now }
     {
@@ -116,7 +116,7 @@ impl<'a> Cursor<'a> {
     }
 
     /// The load of as many bytes as the size has.
-    #[tactic(auto, using(crate::specs::Script::play_bind), unfolding(crate::specs::Operands::load_at))]
+    #[tactic(auto, using(crate::proofs::ScriptLaws::play_bind), unfolding(crate::specs::Operands::load_at))]
     pub fn load_at(&mut self, addr: u64, size: Size) -> Result<u64, Stop>
         ensures comes { Comes (play (load_at addr (byte_count size)) self.old.left self.old.rest.now) result self.new.left self.new.rest.now }
         ensures range { IfOk result (λ value. value < limit size) }
@@ -126,7 +126,7 @@ impl<'a> Cursor<'a> {
     }
 
     /// The tests and the look before a write of 8 bytes; the answer is the word's number.
-    #[tactic(auto, using(crate::specs::Script::play_bind), unfolding(crate::specs::Operands::write_place))]
+    #[tactic(auto, using(crate::proofs::ScriptLaws::play_bind), unfolding(crate::specs::Operands::write_place))]
     pub fn write_place(&mut self, addr: u64) -> Result<u32, Stop>
         ensures comes { Comes (play (write_place addr) self.old.left self.old.rest.now) result self.new.left self.new.rest.now }
         ensures range { IfOk result (λ word. word < 1618002) }
@@ -137,7 +137,7 @@ impl<'a> Cursor<'a> {
     }
 
     /// The store of 8 bytes.
-    #[tactic(auto, using(crate::specs::Script::play_bind), unfolding(crate::specs::Operands::store_at))]
+    #[tactic(auto, using(crate::proofs::ScriptLaws::play_bind), unfolding(crate::specs::Operands::store_at))]
     pub fn store_at(&mut self, addr: u64, value: u64) -> Result<(), Stop>
         ensures { Comes (play (store_at addr value) self.old.left self.old.rest.now) result self.new.left self.new.rest.now }
     {

@@ -13,3 +13,4 @@ mod WordsFrom
 mod QuietTraces
 mod Finished
 mod Serving
+pub mod TurnLaws

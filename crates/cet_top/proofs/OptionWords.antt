@@ -5,7 +5,7 @@ use Rattle.std.specs.Fmt.{decimal}
 use Rattle.std.specs.Str.{bytes_eq}
 use Rattle.std.proofs.lemmas.Bool.{ne_eqb}
 use Rattle.std.proofs.lemmas.Option.{same_Some}
-use Rattle.cet_base.specs.NumberLaws.{number_of-decimal}
+use Rattle.cet_base.proofs.NumberLaws.{number_of-decimal}
 use Rattle.cet_top.specs.Options.{IsHead, IsNext, IsOpen, NoneBegins, StopsAt}
 use Rattle.cet_top.specs.Words.{IsOption, number_within, option_of, option_word, setting_of}
 use Rattle.cet_top.specs.declared.options.Found.{Found}

@@ -8,13 +8,15 @@ use Rattle.cet_words.specs.Access.{answer, after}
 use Rattle.cet_words.specs.declared.accesses.Access.{Access}
 use Rattle.cet_words.specs.Job.{JobData}
 use Rattle.cet_page.specs.Core.{Core, next_access, taken}
-use Rattle.cet_page.specs.Left.{falls}
+use Rattle.cet_page.proofs.LeftLaws.{falls}
 use Rattle.cet_page.specs.Machine.{Machine, Thread, machine, thread_after, with_child, act, made_by, step_by, step, run}
-use Rattle.cet_page.specs.Within.{Waits, no_child, waiting}
+use Rattle.cet_page.specs.Within.{Waits}
+use Rattle.cet_page.proofs.WithinLaws.{no_child, waiting}
 use Rattle.cet_cpu.specs.Cpu.{IsCpu}
 use Rattle.cet_top.specs.Guests.{GuestData, AllGuests, left_to, thread_of, threads_of}
 use Rattle.cet_top.specs.Schedule.{IsRobin, next_turn}
-use Rattle.cet_top.specs.Turns.{IsGoing, Robined, Leads, thread_left, total_left}
+use Rattle.cet_top.specs.Turns.{IsGoing, Robined, thread_left, total_left}
+use Rattle.cet_top.proofs.TurnLaws.{Leads}
 
 turn_step : (job : JobData) (words words' : List ℕ) (threads : List Thread) (t : ℕ) (thread thread' : Thread) (a : Access) → slice_get threads t ≡ Some thread → next_access job thread.core ≡ Some a → words' ≡ after words a → thread' ≡ thread_after thread (taken job thread.core (answer words a)) → machine words' (slice_set threads t thread') ≡ step job (machine words threads) t
 unfolding step

@@ -21,7 +21,3 @@ pub record Robined (job : JobData) (m m' : Machine) : Type 0 where
   pub turns : List ℕ
   pub robin : IsRobin job m None turns
   pub ran : run job m turns ≡ m'
-
--- these turns lead to this machine, and with more turns that end by Robin they are a run by Robin
-abbrev pub Leads : JobData → (start now : Machine) → (last : Option ℕ) → (turns : List ℕ) → Type 0
-Leads job start now last turns = (run job start turns ≡ now) × ((rest : List ℕ) → IsRobin job now last rest → IsRobin job start None (turns ++ rest))

@@ -16,7 +16,7 @@ pub(crate) fn segment_byte(segment: &Segment, addr: u64) -> u8
 }
 
 /// The byte of code at an address, or none where no executable segment covers the address's page.
-#[tactic(auto, using(crate::specs::Bytes::code_place), unfolding(crate::specs::Bytes::code_byte))]
+#[tactic(auto, using(crate::proofs::ByteLaws::code_place), unfolding(crate::specs::Bytes::code_byte))]
 pub fn code_byte(image: &Image, addr: u64) -> Option<u8>
     ensures byte { result ≡ code_byte image.now.segments addr }
     ensures range { IfSome result (λ byte. addr < 0x800000) }

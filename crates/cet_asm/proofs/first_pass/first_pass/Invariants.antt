@@ -3,7 +3,8 @@ use Rattle.std.specs.List.{slice_split}
 use Rattle.cet_asm.specs.Layout.{start}
 use Rattle.cet_asm.specs.Words.{either}
 use Rattle.cet_asm.specs.Program.{lines_of, end_from}
-use Rattle.cet_asm.specs.Parts.{parts_left, lines_left}
+use Rattle.cet_asm.specs.Parts.{parts_left}
+use Rattle.cet_asm.proofs.PartsLeft.{lines_left}
 use Rattle.cet_asm.specs.Passes.{place_in, places_from, twice_from, no_places, IsWithin}
 use Rattle.cet_asm.proofs.first_pass.first_pass.Given as goal
 

@@ -1,6 +1,6 @@
 use Rattle.std.proofs.Common.{ap, ◌∙◌}
 use Rattle.cet_isa.specs.Canonical.{canonical_spelling}
-use Rattle.cet_isa.specs.CanonicalSpells.{canonical_spells}
+use Rattle.cet_isa.proofs.CanonicalSpells.{canonical_spells}
 use Rattle.cet_isa.specs.Spelled.{has_spelling}
 use Rattle.cet_asm.proofs.sizes.spell.Goals as goal
 

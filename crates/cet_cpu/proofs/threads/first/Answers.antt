@@ -1,7 +1,7 @@
 use Rattle.std.proofs.Common.{subst, ap, ◌∙◌}
 use Rattle.cet_words.specs.Job.{ImageData, JobData, IsJob}
 use Rattle.cet_page.specs.Core.{core_at}
-use Rattle.cet_page.specs.Within.{first_at}
+use Rattle.cet_page.proofs.WithinLaws.{first_at}
 use Rattle.cet_cpu.proofs.threads.first.Goals as goal
 
 pub wait-requires-clause-state : goal.wait-requires-clause-state

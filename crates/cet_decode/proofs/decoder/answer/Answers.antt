@@ -1,5 +1,5 @@
 use Rattle.std.proofs.Common.{arith}
-use Rattle.cet_isa.specs.ReadingLaws.{forms_length}
+use Rattle.cet_isa.proofs.ReadingLaws.{forms_length}
 use Rattle.cet_decode.proofs.decoder.answer.Goals as goal
 
 pub overflow_sub-result : goal.overflow_sub-result

@@ -1,6 +1,6 @@
 use Rattle.std.proofs.Common.{arith, sym, subst, ap, ◌∙◌}
 use Rattle.cet_isa.specs.Reading.{IsAnswer, Decoding}
-use Rattle.cet_isa.specs.DecodedLaws.{decoded_answers, spelling_short, part_short, is_bytes}
+use Rattle.cet_isa.proofs.DecodedLaws.{decoded_answers, spelling_short, part_short, is_bytes}
 use Rattle.cet_decode.specs.Decoded.{decoding}
 use Rattle.cet_decode.proofs.decoder.decode.Goals as goal
 

@@ -1,5 +1,5 @@
 use Rattle.std.proofs.Common.{arith, sym}
-use Rattle.cet_isa.specs.DecodedLaws.{is_bytes}
+use Rattle.cet_isa.proofs.DecodedLaws.{is_bytes}
 use Rattle.cet_decode.proofs.IndexLaws.{index_is}
 use Rattle.cet_decode.proofs.index.read_indexed.Goals as goal
 

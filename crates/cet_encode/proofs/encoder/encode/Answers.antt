@@ -1,11 +1,11 @@
 use Rattle.std.proofs.Common.{◌≡◌, List, ℕ, ◌++◌, length}
 use Rattle.cet_isa.specs.declared.instructions.Instr.{Instr}
 use Rattle.cet_isa.specs.Canonical.{canonical_spelling}
-use Rattle.cet_isa.specs.CanonicalSpells.{canonical_spells}
-use Rattle.cet_isa.specs.DecodedLaws.{decoded_spelling}
+use Rattle.cet_isa.proofs.CanonicalSpells.{canonical_spells}
+use Rattle.cet_isa.proofs.DecodedLaws.{decoded_spelling}
 use Rattle.cet_isa.specs.Reading.{decoded, Read}
 use Rattle.cet_isa.specs.Spelled.{InstrFits}
-use Rattle.cet_isa.specs.SpelledLaws.{spelled_has}
+use Rattle.cet_isa.proofs.SpelledLaws.{spelled_has}
 use Rattle.cet_isa.specs.Spells.{Spells}
 use Rattle.cet_encode.proofs.encoder.encode.Goals as goal
 

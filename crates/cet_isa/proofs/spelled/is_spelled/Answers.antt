@@ -1,7 +1,7 @@
 use Rattle.std.proofs.Common.{◌∙◌, sym}
 use Rattle.cet_isa.specs.Canonical.{canonical_spelling}
-use Rattle.cet_isa.specs.CanonicalSpells.{canonical_spells}
-use Rattle.cet_isa.specs.SpelledLaws.{spelled_has}
+use Rattle.cet_isa.proofs.CanonicalSpells.{canonical_spells}
+use Rattle.cet_isa.proofs.SpelledLaws.{spelled_has}
 use Rattle.cet_isa.proofs.spelled.is_spelled.Goals as goal
 
 pub returns : goal.returns

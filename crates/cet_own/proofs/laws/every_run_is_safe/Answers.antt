@@ -1,4 +1,4 @@
-use Rattle.cet_own.specs.Run.{safe_run}
+use Rattle.cet_own.proofs.Run.{safe_run}
 use Rattle.cet_own.proofs.laws.every_run_is_safe.Goals as goal
 
 -- src/laws.rt:11:1

@@ -1,7 +1,7 @@
 use Rattle.std.proofs.Common.{◌++◌, take, sym, ◌∙◌, ap, refl, arith, lit≤}
 use Rattle.std.proofs.lemmas.List.{length-take-le, take-append-drop}
 use Rattle.std.specs.Prelude.{slice_index}
-use Rattle.cet_isa.specs.ReadingLaws.{decoded_within}
+use Rattle.cet_isa.proofs.ReadingLaws.{decoded_within}
 use Rattle.cet_top.specs.Listing.{Instruction, Lone, piece_line}
 use Rattle.cet_top.proofs.Listed.{first_byte, none_begins}
 use Rattle.cet_top.proofs.listing.put_piece.Goals as goal

@@ -2,7 +2,7 @@ use Rattle.std.proofs.Common.{ℕ, List, length, ◌<◌}
 use Rattle.std.specs.Prelude.{IfSome}
 use Rattle.cet_page.specs.Machine.{machine}
 use Rattle.cet_top.specs.Guests.{AllGuests, left_to, threads_of}
-use Rattle.cet_top.specs.Turns.{Leads}
+use Rattle.cet_top.proofs.TurnLaws.{Leads}
 use Rattle.cet_top.proofs.turns.robin.Given as goal
 
 abbrev pub invariant-loop-at : goal.invariant-loop-at

@@ -1,8 +1,8 @@
-use Rattle.std.proofs.Common.{◌≡◌, Some, sym, ap, ◌∙◌}
+use Rattle.std.proofs.Common.{sym, ap, ◌∙◌}
 use Rattle.std.specs.Prelude.{find}
 use Rattle.std.specs.Option.{option_copied}
 use Rattle.cet_words.specs.Job.{covers}
-use Rattle.cet_words.specs.Bytes.{found_place}
+use Rattle.cet_words.proofs.ByteLaws.{found_place}
 use Rattle.cet_words.proofs.bytes.code_byte.Goals as goal
 
 pub returns-in-Some-clause-range : goal.returns-in-Some-clause-range

@@ -1,5 +1,5 @@
 use Rattle.std.proofs.Common.{◌∙◌, ap}
-use Rattle.cet_page.specs.Within.{goes}
+use Rattle.cet_page.proofs.WithinLaws.{goes}
 use Rattle.cet_cpu.specs.Cpu.{CpuData}
 use Rattle.cet_cpu.proofs.threads.Cpu.next.Goals as goal
 

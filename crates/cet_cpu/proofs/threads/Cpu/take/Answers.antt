@@ -1,4 +1,4 @@
-use Rattle.cet_page.specs.Within.{taken_at}
+use Rattle.cet_page.proofs.WithinLaws.{taken_at}
 use Rattle.cet_cpu.proofs.threads.Cpu.take.Goals as goal
 
 pub wait-requires-clause-state : goal.wait-requires-clause-state

@@ -1,6 +1,6 @@
 use Rattle.std.proofs.Common.{ap, ◌∙◌}
 use Rattle.cet_page.specs.Core.{next_access}
-use Rattle.cet_page.specs.Within.{wants}
+use Rattle.cet_page.proofs.WithinLaws.{wants}
 use Rattle.cet_top.specs.Guests.{GuestData}
 use Rattle.cet_top.proofs.guests.Guest.step.Goals as goal
 

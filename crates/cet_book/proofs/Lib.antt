@@ -1,0 +1,17 @@
+pub mod Shape
+pub mod Edits
+pub mod Relist
+pub mod Unlink
+pub mod Acquire
+pub mod Hand
+pub mod Append
+pub mod Removes
+pub mod Supervisor
+pub mod First
+pub mod Relies
+pub mod Addresses
+pub mod Cases
+pub mod Kept
+pub mod Ways
+pub mod Top
+pub mod StackLaws

@@ -1,0 +1,164 @@
+-- The start words and the first book are in step, and thread 0 is at rest. Source: own.
+use Rattle.std.proofs.Common.{◌≡◌, ◌≢◌, ℕ, zero, suc, ◌+◌, ◌-◌, ◌*◌, ◌%◌, ◌<◌, ◌≤◌, ◌⊎◌, inl, inr, Bool, true, false, List, [], ◌∷◌, length, None, refl, sym, ◌∙◌, ap, subst, arith}
+use Rattle.std.specs.Prelude.{slice_index, slice_get, nat_lt, ◌==◌}
+use Rattle.std.proofs.lemmas.Bool.{cases_lt, false≢true}
+use Rattle.std.proofs.lemmas.Bool.Decides.{nat_tests}
+use Rattle.std.proofs.lemmas.List.{get_or_past}
+use Rattle.cet_words.specs.Job.{JobData, IsJob, ImageData}
+use Rattle.cet_words.specs.Layout.{entry_word, entry_of}
+use Rattle.cet_words.specs.Start.{kernel_word, is_present, start_entry, start_word, IsStart}
+use Rattle.cet_book.specs.Book.{Current, region, top, current_of, stack_of, first_book}
+use Rattle.cet_book.proofs.Addresses.{first_returns}
+use Rattle.cet_book.proofs.Edits.{current_holds}
+use Rattle.cet_book.proofs.First.{first_empty, first_current, first_is_book}
+use Rattle.cet_book.specs.Stack.{tops}
+use Rattle.cet_book.proofs.StackLaws.{Stack}
+use Rattle.cet_page.specs.Core.{first_core, unheld}
+use Rattle.cet_page.specs.Gate.{token, token_word}
+use Rattle.cet_page.specs.Machine.{Machine, Thread, Starts}
+use Rattle.cet_page.proofs.WithinLaws.{first_waits}
+use Rattle.cet_own.proofs.Holds.{LiesIn, IsEntry, Pages, busy, Gates, Holds}
+use Rattle.cet_own.proofs.Standing.{Free, AtRest, HasNone}
+use Rattle.cet_own.proofs.Held.{held_free}
+use Rattle.cet_own.proofs.Rows.{row_claim}
+use Rattle.cet_own.proofs.Stands.{InRow, ThreadStands}
+
+-- ---- words
+
+-- an entry at the start, also past the last page
+first_entry : (image : ImageData) (words : List ℕ) (page : ℕ) → IsStart image words → page < 3154 → slice_index words (entry_word page) ≡ start_entry image page
+unfolding start_word
+first_entry image words page s l =
+    let n : 1614848 + page - 1614848 ≡ page = omega arith in
+    let a : nat_lt (1614848 + page) 524288 ≡ false = grind (arith, nat_tests) in
+    let b : nat_lt (1614848 + page) 1605632 ≡ false = grind (arith, nat_tests) in
+    let c : nat_lt (1614848 + page) 1614848 ≡ false = grind (arith, nat_tests) in
+    s.each (entry_word page) (omega arith) ∙ rw (a, b, c) (ap (start_entry image) n)
+
+is_entry : (image : ImageData) (page : ℕ) (c : Bool) → is_present page ≡ c → IsEntry image page (start_entry image page)
+unfolding start_entry
+is_entry image page true e = inr (rw e refl)
+is_entry image page false e = inl (rw e refl)
+
+present_is : (image : ImageData) (page : ℕ) → is_present page ≡ true → start_entry image page ≡ entry_of image page
+unfolding start_entry
+present_is image page e = rw e refl
+
+absent_is : (image : ImageData) (page : ℕ) → is_present page ≡ false → start_entry image page ≡ 0
+unfolding start_entry
+absent_is image page e = rw e refl
+
+-- a present page of the shadow area is one of the first region's
+shadow_present : (page : ℕ) (c : Bool) → is_present page ≡ c → 2112 ≤ page → page < 3136 → ((c ≡ true) → (2112 < page) × (page < 2121))
+shadow_present page true e lo hi f = (grind (arith, nat_tests), grind (arith, nat_tests))
+shadow_present page false e lo hi f = absurd (false≢true f)
+
+first_lies : (image : ImageData) (words : List ℕ) (page : ℕ) → IsStart image words → 2112 ≤ page → page < 3136 → slice_index words (entry_word page) ≢ 0 → (c : Bool) → is_present page ≡ c → LiesIn (region first_book 0) page
+first_lies image words page s lo hi n true e = let p = shadow_present page true e lo hi refl in let low = p.0 in let high = p.1 in record { low = omega arith; high = omega arith }
+first_lies image words page s lo hi n false e = absurd (n (first_entry image words page s (omega arith) ∙ absent_is image page e))
+
+fixed_present : (page : ℕ) → (page < 1088) ⊎ ((3136 ≤ page) × (page < 3154)) → is_present page ≡ true
+fixed_present page (inl l) = grind (arith, nat_tests)
+fixed_present page (inr r) = let low = r.0 in grind (arith, nat_tests)
+
+fixed_below : (page : ℕ) → (page < 1088) ⊎ ((3136 ≤ page) × (page < 3154)) → page < 3154
+fixed_below page (inl l) = omega arith
+fixed_below page (inr r) = r.1
+
+first_pages : (image : ImageData) (words : List ℕ) → IsStart image words → Pages image words first_book
+first_pages image words s = record {
+  entries = λ page. elim (cases_lt page 3154) [
+    | inl l ↦ subst (IsEntry image page) (sym (first_entry image words page s l)) (is_entry image page (is_present page) refl)
+    | inr g ↦ inl (let size = s.size in let past : length words ≤ entry_word page = omega arith in get_or_past words (entry_word page) 0 past)
+  ];
+  fixed = λ page f. first_entry image words page s (fixed_below page f) ∙ present_is image page (fixed_present page f);
+  shadow = λ page lo hi n. (0, first_lies image words page s lo hi n (is_present page) refl);
+}
+
+token_start : (k : ℕ) → k < 8 → kernel_word (1535 + 1024 * k) ≡ token k
+unfolding kernel_word
+token_start k l =
+    let a : (1535 + 1024 * k == 1) ≡ false = grind (arith, nat_tests) in
+    let b : (1535 + 1024 * k == 2) ≡ false = grind (arith, nat_tests) in
+    let c : nat_lt 511 (1535 + 1024 * k) ≡ true = grind (arith, nat_tests) in
+    let r : (1535 + 1024 * k) % 1024 ≡ 511 = omega arith in
+    let d : ((1535 + 1024 * k) % 1024 == 511) ≡ true = grind (arith, nat_tests) in
+    rw (a, b, c, d) (omega arith)
+
+no_stack : (k : ℕ) → stack_of first_book k ≡ None
+no_stack zero = refl
+no_stack (suc zero) = refl
+no_stack (suc (suc zero)) = refl
+no_stack (suc (suc (suc zero))) = refl
+no_stack (suc (suc (suc (suc zero)))) = refl
+no_stack (suc (suc (suc (suc (suc zero))))) = refl
+no_stack (suc (suc (suc (suc (suc (suc zero)))))) = refl
+no_stack (suc (suc (suc (suc (suc (suc (suc zero))))))) = refl
+no_stack (suc (suc (suc (suc (suc (suc (suc (suc k)))))))) = refl
+
+first_gates : (image : ImageData) (words : List ℕ) → IsStart image words → Gates words first_book
+unfolding start_word
+first_gates image words s k l =
+    let a : nat_lt (1607167 + 1024 * k) 524288 ≡ false = grind (arith, nat_tests) in
+    let b : nat_lt (1607167 + 1024 * k) 1605632 ≡ false = grind (arith, nat_tests) in
+    let c : nat_lt (1607167 + 1024 * k) 1614848 ≡ true = grind (arith, nat_tests) in
+    let n : 1607167 + 1024 * k - 1605632 ≡ 1535 + 1024 * k = omega arith in
+    let is : start_word image (token_word k) ≡ token k = rw (a, b, c) (ap kernel_word n ∙ token_start k l) in
+    let none : busy (stack_of first_book k) ≡ 0 = ap busy (no_stack k) in
+    s.each (token_word k) (omega arith) ∙ is ∙ omega arith
+
+pub first_holds : (image : ImageData) (words : List ℕ) → IsStart image words → Holds image words first_book
+first_holds image words s = record {
+  size = s.size;
+  sound = record { book = first_is_book; returns = first_returns };
+  stacks = λ i. subst (Stack words (tops first_book) (top (region first_book i))) (sym (first_empty i)) tt;
+  pages = first_pages image words s;
+  gates = first_gates image words s;
+}
+
+-- ---- threads
+
+none_free : (t : ℕ) → Free t first_book
+none_free t k e = let n = no_stack k in cc
+
+first_rest : AtRest 0 first_book 0x200009000
+first_rest = record {
+  stacked = record {
+    top = record { has = (let e = first_current in omega arith); at = sym (ap (λ i. top (region first_book i)) first_current); aligned = refl };
+    low = omega arith;
+    high = omega arith;
+  };
+  free = none_free 0;
+}
+
+-- no other thread is born
+first_none : (t : ℕ) → HasNone (suc t) first_book
+first_none t = record {
+  regions = elim (cases_lt (current_of (suc t) first_book) (length first_book.regions)) [
+    | inl l ↦ absurd (
+        let h = current_holds (suc t) first_book l in
+        let z : current_of (suc t) first_book ≡ 0 = omega arith in
+        let e : Current 0 ≡ Current (suc t) = subst (λ i. (region first_book i).holder ≡ Current (suc t)) z h in
+        let f : 0 ≡ suc t = cc in
+        omega arith)
+    | inr g ↦ g
+  ];
+  free = none_free (suc t);
+}
+
+first_row : (job : JobData) → IsJob job → InRow job 0 (record { book = first_book }) (first_core job)
+first_row job j =
+    let w = first_waits job j in
+    record {
+      waits = w;
+      number = refl;
+      before = record { book = first_book };
+      left = row_claim job j (unheld (first_core job).arch) (record { book = first_book }) (record { book = first_book }) w.state.made first_rest;
+    }
+
+first_thread : (job : JobData) → IsJob job → (t : ℕ) → ThreadStands job t (record { book = first_book }) (slice_get (record { core = first_core job; trace = [] } ∷ []) t)
+first_thread job j zero = (held_free 0 first_book (none_free 0), first_row job j)
+first_thread job j (suc t) = first_none t
+
+pub first_threads : (job : JobData) (start : Machine) → IsJob job → Starts job start → (t : ℕ) → ThreadStands job t (record { book = first_book }) (slice_get start.threads t)
+first_threads job start j s t = subst (λ (l : List Thread). ThreadStands job t (record { book = first_book }) (slice_get l t)) (sym s.threads) (first_thread job j t)

@@ -1,0 +1,157 @@
+-- What a thread claims of the gate's way in and way out. Source: own.
+use Rattle.std.proofs.Common.{◌≡◌, ℕ, ◌+◌, ◌-◌, ◌<◌, ◌≤◌, inl, inr, true, [], ◌∷◌, length, Option, Some, None, refl, sym, ◌∙◌, ap, arith, eqb}
+use Rattle.std.specs.Prelude.{option_map, option_and_then}
+use Rattle.std.proofs.lemmas.Bool.{cases_lt}
+use Rattle.std.proofs.lemmas.Bool.Decides.{eqb_tells, nat_tests}
+use Rattle.cet_words.specs.Job.{JobData}
+use Rattle.cet_words.specs.Change.{Busied, Freed, Ended}
+use Rattle.cet_isa.specs.declared.threads.Arch.{Arch}
+use Rattle.cet_book.specs.Book.{Lost, Book, region, top, stack_of, put_stack, current_of, book_after}
+use Rattle.cet_book.proofs.Shape.{StackShape}
+use Rattle.cet_book.proofs.Edits.{Owned, owned, current_holds}
+use Rattle.cet_book.proofs.Hand.{hand, end_none}
+use Rattle.cet_book.proofs.Supervisor.{stack_of-put_stack, current_of-put_stack}
+use Rattle.cet_book.proofs.Ways.{busied_way, freed_way, ended_way}
+use Rattle.cet_page.specs.Script.{Script, ◌>>=◌}
+use Rattle.cet_page.specs.Parts.{exchange_as}
+use Rattle.cet_page.specs.Gate.{token, token_page, token_word, kernel_return, gate_in, gate_out}
+use Rattle.cet_own.proofs.Holds.{IsOut, busy}
+use Rattle.cet_own.proofs.Standing.{Stacked, Free, AtRest, rest_kept, Inside, inside_kept, HasNone}
+use Rattle.cet_own.proofs.Held.{held_given}
+use Rattle.cet_own.proofs.Classes.{State, refused, enters, leaves, exits, own_stack}
+use Rattle.cet_own.proofs.Parts.{Claim, one_after, claim_bind, peek_then, load_then, store_then}
+
+-- regions don't see supervisor stacks
+stacked_put : (t k ssp : ℕ) (o : Option ℕ) (b : Book) → Stacked t b ssp → Stacked t (put_stack b k o) ssp
+stacked_put t k ssp o b s =
+    let e = current_of-put_stack t k o b in
+    let l = s.top.has in
+    record {
+      top = record { has = omega arith; at = s.top.at ∙ sym (ap (λ n. top (region b n)) e); aligned = s.top.aligned };
+      low = s.low;
+      high = s.high;
+    }
+
+-- a token tells that its stack has no holder
+free_by : (o : Option ℕ) (p v : ℕ) → v ≡ p + busy o → v ≡ p → o ≡ None
+free_by None p v e f = refl
+free_by (Some t) p v e f = absurd (omega arith)
+
+free_given : (t k : ℕ) (b : Book) → length b.stacks ≡ 8 → k < 8 → StackShape b.stacks → stack_of b k ≡ Some t → Free t (put_stack b k None)
+free_given t k b eight l s holds j e =
+    let h = held_given t k b (omega arith) s holds j in
+    let none : None ≡ Some j = h.1 e in
+    cc
+
+-- the word below a token
+below_token : (k : ℕ) → k < 8 → IsOut (token_word k - 1)
+below_token k l = record { shadow = inr (omega arith); entry = omega arith; token = λ j lj. omega arith }
+
+ended_none : (t m : ℕ) (b : Book) → Owned t m b → length (hand m (region b m).entries Lost b).regions ≤ current_of t (hand m (region b m).entries Lost b)
+ended_none t m b o = elim (cases_lt (current_of t (hand m (region b m).entries Lost b)) (length (hand m (region b m).entries Lost b).regions)) [
+  | inl l ↦ absurd (end_none o (current_of t (hand m (region b m).entries Lost b)) (current_holds t (hand m (region b m).entries Lost b) l))
+  | inr g ↦ g
+]
+
+module _ (job : JobData) (arch : Arch) (l : own_stack job arch.number < 8) where
+  -- the thread's supervisor stack
+  abbrev pub gate : ℕ
+  gate = own_stack job arch.number
+
+  -- the book after the thread took it, or gave it back
+  abbrev pub taken : Book → Book
+  taken b = put_stack b (own_stack job arch.number) (Some arch.number)
+
+  abbrev pub given : Book → Book
+  given b = put_stack b (own_stack job arch.number) None
+
+  -- the book after the thread's region ended
+  abbrev pub ended : Book → Book
+  ended b = hand (current_of arch.number b) (region b (current_of arch.number b)).entries Lost b
+
+  -- the way in: the thread is inside, or it is at rest as before
+  pub gate_in_then : {A : Type 0} (Q : State → State → A → Type 0) (before s : State) (f : Option ℕ → Script A) → AtRest arch.number s.book arch.ssp → ((z n : State) → Inside arch.number gate n.book arch.ssp → Claim job arch Q z n (f None)) → ((z n : State) (found : ℕ) → AtRest arch.number n.book arch.ssp → Claim job arch Q z n (f (Some found))) → Claim job arch Q before s (gate_in gate >>= f)
+  unfolding gate_in exchange_as
+  gate_in_then Q before s f rest inside busied =
+      claim_bind job arch Q before s (gate_in gate) f
+      (peek_then job arch (λ z n x. Claim job arch Q z n (f x)) before s (token_page gate) _ rest.stacked (λ now r v.
+      let rest' = rest_kept r rest in
+      claim_bind job arch (λ z n x. Claim job arch Q z n (f x)) now now _ _ (
+        rest'.stacked,
+        λ later r' found known.
+            let rest'' = rest_kept r' rest' in
+            elim (eqb_tells found (token gate)) [
+              | inl e ↦
+                  let none = free_by (stack_of later.book gate) (token gate) found
+                  (known.gate gate (token gate) (token gate + 1) l refl) e.1 in
+                  let eight = known.sound.book.stacks.eight in
+                  let same : eqb gate gate ≡ true = grind (arith, nat_tests) in
+                  let within : gate < length later.book.stacks = omega arith in
+                  let holds : stack_of (taken later.book) gate ≡ Some arch.number
+                  = stack_of-put_stack later.book gate gate (Some arch.number) within ∙ rw same refl in
+                  let in_kernel : Inside arch.number gate (taken later.book) arch.ssp
+                  = record { stacked = stacked_put arch.number gate arch.ssp (Some arch.number) later.book rest''.stacked; holds = holds } in
+                  rw e.0 (
+                    enters l refl e.1 rest''.free refl,
+                    record later { book = taken later.book },
+                    one_after arch.number later (taken later.book) (Busied gate)
+                        (busied_way arch.number gate later.book l none rest''.free),
+                    store_then job arch (λ z n x. Claim job arch Q z n (f x)) later (record later { book = taken later.book })
+                        (token_word gate - 1) kernel_return _ (below_token gate l) in_kernel.stacked
+                        (λ last r''. inside last last (inside_kept r'' in_kernel)),
+                  )
+              | inr e ↦ rw e.0 (refused (token gate + 1) l refl e.1 refl, later, refl, busied later later found rest'')
+            ],
+      )))
+
+  -- the way out
+  pub gate_out_then : {A : Type 0} (Q : State → State → A → Type 0) (before s : State) (f : Unit {0} → Script A) → Inside arch.number gate s.book arch.ssp → ((z n : State) → AtRest arch.number n.book arch.ssp → Claim job arch Q z n (f tt)) → Claim job arch Q before s (gate_out [] gate >>= f)
+  unfolding gate_out exchange_as
+  gate_out_then Q before s f inside h =
+      claim_bind job arch Q before s (gate_out [] gate) f
+      (load_then job arch (λ z n x. Claim job arch Q z n (f x)) before s (token_word gate - 1) _ inside.stacked (λ now r v.
+      let inside' = inside_kept r inside in
+      claim_bind job arch (λ z n x. Claim job arch Q z n (f x)) now now _ _ (
+        inside'.stacked,
+        λ later r' found known.
+            let inside'' = inside_kept r' inside' in
+            let stacks = known.sound.book.stacks in (
+              leaves l refl inside''.holds refl,
+              record later { book = given later.book },
+              one_after arch.number later (given later.book) (Freed gate)
+                  (freed_way arch.number gate later.book inside''.holds),
+              h later (record later { book = given later.book }) (record {
+                stacked = stacked_put arch.number gate arch.ssp None later.book inside''.stacked;
+                free = free_given arch.number gate later.book stacks.eight l stacks inside''.holds;
+              }),
+            ),
+      )))
+
+  -- the way out of a thread that ends
+  pub exit_out_then : {A : Type 0} (Q : State → State → A → Type 0) (before s : State) (f : Unit {0} → Script A) → Inside arch.number gate s.book arch.ssp → ((z n : State) → HasNone arch.number n.book → Claim job arch Q z n (f tt)) → Claim job arch Q before s (gate_out (Ended ∷ []) gate >>= f)
+  unfolding gate_out exchange_as
+  exit_out_then Q before s f inside h =
+      claim_bind job arch Q before s (gate_out (Ended ∷ []) gate) f
+      (load_then job arch (λ z n x. Claim job arch Q z n (f x)) before s (token_word gate - 1) _ inside.stacked (λ now r v.
+      let inside' = inside_kept r inside in
+      claim_bind job arch (λ z n x. Claim job arch Q z n (f x)) now now _ _ (
+        inside'.stacked,
+        λ later r' found known.
+            let inside'' = inside_kept r' inside' in
+            let stacks = known.sound.book.stacks in
+            let has = inside''.stacked.top.has in
+            let o : Owned arch.number (current_of arch.number later.book) later.book = owned arch.number later.book known.sound.book.shape has in
+            let holds : stack_of (ended later.book) gate ≡ Some arch.number = inside''.holds in
+            let gone = ended_none arch.number (current_of arch.number later.book) later.book o in
+            let same = current_of-put_stack arch.number gate None (ended later.book) in (
+              exits (current_of arch.number later.book) l refl inside''.holds o.current refl,
+              record later { book = given (ended later.book) },
+              ap (λ (q : Option Book). option_map (λ b. record later { book = b }) (option_and_then (λ n. option_and_then (λ x. Some x) (book_after arch.number n (Freed gate))) q)) (ended_way o)
+                  ∙ ap (λ (q : Option Book). option_map (λ b. record later { book = b }) (option_and_then (λ x. Some x) q))
+                  (freed_way arch.number gate (ended later.book) holds),
+              h later (record later { book = given (ended later.book) }) (record {
+                regions = omega arith;
+                free = free_given arch.number gate (ended later.book) stacks.eight l stacks holds;
+              }),
+            ),
+      )))

@@ -1,0 +1,115 @@
+-- Writes that change no book: words of no stack, cleared entries. And what pages and tokens are after a change. Source: own.
+use Rattle.std.proofs.Common.{◌≡◌, ◌≢◌, ℕ, ◌+◌, ◌<◌, ◌≤◌, ◌⊎◌, inl, inr, List, length, Option, None, refl, sym, ◌∙◌, ap, subst, arith, get_or, length-set, get_or-set_other, get_or-set_same}
+use Rattle.std.specs.Prelude.{slice_index, slice_set}
+use Rattle.std.proofs.lemmas.Bool.Decides.{eqb_tells}
+use Rattle.cet_words.specs.Job.{ImageData}
+use Rattle.cet_words.specs.Layout.{entry_word}
+use Rattle.cet_book.specs.Book.{Book, region, top, stack_of, put_stack}
+use Rattle.cet_book.proofs.Shape.{Shape}
+use Rattle.cet_book.proofs.Edits.{SameBounds}
+use Rattle.cet_book.proofs.Supervisor.{stack_of-put_stack}
+use Rattle.cet_book.specs.Stack.{tops}
+use Rattle.cet_book.proofs.StackLaws.{Stack}
+use Rattle.cet_page.specs.Gate.{token, token_word}
+use Rattle.cet_own.proofs.Holds.{LiesIn, IsEntry, Pages, busy, Gates, Holds, IsOut}
+use Rattle.cet_own.proofs.Writes.{stack_agrees, top_even, list_out}
+
+-- the lists, where no word of the shadow area was written
+pub lists_out : (words : List ℕ) (b : Book) (w x : ℕ) → Shape b → (w < 1081344) ⊎ (1605632 ≤ w) → ((i : ℕ) → Stack words (tops b) (top (region b i)) (region b i).entries) → (i : ℕ) → Stack (slice_set words w x) (tops b) (top (region b i)) (region b i).entries
+lists_out words b w x s out h i =
+    let o = (s.fits i).room in
+    stack_agrees words (slice_set words w x) (tops b) (tops b) (top (region b i)) (region b i).entries (top_even b i s)
+    (λ a lo hi even. list_out words b w x i a s out lo (omega arith) even) (λ s n. refl) (h i)
+
+-- the pages, where no entry was written
+pub pages_out : (image : ImageData) (words : List ℕ) (b : Book) (w x : ℕ) → w < 1614848 → Pages image words b → Pages image (slice_set words w x) b
+pages_out image words b w x l h =
+    let same : (page : ℕ) → slice_index (slice_set words w x) (entry_word page) ≡ slice_index words (entry_word page) = λ page. (let n : entry_word page ≢ w = omega arith in get_or-set_other words w (entry_word page) x 0 n) in
+    record {
+      entries = λ page. subst (IsEntry image page) (sym (same page)) (h.entries page);
+      fixed = λ page f. same page ∙ h.fixed page f;
+      shadow = λ page lo hi n. h.shadow page lo hi (λ z. n (same page ∙ z));
+    }
+
+lies_same : (b next : Book) (i page : ℕ) → SameBounds b next → LiesIn (region b i) page → LiesIn (region next i) page
+lies_same b next i page s l =
+    let e = s.start i in
+    let f = s.end i in
+    let lo = l.low in
+    let hi = l.high in
+    record { low = omega arith; high = omega arith }
+
+-- the pages see the bounds of regions alone
+pub pages_same : (image : ImageData) (words : List ℕ) (b next : Book) → SameBounds b next → Pages image words b → Pages image words next
+pages_same image words b next s h = record {
+  entries = h.entries;
+  fixed = h.fixed;
+  shadow = λ page lo hi n. (let l = h.shadow page lo hi n in (l.0, lies_same b next l.0 page s l.1));
+}
+
+-- the tokens, where none was written
+pub gates_out : (words : List ℕ) (b : Book) (w x : ℕ) → ((k : ℕ) → k < 8 → token_word k ≢ w) → Gates words b → Gates (slice_set words w x) b
+gates_out words b w x n h k l = let other = n k l in get_or-set_other words w (token_word k) x 0 other ∙ h k l
+
+-- the tokens see the holders of supervisor stacks alone
+pub gates_same : (words : List ℕ) (b next : Book) → next.stacks ≡ b.stacks → Gates words b → Gates words next
+gates_same words b next e h k l = h k l ∙ ap (λ s. token k + busy (get_or s k None)) (sym e)
+
+-- a token becomes what the new holder asks
+pub gates_set : (words : List ℕ) (b : Book) (k x : ℕ) (o : Option ℕ) → length words ≡ 1618002 → length b.stacks ≡ 8 → k < 8 → x ≡ token k + busy o → Gates words b → Gates (slice_set words (token_word k) x) (put_stack b k o)
+gates_set words b k x o size eight l e h j lj =
+    let within : k < length b.stacks = omega arith in
+    let now = stack_of-put_stack b k j o within in
+    elim (eqb_tells j k) [
+      | inl u ↦
+          let inside : token_word k < length words = omega arith in
+          subst (λ i. slice_index (slice_set words (token_word k) x) (token_word i) ≡ token i + busy (stack_of (put_stack b k o) i)) (sym u.1)
+          (get_or-set_same words (token_word k) x 0 inside ∙ e ∙ ap (λ q. token k + busy q) (sym (get_or-set_same b.stacks k o None within)))
+      | inr u ↦
+          let n = u.1 in
+          let other : token_word j ≢ token_word k = omega arith in
+          get_or-set_other words (token_word k) (token_word j) x 0 other ∙ h j lj ∙ ap (λ q. token j + busy q) (sym (rw u.0 at now))
+    ]
+
+pub size_kept : (words : List ℕ) (w x : ℕ) → length words ≡ 1618002 → length (slice_set words w x) ≡ 1618002
+size_kept words w x e = length-set words w x ∙ e
+
+-- ---- accesses that change no book
+
+pub holds_out : (image : ImageData) (words : List ℕ) (b : Book) (w x : ℕ) → IsOut w → Holds image words b → Holds image (slice_set words w x) b
+holds_out image words b w x out h = record {
+  size = size_kept words w x h.size;
+  sound = h.sound;
+  stacks = lists_out words b w x h.sound.book.shape out.shadow h.stacks;
+  pages = pages_out image words b w x out.entry h.pages;
+  gates = gates_out words b w x out.token h.gates;
+}
+
+pages_clear : (image : ImageData) (words : List ℕ) (b : Book) (page : ℕ) → length words ≡ 1618002 → 2112 ≤ page → page < 3136 → Pages image words b → Pages image (slice_set words (entry_word page) 0) b
+pages_clear image words b page size lo hi h =
+    let inside : entry_word page < length words = omega arith in
+    let same : (p : ℕ) → p ≢ page → slice_index (slice_set words (entry_word page) 0) (entry_word p) ≡ slice_index words (entry_word p) = λ p n. (let other : entry_word p ≢ entry_word page = omega arith in get_or-set_other words (entry_word page) (entry_word p) 0 0 other) in
+    let here : slice_index (slice_set words (entry_word page) 0) (entry_word page) ≡ 0 = get_or-set_same words (entry_word page) 0 0 inside in
+    record {
+      entries = λ p. elim (eqb_tells p page) [
+        | inl u ↦ inl (subst (λ q. slice_index (slice_set words (entry_word page) 0) (entry_word q) ≡ 0) (sym u.1) here)
+        | inr u ↦ subst (IsEntry image p) (sym (same p u.1)) (h.entries p)
+      ];
+      fixed = λ p f.
+          let n : p ≢ page = elim f [ inl l ↦ omega arith | inr g ↦ (let low = g.0 in omega arith) ] in
+          same p n ∙ h.fixed p f;
+      shadow = λ p lo' hi' n. elim (eqb_tells p page) [
+        | inl u ↦ absurd (n (subst (λ q. slice_index (slice_set words (entry_word page) 0) (entry_word q) ≡ 0) (sym u.1) here))
+        | inr u ↦ h.shadow p lo' hi' (λ z. n (same p u.1 ∙ z))
+      ];
+    }
+
+-- the entry of a page of the shadow area is cleared
+pub holds_clear : (image : ImageData) (words : List ℕ) (b : Book) (page : ℕ) → 2112 ≤ page → page < 3136 → Holds image words b → Holds image (slice_set words (entry_word page) 0) b
+holds_clear image words b page lo hi h = record {
+  size = size_kept words (entry_word page) 0 h.size;
+  sound = h.sound;
+  stacks = lists_out words b (entry_word page) 0 h.sound.book.shape (inr (omega arith)) h.stacks;
+  pages = pages_clear image words b page h.size lo hi h.pages;
+  gates = gates_out words b (entry_word page) 0 (λ k l. omega arith) h.gates;
+}

@@ -1,0 +1,195 @@
+-- What a thread claims of each of its rows. Source: own.
+use Rattle.std.proofs.Common.{◌≡◌, ℕ, zero, suc, ◌+◌, ◌-◌, ◌<◌, ◌≤◌, inr, true, length, Option, Some, None, refl, subst, arith}
+use Rattle.std.specs.Prelude.{◌==◌}
+use Rattle.std.proofs.Math.Nat.{mod-lt}
+use Rattle.cet_words.specs.Bytes.{code_byte}
+use Rattle.cet_words.proofs.ByteLaws.{code_place}
+use Rattle.cet_words.specs.Job.{JobData, IsJob}
+use Rattle.cet_words.specs.Layout.{page_at}
+use Rattle.cet_isa.specs.Address.{canonical}
+use Rattle.cet_isa.specs.Reading.{Decoding, Read, Short, Unknown, decoded}
+use Rattle.cet_isa.proofs.ReadingLaws.{decoded_within}
+use Rattle.cet_isa.specs.declared.instructions.Instr.{Instr}
+use Rattle.cet_isa.specs.declared.instructions.Instr.TheVariants as instr
+use Rattle.cet_isa.specs.declared.threads.Arch.{Arch}
+use Rattle.cet_isa.specs.declared.threads.Fault.{Fault}
+use Rattle.cet_book.proofs.Addresses.{IsReturn}
+use Rattle.cet_page.specs.Script.{◌>>=◌}
+use Rattle.cet_page.specs.Fetch.{fetchable, joined, missing, missing_in}
+use Rattle.cet_page.specs.Finish.{Row, noted, above, rax, IsMade}
+use Rattle.cet_page.specs.Family.{family_of}
+use Rattle.cet_page.specs.Flow.{flow}
+use Rattle.cet_page.specs.declared.families.Family.{Family}
+use Rattle.cet_page.specs.declared.families.Family.TheVariants as families
+use Rattle.cet_page.specs.Gate.{exit_word, pend_word, handler_word, exit_status, made_page, clears, exit, exit_group, no_call, service, syscall, inside, signal_of, kill, deliver}
+use Rattle.cet_page.specs.Parts.{invalid_opcode}
+use Rattle.cet_page.specs.Row.{execute_family, fetched, instruction, instruction_bytes, boundary, row, row_from}
+use Rattle.cet_own.specs.Safe.{is_near_return, IsElsewhere, IsNearReturn}
+use Rattle.cet_own.proofs.Holds.{IsOut}
+use Rattle.cet_own.proofs.Standing.{AtRest, rest_kept, Inside, inside_kept}
+use Rattle.cet_own.proofs.Classes.{State, looks, own_stack}
+use Rattle.cet_own.proofs.Parts.{Fails, Claim, claim_bind, claim_cond, load_then, exchange_then, clears_claim}
+use Rattle.cet_own.proofs.GateParts.{gate_in_then, gate_out_then, exit_out_then}
+use Rattle.cet_own.proofs.Calls.{Ends, EndsRow, call_relative_claim, call_indirect_claim}
+use Rattle.cet_own.proofs.Returns.{ret_claim}
+use Rattle.cet_own.proofs.Steps.{push_claim, pop_claim, leave_claim, jump_indirect_claim, arithmetic_claim}
+
+-- ---- where instructions lie
+
+-- the bytes that can be fetched are code
+fetched_at : (job : JobData) (addr most n : ℕ) (o : Option ℕ) → IsJob job → code_byte job.image.segments addr ≡ o → n < length (joined o (fetchable job.image.segments (addr + 1) most)) → (n < length (fetchable job.image.segments (addr + 1) most) → (0x400000 ≤ addr + 1 + n) × (addr + 1 + n < 0x800000)) → ((m : ℕ) → n ≡ suc m → m < length (fetchable job.image.segments (addr + 1) most) → (0x400000 ≤ addr + 1 + m) × (addr + 1 + m < 0x800000)) → (0x400000 ≤ addr + n) × (addr + n < 0x800000)
+fetched_at job addr most n None j e l rest more = absurd (omega arith)
+fetched_at job addr most zero (Some b) j e l rest more = let p = code_place job.image.segments addr b j.image.each e in let lo = p.0 in let hi = p.1 in (omega arith, omega arith)
+fetched_at job addr most (suc m) (Some b) j e l rest more = let p = more m refl (omega arith) in let lo = p.0 in let hi = p.1 in (omega arith, omega arith)
+
+fetchable_place : (job : JobData) (addr most n : ℕ) → IsJob job → n < length (fetchable job.image.segments addr most) → (0x400000 ≤ addr + n) × (addr + n < 0x800000)
+unfolding fetchable
+fetchable_place job addr zero n j l = absurd (omega arith)
+fetchable_place job addr (suc most) n j l =
+    fetched_at job addr most n (code_byte job.image.segments addr) j refl l (fetchable_place job (addr + 1) most n j) (λ m e k. fetchable_place job (addr + 1) most m j k)
+
+-- the address after an instruction
+next_place : (job : JobData) (arch : Arch) (i : Instr) (len : ℕ) → IsJob job → decoded (instruction_bytes job arch) ≡ Read i len → IsReturn (above arch.rip len)
+next_place job arch i len j e =
+    let w = decoded_within (instruction_bytes job arch) i len e in
+    let least = w.0 in
+    let most = w.1 in
+    let p = fetchable_place job arch.rip 15 (len - 1) j (omega arith) in
+    let low = (fetchable_place job arch.rip 15 0 j (omega arith)).0 in
+    let high = p.1 in
+    (omega arith, omega arith)
+
+-- the number of a thread's supervisor stack
+stack_below : (job : JobData) (t : ℕ) → IsJob job → own_stack job t < 8
+stack_below job t j =
+    let low = j.procs_low in
+    let high = j.procs_high in
+    let l : own_stack job t < job.procs = mod-lt t (omega arith) in
+    omega arith
+
+-- a near return is of control flow
+returns_flow : (i : Instr) → is_near_return i ≡ true → family_of i ≡ families.Flow
+returns_flow instr.Ret r = refl
+returns_flow (instr.RetImm bytes) r = refl
+returns_flow i r = cc
+
+exit_out : IsOut 1605632
+exit_out = record { shadow = inr (omega arith); entry = omega arith; token = λ k l. omega arith }
+
+module _ (job : JobData) (j : IsJob job) (arch : Arch) where
+  -- an invalid opcode is at no return
+  elsewhere : (d : Decoding) → decoded (instruction_bytes job arch) ≡ d → (IsNearReturn d → ⊥) → IsElsewhere job arch
+  elsewhere d e n r = n (subst IsNearReturn e r.1)
+
+  no_return : (s : State) (d : Decoding) → AtRest arch.number s.book arch.ssp → decoded (instruction_bytes job arch) ≡ d → (IsNearReturn d → ⊥) → Fails job arch s invalid_opcode
+  no_return s d rest e n = (rest, λ r. absurd (elsewhere d e n r))
+
+  -- ---- kernel calls and the kill
+
+  exit_claim : (before s : State) → IsElsewhere job arch → IsMade arch.made → Inside arch.number (own_stack job arch.number) s.book arch.ssp → Claim job arch (Ends job arch) before s (exit arch (own_stack job arch.number))
+  unfolding exit
+  exit_claim before s free made inside =
+      let low = made.low in
+      let high = made.high in
+      claim_bind job arch (Ends job arch) before s (clears 8 (made_page arch)) _
+      (clears_claim job arch (own_stack job arch.number) _ before s 8 (made_page arch) (omega arith) (omega arith) inside (λ z n inside'.
+      exit_out_then job arch (stack_below job arch.number j) (Ends job arch) z n _ inside' (λ z' n' none. (none, λ held now. free))))
+
+  no_call_claim : (before s : State) (next : ℕ) → IsElsewhere job arch → Inside arch.number (own_stack job arch.number) s.book arch.ssp → Claim job arch (Ends job arch) before s (no_call arch next (own_stack job arch.number))
+  unfolding no_call
+  no_call_claim before s next free inside =
+      gate_out_then job arch (stack_below job arch.number j) (Ends job arch) before s _ inside (λ z n rest. (rest, λ held now. free))
+
+  exit_group_claim : (before s : State) (next : ℕ) → IsElsewhere job arch → Inside arch.number (own_stack job arch.number) s.book arch.ssp → Claim job arch (Ends job arch) before s (exit_group arch next (own_stack job arch.number))
+  unfolding exit_group
+  exit_group_claim before s next free within =
+      exchange_then job arch (Ends job arch) before s exit_word 0 (0x100 + exit_status arch) _ exit_out within.stacked (λ now r found.
+      gate_out_then job arch (stack_below job arch.number j) (Ends job arch) now now _ (inside_kept r within) (λ z n rest. (rest, λ held later. free)))
+
+  service_claim : (before s : State) (next : ℕ) → IsElsewhere job arch → IsMade arch.made → Inside arch.number (own_stack job arch.number) s.book arch.ssp → Claim job arch (Ends job arch) before s (service arch next (own_stack job arch.number))
+  service_claim before s next free made within =
+      claim_cond job arch (Ends job arch) before s (rax arch == 60) _ _ (λ _. exit_claim before s free made within)
+      (λ _. claim_cond job arch (Ends job arch) before s (rax arch == 231) _ _ (λ _. exit_group_claim before s next free within) (λ _. no_call_claim before s next free within))
+
+  syscall_claim : (before s : State) (next : ℕ) → IsElsewhere job arch → IsMade arch.made → AtRest arch.number s.book arch.ssp → Claim job arch (Ends job arch) before s (syscall job arch next)
+  unfolding syscall
+  syscall_claim before s next free made rest =
+      gate_in_then job arch (stack_below job arch.number j) (Ends job arch) before s (inside arch (own_stack job arch.number) (service arch next (own_stack job arch.number))) rest
+      (λ z n within. service_claim z n next free made within)
+      (λ z n found rest'. (rest', λ held now. tt))
+
+  kill_claim : (before s : State) (signal : ℕ) → Inside arch.number (own_stack job arch.number) s.book arch.ssp → Claim job arch (Ends job arch) before s (kill arch signal (own_stack job arch.number))
+  unfolding kill
+  kill_claim before s signal within =
+      load_then job arch (Ends job arch) before s (handler_word signal) _ within.stacked (λ now r v.
+      let within1 = inside_kept r within in
+      exchange_then job arch (Ends job arch) now now exit_word 0 (0x200 + signal) _ exit_out within1.stacked (λ now2 r2 found.
+      gate_out_then job arch (stack_below job arch.number j) (Ends job arch) now2 now2 _ (inside_kept r2 within1) (λ z n rest. (rest, λ held later. tt))))
+
+  deliver_claim : (before s : State) (e : Fault) → AtRest arch.number s.book arch.ssp → Claim job arch (Ends job arch) before s (deliver job arch e)
+  unfolding deliver
+  deliver_claim before s e rest =
+      gate_in_then job arch (stack_below job arch.number j) (Ends job arch) before s (inside arch (own_stack job arch.number) (kill arch (signal_of e.name) (own_stack job arch.number))) rest
+      (λ z n within. kill_claim z n (signal_of e.name) within)
+      (λ z n found rest'. (rest', λ held now. tt))
+
+  -- ---- instructions
+
+  noted_claim : (before s : State) (m : Row) → Claim job arch (EndsRow job arch) before s m → Claim job arch (Ends job arch) before s (m >>= noted)
+  noted_claim before s m h = claim_bind job arch (Ends job arch) before s m noted h
+
+  flow_claim : (before s : State) (i : Instr) (len : ℕ) → AtRest arch.number s.book arch.ssp → decoded (instruction_bytes job arch) ≡ Read i len → Claim job arch (EndsRow job arch) before s (flow arch i (above arch.rip len))
+  flow_claim before s (instr.CallRel disp) len rest e =
+      call_relative_claim job arch before s disp (above arch.rip len) rest (next_place job arch (instr.CallRel disp) len j e) (elsewhere _ e (λ x. cc))
+  flow_claim before s (instr.CallInd target notrack) len rest e =
+      call_indirect_claim job arch before s target (above arch.rip len) rest (next_place job arch (instr.CallInd target notrack) len j e) (elsewhere _ e (λ x. cc))
+  flow_claim before s instr.Ret len rest e = ret_claim job j arch before s 0 rest
+  flow_claim before s (instr.RetImm bytes) len rest e = ret_claim job j arch before s bytes rest
+  flow_claim before s (instr.Push src) len rest e = push_claim job arch (elsewhere _ e (λ x. cc)) before s src (above arch.rip len) rest
+  flow_claim before s (instr.Pop r) len rest e = pop_claim job arch (elsewhere _ e (λ x. cc)) before s r (above arch.rip len) rest
+  flow_claim before s instr.Leave len rest e = leave_claim job arch (elsewhere _ e (λ x. cc)) before s (above arch.rip len) rest
+  flow_claim before s (instr.JmpRel disp) len rest e = (rest, λ held now. elsewhere _ e (λ x. cc))
+  flow_claim before s (instr.JmpInd target notrack) len rest e = jump_indirect_claim job arch (elsewhere _ e (λ x. cc)) before s target (above arch.rip len) rest
+  flow_claim before s (instr.Jcc c disp) len rest e = (rest, λ held now. elsewhere _ e (λ x. cc))
+  flow_claim before s i len rest e = no_return s _ rest e (λ x. cc)
+
+  family_claim : (before s : State) (i : Instr) (len : ℕ) (p : Family) → family_of i ≡ p → IsMade arch.made → AtRest arch.number s.book arch.ssp → decoded (instruction_bytes job arch) ≡ Read i len → Claim job arch (Ends job arch) before s (execute_family job arch i (above arch.rip len) p)
+  family_claim before s i len families.Arithmetic f made rest e =
+      noted_claim before s _ (arithmetic_claim job arch (elsewhere _ e (λ r. let t = returns_flow i r in cc)) before s i (above arch.rip len) rest)
+  family_claim before s i len families.Flow f made rest e = noted_claim before s _ (flow_claim before s i len rest e)
+  family_claim before s i len families.SystemCall f made rest e =
+      syscall_claim before s (above arch.rip len) (elsewhere _ e (λ r. let t = returns_flow i r in cc)) made rest
+  family_claim before s i len families.Unbuilt f made rest e = no_return s _ rest e (λ r. let t = returns_flow i r in cc)
+
+  missing_claim : (before s : State) (at : Option ℕ) (addr : ℕ) → AtRest arch.number s.book arch.ssp → Claim job arch (Ends job arch) before s (missing_in at addr)
+  missing_claim before s None addr rest = (rest, λ r. tt)
+  missing_claim before s (Some page) addr rest = (rest.stacked, λ now r v known. (looks page refl refl, now, refl, (rest_kept r rest, λ q. tt)))
+
+  fetched_claim : (before s : State) (d : Decoding) → IsMade arch.made → AtRest arch.number s.book arch.ssp → decoded (instruction_bytes job arch) ≡ d → Claim job arch (Ends job arch) before s (fetched job arch (instruction_bytes job arch) d)
+  unfolding missing
+  fetched_claim before s (Read i len) made rest e = family_claim before s i len (family_of i) refl made rest e
+  fetched_claim before s Short made rest e = missing_claim before s (page_at (arch.rip + length (instruction_bytes job arch))) (arch.rip + length (instruction_bytes job arch)) rest
+  fetched_claim before s Unknown made rest e = no_return s Unknown rest e (λ x. x)
+
+  instruction_claim : (before s : State) → IsMade arch.made → AtRest arch.number s.book arch.ssp → Claim job arch (Ends job arch) before s (instruction job arch)
+  unfolding instruction
+  instruction_claim before s made rest =
+      claim_cond job arch (Ends job arch) before s (canonical arch.rip) _ _
+      (λ _. fetched_claim before s (decoded (instruction_bytes job arch)) made rest refl) (λ _. (rest, λ r. tt))
+
+  boundary_claim : (before s : State) → IsMade arch.made → AtRest arch.number s.book arch.ssp → Claim job arch (Ends job arch) before s (boundary job arch)
+  unfolding boundary
+  boundary_claim before s made rest =
+      load_then job arch (Ends job arch) before s exit_word _ rest.stacked (λ now r ending.
+      let rest1 = rest_kept r rest in
+      claim_cond job arch (Ends job arch) now now (ending == 0) _ _
+      (λ _. load_then job arch (Ends job arch) now now (pend_word arch.number) _ rest1.stacked (λ now2 r2 v. instruction_claim now2 now2 made (rest_kept r2 rest1)))
+      (λ _. rest1))
+
+  from_claim : (before s : State) (due : Option Fault) → IsMade arch.made → AtRest arch.number s.book arch.ssp → Claim job arch (Ends job arch) before s (row_from job arch due)
+  from_claim before s (Some e) made rest = deliver_claim before s e rest
+  from_claim before s None made rest = boundary_claim before s made rest
+
+  -- a thread at rest claims its whole next row
+  pub row_claim : (before s : State) → IsMade arch.made → AtRest arch.number s.book arch.ssp → Claim job arch (Ends job arch) before s (row job arch)
+  row_claim before s made rest = from_claim before s arch.due made rest

@@ -1,0 +1,56 @@
+-- Where a thread stands on its shadow stack, and that other threads leave it there. Source: own.
+use Rattle.std.proofs.Common.{◌≡◌, ◌≢◌, ℕ, ◌≤◌, length, Some, arith}
+use Rattle.cet_book.specs.Book.{Book, current_of, stack_of}
+use Rattle.cet_book.proofs.Shape.{Shape}
+use Rattle.cet_book.proofs.Relies.{Relies}
+use Rattle.cet_book.proofs.Top.{AtTop, top_relies}
+
+-- SSP is at the top of the thread's region, within the shadow area
+pub record Stacked (t : ℕ) (b : Book) (ssp : ℕ) : Type 0 where
+  pub top : AtTop t b ssp
+  pub low : 0x200001000 ≤ ssp
+  pub high : ssp ≤ 0x2003ff000
+
+-- the thread holds no supervisor stack
+abbrev pub Free : ℕ → Book → Type 0
+Free t b = (k : ℕ) → stack_of b k ≢ Some t
+
+-- so it is between instructions
+pub record AtRest (t : ℕ) (b : Book) (ssp : ℕ) : Type 0 where
+  pub stacked : Stacked t b ssp
+  pub free : Free t b
+
+-- so it is in the kernel
+pub record Inside (t k : ℕ) (b : Book) (ssp : ℕ) : Type 0 where
+  pub stacked : Stacked t b ssp
+  pub holds : stack_of b k ≡ Some t
+
+-- a thread that isn't born, or has ended by exit, has nothing
+pub record HasNone (t : ℕ) (b : Book) : Type 0 where
+  pub regions : length b.regions ≤ current_of t b
+  pub free : Free t b
+
+pub stacked : (t : ℕ) (b : Book) (ssp : ℕ) → Shape b → AtTop t b ssp → Stacked t b ssp
+stacked t b ssp s a =
+    let bounds = s.bounds (current_of t b) a.has in
+    let room = (s.fits (current_of t b)).room in
+    let at = a.at in
+    let low = bounds.low in
+    let high = bounds.high in
+    record { top = a; low = omega arith; high = omega arith }
+
+module _ {t : ℕ} {b now : Book} (r : Relies t b now) where
+  pub stacked_kept : {ssp : ℕ} → Stacked t b ssp → Stacked t now ssp
+  stacked_kept s = record { top = top_relies r s.top; low = s.low; high = s.high }
+
+  pub free_kept : Free t b → Free t now
+  free_kept f k e = f k (r.free k e)
+
+  pub rest_kept : {ssp : ℕ} → AtRest t b ssp → AtRest t now ssp
+  rest_kept a = record { stacked = stacked_kept a.stacked; free = free_kept a.free }
+
+  pub inside_kept : {k ssp : ℕ} → Inside t k b ssp → Inside t k now ssp
+  inside_kept {k = k} i = record { stacked = stacked_kept i.stacked; holds = r.held k i.holds }
+
+  pub none_kept : HasNone t b → HasNone t now
+  none_kept h = record { regions = r.none h.regions; free = free_kept h.free }

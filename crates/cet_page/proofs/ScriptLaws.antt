@@ -1,0 +1,24 @@
+-- A script after another comes to what the second comes to where the first is over. Source: own.
+use Rattle.std.proofs.Common.{zero, suc}
+use Rattle.std.specs.Prelude.{◌≡◌, ℕ, List, [], ◌∷◌, Option, Some, None, refl}
+use Rattle.cet_words.specs.declared.accesses.Access.{Access}
+use Rattle.cet_words.specs.declared.accesses.Access.TheVariants as access
+use Rattle.cet_isa.specs.declared.threads.Fault.{Fault}
+use Rattle.cet_words.specs.Change.{Change, Called, Returned, Raised, Acquired, Released, Claimed, Seeded, Born, Pushed, Popped, Ended, Busied, Freed}
+use Rattle.cet_page.specs.Script.{Script, ◌>>=◌, Came, play, done, fault, ask, tell, Over, Faulted, Wants}
+
+abbrev pub resume : {A B : Type 0} → Came A → (A → Script B) → Came B
+resume (Over x n values) f = play (f x) n values
+resume (Faulted e) f = Faulted e
+resume (Wants a) f = Wants a
+
+-- the second script goes on where the first is over
+pub play_bind : {A B : Type 0} (m : Script A) (f : A → Script B) (n : ℕ) (values : List ℕ) → play (m >>= f) n values ≡ resume (play m n values) f
+unfolding ◌>>=◌
+play_bind (done x) f n values = refl
+play_bind (fault e) f n values = refl
+play_bind (ask a changes k) f zero values = refl
+play_bind (ask a changes k) f (suc n) [] = refl
+play_bind (ask a changes k) f (suc n) (value ∷ values) = play_bind (k value) f n values
+play_bind (tell word value changes k) f zero values = refl
+play_bind (tell word value changes k) f (suc n) values = play_bind k f n values
