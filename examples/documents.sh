@@ -1,0 +1,44 @@
+#!/bin/sh
+# Assembles and runs the programs of the documents, with the program that `rt ci` has left: each block `asm` there is a
+# source, and the block `report` behind it stands in the report of its run, as it is. The first argument may name
+# another program.
+cd "$(dirname "$0")/../docs" || exit 1
+cetvm=${1:-../crates/cetvm/out/cetvm}
+if [ ! -x "$cetvm" ]; then
+    echo "examples/documents: no program at $cetvm"
+    exit 1
+fi
+work=$(mktemp -d) || exit 1
+trap 'rm -rf "$work"' EXIT
+failed=0
+count=0
+
+fail() {
+    echo "examples/documents: $1"
+    failed=1
+}
+
+for document in failed_return.md records.md; do
+    awk -v to="$work/${document%.md}" '
+        $0 == "```asm" { number++; file = to "." number ".asm"; next }
+        $0 == "```report" { file = to "." number ".report"; next }
+        /^```/ { file = ""; next }
+        file != "" { print > file }' "$document"
+done
+for source in "$work"/*.asm; do
+    name=$(basename "$source" .asm)
+    count=$((count + 1))
+    "$cetvm" asm < "$source" > "$work/image" || fail "program $name is not assembled"
+    report=$("$cetvm" run < "$work/image" 2> "$work/line")
+    if [ ! -s "$work/$name.report" ]; then
+        fail "program $name has no report in its document"
+        continue
+    fi
+    case "$report" in
+        *"$(cat "$work/$name.report")"*) ;;
+        *) fail "program $name has another report: $report" ;;
+    esac
+done
+[ "$count" -ge 10 ] || fail "only $count programs in the documents"
+[ "$failed" = 0 ] && echo "examples/documents: $count programs run as stated"
+exit "$failed"
