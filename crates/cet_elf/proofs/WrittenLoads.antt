@@ -154,8 +154,8 @@ loaded_none text static_data entry mark e small h =
     let high = h.high in
     let fits = h.fits in
     let hs = text_read s ∷ note_read 120 ∷ [] in
-    let pad : length (replicate 56 0) ≡ 56 = length-replicate {A = ℕ} 56 0 in
-    let gap : length (replicate 3832 0) ≡ 3832 = length-replicate {A = ℕ} 3832 0 in
+    let pad : length {A = ℕ} (replicate 56 0) ≡ 56 = length-replicate {A = ℕ} 56 0 in
+    let gap : length {A = ℕ} (replicate 3832 0) ≡ 3832 = length-replicate {A = ℕ} 3832 0 in
     let reads = one_file entry s mark (replicate 56 0) tail pad small
     (omega (arith, length-append (replicate 3832 0) (text ++ []), length-append text [])) (omega arith) low high h.marked in
     let text_is = seventh (file_header entry 2) (text_header s) note_header (replicate 56 0) (property_note mark) (replicate 3832 0) text [] 4096
@@ -170,7 +170,7 @@ loaded_some : (text static_data : List ℕ) (entry mark : ℕ) → eqb (length s
 loaded_some text static_data entry mark e small h =
     let s = length text in
     let d = length static_data in
-    let gap = replicate (page_up s - s) 0 in
+    let gap : List ℕ = replicate (page_up s - s) 0 in
     let tail = replicate 3832 0 ++ (text ++ (gap ++ static_data)) in
     let bytes = file_header entry 3 ++ (text_header s ++ (data_header s d ++ (note_header ++ (property_note mark ++ tail)))) in
     let up : s ≤ page_up s = omega arith in
@@ -178,7 +178,7 @@ loaded_some text static_data entry mark e small h =
     let high = h.high in
     let fits = h.fits in
     let hs = text_read s ∷ data_read (page_up s) d ∷ note_read 176 ∷ [] in
-    let pad : length (replicate 3832 0) ≡ 3832 = length-replicate {A = ℕ} 3832 0 in
+    let pad : length {A = ℕ} (replicate 3832 0) ≡ 3832 = length-replicate {A = ℕ} 3832 0 in
     let room : length gap ≡ page_up s - s = length-replicate {A = ℕ} (page_up s - s) 0 in
     let a = file_size entry 3 in
     let b = text_size s in

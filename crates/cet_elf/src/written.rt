@@ -181,7 +181,7 @@ fn text_headers(alloc: Global, text_size: u64, entry: u64) -> Result<Bytes, NoMe
     put_file_header(alloc, &mut out, entry, 2)?;
     put_text_header(alloc, &mut out, text_size)?;
     put_note_header(alloc, &mut out)?;
-    out.extend_with(alloc, 0, 56)?;
+    out.extend(alloc, &[0; 56])?;
     Ok(out)
 }
 
@@ -249,7 +249,7 @@ fn write_parts(
     let text_size = text.len() as u64;
     let mut out = headers(alloc, text_size, static_data.len() as u64, entry)?;
     put_property_note(alloc, &mut out, mark)?;
-    out.extend_with(alloc, 0, 3832)?;
+    out.extend(alloc, &[0; 3832])?;
     out.extend(alloc, text)?;
     put_data(alloc, &mut out, text_size, static_data)?;
     Ok(out)

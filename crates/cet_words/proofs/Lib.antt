@@ -1,3 +1,4 @@
+pub mod HeldLaws
 pub mod Filled
 pub mod ImageWords
 pub mod ByteLaws

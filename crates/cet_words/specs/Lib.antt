@@ -4,5 +4,6 @@ pub mod Entries
 pub mod Bytes
 pub mod Start
 pub mod Fill
+pub mod Held
 pub mod Access
 pub mod Change

@@ -7,6 +7,7 @@
 mod accesses;
 mod bytes;
 mod entries;
+mod held;
 mod images;
 mod lists;
 mod memory;
