@@ -2,6 +2,16 @@
 
 ghost use Rattle.std.specs.Prelude.{◌≡◌, ◌<◌};
 
+/// Match arms from rows of numbers and names. The last name stands for every other number.
+macro_rules! name_of {
+    ($number:expr; $($code:literal => $name:path),*; $last:path) => {
+        match $number {
+            $($code => $name,)*
+            _ => $last,
+        }
+    };
+}
+
 /// A general register, in encoding order.
 #[derive(Clone, Copy, Debug, PartialEq, Eq)]
 pub enum Reg {
@@ -24,31 +34,24 @@ pub enum Reg {
 }
 
 impl Reg {
-    ghost use Rattle.cet_isa.specs.Code.{reg_number};
+    ghost use Rattle.cet_isa.specs.Code.{reg_number, reg_at};
 
     /// The number by which an encoding names the register.
     pub fn number(self) -> u8
         ensures value { result ≡ reg_number self }
         ensures small { result < 16 }
     {
-        match self {
-            Reg::Rax => 0,
-            Reg::Rcx => 1,
-            Reg::Rdx => 2,
-            Reg::Rbx => 3,
-            Reg::Rsp => 4,
-            Reg::Rbp => 5,
-            Reg::Rsi => 6,
-            Reg::Rdi => 7,
-            Reg::R8 => 8,
-            Reg::R9 => 9,
-            Reg::R10 => 10,
-            Reg::R11 => 11,
-            Reg::R12 => 12,
-            Reg::R13 => 13,
-            Reg::R14 => 14,
-            Reg::R15 => 15,
-        }
+        self as u8
+    }
+
+    /// The register of this number.
+    pub fn of(number: u8) -> Reg
+        requires { number < 16 }
+        ensures { result ≡ reg_at number }
+    {
+        name_of!(number; 0 => Reg::Rax, 1 => Reg::Rcx, 2 => Reg::Rdx, 3 => Reg::Rbx, 4 => Reg::Rsp,
+            5 => Reg::Rbp, 6 => Reg::Rsi, 7 => Reg::Rdi, 8 => Reg::R8, 9 => Reg::R9, 10 => Reg::R10,
+            11 => Reg::R11, 12 => Reg::R12, 13 => Reg::R13, 14 => Reg::R14; Reg::R15)
     }
 }
 
@@ -71,6 +74,28 @@ pub enum Cond {
     Ge,
     Le,
     G,
+}
+
+impl Cond {
+    ghost use Rattle.cet_isa.specs.Code.{cond_number, cond_at};
+
+    /// The number by which an encoding names the condition.
+    pub fn number(self) -> u8
+        ensures value { result ≡ cond_number self }
+        ensures small { result < 16 }
+    {
+        self as u8
+    }
+
+    /// The condition of this number.
+    pub fn of(number: u8) -> Cond
+        requires { number < 16 }
+        ensures { result ≡ cond_at number }
+    {
+        name_of!(number; 0 => Cond::O, 1 => Cond::No, 2 => Cond::B, 3 => Cond::Ae, 4 => Cond::E,
+            5 => Cond::Ne, 6 => Cond::Be, 7 => Cond::A, 8 => Cond::S, 9 => Cond::Ns, 10 => Cond::P,
+            11 => Cond::Np, 12 => Cond::L, 13 => Cond::Ge, 14 => Cond::Le; Cond::G)
+    }
 }
 
 /// The operand size, of 32 or 64 bits.
@@ -117,6 +142,27 @@ pub enum AluOp {
     Sub,
     Xor,
     Cmp,
+}
+
+impl AluOp {
+    ghost use Rattle.cet_isa.specs.Code.{op_number, alu_at};
+
+    /// The number by which an encoding names the operation.
+    pub fn number(self) -> u8
+        ensures value { result ≡ op_number self }
+        ensures small { result < 8 }
+    {
+        self as u8
+    }
+
+    /// The operation of this number.
+    pub fn of(number: u8) -> AluOp
+        requires { number < 8 }
+        ensures { result ≡ alu_at number }
+    {
+        name_of!(number; 0 => AluOp::Add, 1 => AluOp::Or, 2 => AluOp::Adc, 3 => AluOp::Sbb,
+            4 => AluOp::And, 5 => AluOp::Sub, 6 => AluOp::Xor; AluOp::Cmp)
+    }
 }
 
 /// By how many places a shift goes: a number of the instruction, or CL.
