@@ -2,7 +2,7 @@
 use Rattle.std.proofs.Common.{◌≡◌, ℕ, List, [], Option, Result, Ok, Err, ap, sym, ◌∙◌, subst}
 use Rattle.cet_asm.specs.Answer.{IsAnswer}
 use Rattle.cet_asm.specs.Layout.{start}
-use Rattle.cet_asm.specs.Line.{Line}
+use Rattle.cet_syntax.specs.Line.{Line}
 use Rattle.cet_asm.specs.Program.{whole_of, lines_of, end_from, fault_from}
 use Rattle.cet_asm.specs.Passes.{place_in, places_from, twice_from, no_places, fault_by}
 use Rattle.cet_asm.specs.Places.{whole_view, IsSmall}

@@ -1,16 +1,16 @@
 -- A line that breaks no rule.
 use Rattle.std.proofs.Common.{◌≡◌, ℕ, ◌≤◌, Bool, true, false, not, Option, Some, None, refl}
-use Rattle.cet_asm.specs.Line.{Statement}
+use Rattle.cet_syntax.specs.Line.{Statement}
 use Rattle.cet_asm.specs.Layout.{is_too_long, size_of}
-use Rattle.cet_asm.specs.Program.{Whole, broken_at, or_rule, rule_unless, own_fault, directive_fault, knows_all, is_in_reach}
-use Rattle.cet_asm.specs.declared.rules.Rule.{Rule}
-use Rattle.cet_asm.specs.declared.rules.Rule.TheVariants as rules
+use Rattle.cet_asm.specs.Program.{Whole, broken_at, option_or, rule_unless, own_fault, directive_fault, knows_all, is_in_reach}
+use Rattle.cet_syntax.specs.declared.rules.Rule.{Rule}
+use Rattle.cet_syntax.specs.declared.rules.Rule.TheVariants as rules
 use Rattle.cet_asm.specs.declared.sections.Here.{Here}
 use Rattle.cet_asm.proofs.LayoutLaws.{within_size}
 
 chain : Option Rule → Bool → Bool → Bool → Option Rule → Bool → Option Rule
 chain own knows twice reach directive long =
-    or_rule own (or_rule (rule_unless knows rules.UnknownLabel) (or_rule (rule_unless (not twice) rules.DefinedBefore) (or_rule (rule_unless reach rules.OutOfReach) (or_rule directive (rule_unless (not long) rules.TooLong)))))
+    option_or own (option_or (rule_unless knows rules.UnknownLabel) (option_or (rule_unless (not twice) rules.DefinedBefore) (option_or (rule_unless reach rules.OutOfReach) (option_or directive (rule_unless (not long) rules.TooLong)))))
 
 chain_sound : (own : Option Rule) (knows twice reach : Bool) (directive : Option Rule) (long : Bool) → chain own knows twice reach directive long ≡ None → (reach ≡ true) × (long ≡ false)
 unfolding chain

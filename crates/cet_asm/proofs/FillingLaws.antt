@@ -11,7 +11,7 @@ use Rattle.cet_isa.specs.declared.instructions.Operand.TheVariants as operands
 use Rattle.cet_isa.specs.declared.instructions.Reg.{Reg}
 use Rattle.cet_isa.specs.declared.instructions.Size.{Size}
 use Rattle.cet_isa.specs.Spelled.{mem_ok, place_ok, alu_ok, test_ok, mov_ok, push_ok, has_spelling}
-use Rattle.cet_asm.specs.Instructions.{Uses}
+use Rattle.cet_syntax.specs.Instructions.{Uses}
 use Rattle.cet_asm.specs.Layout.{operand_memory, operand_immediate, with_memory, with_immediate, with_target, placed_mem, distance, filled}
 use Rattle.cet_asm.specs.Filling.{on_address, filled_at, address_for, found_in}
 use Rattle.cet_asm.specs.declared.filling.Found.{Found}

@@ -2,8 +2,8 @@
 use Rattle.std.proofs.Common.{◌≡◌, ℕ, ◌≤◌, Bool, true, false, cond, List, [], ◌∷◌, Option, Some, None, IfSome, refl, sym, subst, arith}
 use Rattle.std.specs.List.{find}
 use Rattle.std.specs.Str.{bytes_eq}
-use Rattle.cet_asm.specs.Line.{Line, Statement, Nothing, Broken, TextSection, DataSection, Mark, Zero, Values, Quads, Code}
-use Rattle.cet_asm.specs.Words.{either}
+use Rattle.cet_syntax.specs.Line.{Line, Statement, Nothing, Broken, TextSection, DataSection, Mark, Zero, Values, Quads, Code}
+use Rattle.std.specs.Option.{option_or}
 use Rattle.cet_asm.specs.Layout.{after, spot_of, start, exceeds, grown, is_too_long, size_of}
 use Rattle.cet_asm.specs.Program.{entries_of, entries_from, end_from, spot_in, place_of, whole_of}
 use Rattle.cet_asm.specs.Passes.{IsWithin}
@@ -59,15 +59,15 @@ labels_low spot (name ∷ names) q k = go (bytes_eq name q) (labels_low spot nam
     go true h = k
     go false h = h
 
-either_low : (x y : Option Spot) → Low x → Low y → Low (either x y)
-either_low None y h k = k
-either_low (Some s) y h k = h
+option_or_low : (x y : Option Spot) → Low x → Low y → Low (option_or x y)
+option_or_low None y h k = k
+option_or_low (Some s) y h k = h
 
 entries_low : (h : Here) (ls : List Line) (q : List ℕ) → IsWithin h → Low (place_of (entries_from h ls) q)
 entries_low h [] q k = tt
 entries_low h (l ∷ ls) q k =
     subst Low (sym (place_append (entries_of (spot_of h) l.labels) (entries_from (after h l.statement) ls) q))
-    (either_low (place_of (entries_of (spot_of h) l.labels) q) (place_of (entries_from (after h l.statement) ls) q)
+    (option_or_low (place_of (entries_of (spot_of h) l.labels) q) (place_of (entries_from (after h l.statement) ls) q)
     (labels_low (spot_of h) l.labels q (spot_low h k))
     (entries_low (after h l.statement) ls q (after_within h l.statement k)))
 

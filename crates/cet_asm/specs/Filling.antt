@@ -1,7 +1,7 @@
 -- Instructions with the addresses of their labels. Source: own.
 use Rattle.std.specs.Prelude.{ℕ, ◌<◌, ◌^◌, List, Option, Some, None, IfSome}
 use Rattle.cet_isa.specs.declared.instructions.Instr.{Instr}
-use Rattle.cet_asm.specs.Instructions.{Uses}
+use Rattle.cet_syntax.specs.Instructions.{Uses}
 use Rattle.cet_asm.specs.Layout.{with_memory, with_immediate, with_target, placed_mem, distance}
 use Rattle.cet_asm.specs.declared.filling.Found.{Found}
 

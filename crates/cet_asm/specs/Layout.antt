@@ -9,8 +9,8 @@ use Rattle.cet_isa.specs.declared.instructions.Instr.TheVariants as instrs
 use Rattle.cet_isa.specs.declared.instructions.Mem.{Mem}
 use Rattle.cet_isa.specs.declared.instructions.Operand.{Operand}
 use Rattle.cet_isa.specs.declared.instructions.Operand.TheVariants as operands
-use Rattle.cet_asm.specs.Instructions.{Uses}
-use Rattle.cet_asm.specs.Line.{Statement, TextSection, DataSection, Zero, Values, Quads, Code}
+use Rattle.cet_syntax.specs.Instructions.{Uses}
+use Rattle.cet_syntax.specs.Line.{Statement, TextSection, DataSection, Zero, Values, Quads, Code}
 use Rattle.cet_asm.specs.declared.sections.Section.{Section}
 use Rattle.cet_asm.specs.declared.sections.Section.TheVariants as sections
 use Rattle.cet_asm.specs.declared.sections.Here.{Here}

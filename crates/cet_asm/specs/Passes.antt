@@ -5,10 +5,10 @@ use Rattle.std.specs.BTreeMap.{BTreeMap, get_by}
 use Rattle.std.specs.Cmp.Lexicographic.{slice_cmp}
 use Rattle.std.specs.Ordering.{nat_cmp}
 use Rattle.std.specs.Str.{bytes_eq}
-use Rattle.cet_asm.specs.Words.{either}
-use Rattle.cet_asm.specs.Line.{Line}
+use Rattle.std.specs.Option.{option_or}
+use Rattle.cet_syntax.specs.Line.{Line}
 use Rattle.cet_asm.specs.Layout.{after, spot_of}
-use Rattle.cet_asm.specs.Program.{Whole, Fault, fault_at, or_next, broken_at}
+use Rattle.cet_asm.specs.Program.{Whole, Fault, fault_at, broken_at}
 use Rattle.cet_asm.specs.declared.sections.Here.{Here}
 use Rattle.cet_asm.specs.declared.sections.Spot.{Spot}
 
@@ -21,7 +21,7 @@ only_at spot t = if t then Some spot else None
 
 -- with a label at this place where it has none yet
 abbrev pub with_label : (List ℕ → Option Spot) → Spot → List ℕ → List ℕ → Option Spot
-with_label places spot name q = either (places q) (only_at spot (bytes_eq name q))
+with_label places spot name q = option_or (places q) (only_at spot (bytes_eq name q))
 
 -- with all of these
 abbrev pub with_labels : (List ℕ → Option Spot) → Spot → List (List ℕ) → List ℕ → Option Spot
@@ -63,4 +63,4 @@ is_number number (Some n) = n == number
 abbrev pub fault_by : Whole → Option ℕ → ℕ → Here → List Line → Option Fault
 fault_by w twice number h [] = None
 fault_by w twice number h (l ∷ ls) =
-    or_next (fault_at number (broken_at w (is_number number twice) h l.statement)) (fault_by w twice (number + 1) (after h l.statement) ls)
+    option_or (fault_at number (broken_at w (is_number number twice) h l.statement)) (fault_by w twice (number + 1) (after h l.statement) ls)

@@ -3,17 +3,18 @@ use Rattle.std.specs.Prelude.{◌≡◌, ℕ, ℤ, ◌+◌, Bool, true, false, n
 use Rattle.std.specs.List.{find, list_all, list_any, flat_map, slice_split}
 use Rattle.std.specs.List.{repeat}
 use Rattle.std.specs.Int.{w64, to_le_bytes}
+use Rattle.std.specs.Option.{option_or}
 use Rattle.std.specs.Str.{bytes_eq}
 use Rattle.cet_isa.specs.Canonical.{canonical_spelling, fits_byte, one_byte}
 use Rattle.cet_isa.specs.Code.{cond_number}
 use Rattle.cet_isa.specs.declared.instructions.Instr.{Instr}
 use Rattle.cet_isa.specs.declared.instructions.Instr.TheVariants as instrs
-use Rattle.cet_asm.specs.Instructions.{Uses}
-use Rattle.cet_asm.specs.Line.{Item, Known, Named, Statement, Broken, Mark, Zero, Values, Quads, Code, Line, line_of}
+use Rattle.cet_syntax.specs.Instructions.{Uses}
+use Rattle.cet_syntax.specs.Line.{Item, Known, Named, Statement, Broken, Mark, Zero, Values, Quads, Code, Line, line_of}
 use Rattle.cet_asm.specs.Layout.{filled, text_start, size_of, is_too_long, after, spot_of, start, address_of, distance}
 use Rattle.cet_asm.specs.declared.program.Program.{Program}
-use Rattle.cet_asm.specs.declared.rules.Rule.{Rule}
-use Rattle.cet_asm.specs.declared.rules.Rule.TheVariants as rules
+use Rattle.cet_syntax.specs.declared.rules.Rule.{Rule}
+use Rattle.cet_syntax.specs.declared.rules.Rule.TheVariants as rules
 use Rattle.cet_asm.specs.declared.sections.Section.{Section}
 use Rattle.cet_asm.specs.declared.sections.Section.TheVariants as sections
 use Rattle.cet_asm.specs.declared.sections.Here.{Here}
@@ -131,10 +132,6 @@ abbrev pub directive_fault : Statement → Option Rule
 directive_fault (Broken rules.Directive) = Some rules.Directive
 directive_fault s = None
 
-abbrev pub or_rule : Option Rule → Option Rule → Option Rule
-or_rule None o = o
-or_rule (Some r) o = Some r
-
 abbrev pub rule_unless : Bool → Rule → Option Rule
 rule_unless true rule = None
 rule_unless false rule = Some rule
@@ -142,11 +139,11 @@ rule_unless false rule = Some rule
 -- the first rule that a line breaks which stands here, by whether one of its labels is defined before
 unfoldable pub broken_at : Whole → Bool → Here → Statement → Option Rule
 broken_at w twice h s =
-    or_rule (own_fault s)
-    (or_rule (rule_unless (knows_all w s) rules.UnknownLabel)
-    (or_rule (rule_unless (not twice) rules.DefinedBefore)
-    (or_rule (rule_unless (is_in_reach w h s) rules.OutOfReach)
-    (or_rule (directive_fault s)
+    option_or (own_fault s)
+    (option_or (rule_unless (knows_all w s) rules.UnknownLabel)
+    (option_or (rule_unless (not twice) rules.DefinedBefore)
+    (option_or (rule_unless (is_in_reach w h s) rules.OutOfReach)
+    (option_or (directive_fault s)
     (rule_unless (not (is_too_long h s)) rules.TooLong)))))
 
 -- the first rule that a line breaks, which stands here below these labels
@@ -162,15 +159,11 @@ abbrev pub fault_at : ℕ → Option Rule → Option Fault
 fault_at number None = None
 fault_at number (Some rule) = Some (record { line = number; rule = rule_number rule })
 
-abbrev pub or_next : Option Fault → Option Fault → Option Fault
-or_next None o = o
-or_next (Some f) o = Some f
-
 -- the first faulty line of these, which begin by this number, below these labels, and here
 abbrev pub fault_from : Whole → ℕ → List (List ℕ) → Here → List Line → Option Fault
 fault_from w number above h [] = None
 fault_from w number above h (l ∷ ls) =
-    or_next (fault_at number (broken_by w above h l)) (fault_from w (number + 1) (above ++ l.labels) (after h l.statement) ls)
+    option_or (fault_at number (broken_by w above h l)) (fault_from w (number + 1) (above ++ l.labels) (after h l.statement) ls)
 
 -- ---- bytes
 

@@ -1,6 +1,6 @@
 -- What the second pass answers. Source: own.
 use Rattle.std.specs.Prelude.{◌≡◌, ℕ, Bool, List, Option, Some, None, Result, Ok, Err, codes}
-use Rattle.cet_asm.specs.Line.{Line, Statement}
+use Rattle.cet_syntax.specs.Line.{Line, Statement}
 use Rattle.cet_asm.specs.Layout.{start, after}
 use Rattle.cet_asm.specs.Program.{Whole, fault_at, broken_at, section_from, environment, mark_from}
 use Rattle.cet_asm.specs.Passes.{fault_by, IsWithin}

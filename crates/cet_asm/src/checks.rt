@@ -4,16 +4,15 @@ ghost use Rattle.std.specs.Prelude.{◌≡◌};
 ghost use Rattle.cet_isa.specs.Canonical.{fits_byte};
 ghost use Rattle.cet_asm.specs.Layout.{size_of};
 ghost use Rattle.cet_asm.specs.Program.{knows_all, short_distance, is_in_reach, own_fault, directive_fault, broken_at, rule_number};
-ghost use Rattle.cet_asm.specs.Views.{statement_view};
+ghost use Rattle.cet_syntax.specs.Views.{statement_view};
 ghost use Rattle.cet_asm.specs.Passes.{IsWithin};
 ghost use Rattle.cet_asm.specs.Places.{whole_view, IsSmall};
 
 use crate::filling::distance;
 use crate::labels::{Labels, environment, knows_items, knows_uses};
 use crate::layout::{address_of, is_too_long, spot_of};
-use crate::rules::Rule;
 use crate::sections::Here;
-use crate::statements::Statement;
+use cet_syntax::{Rule, Statement};
 
 #[tactic(auto, unfolding(crate::specs::Program::knows_all))]
 fn knows_all<'a>(labels: &Labels<'a>, statement: Statement<'a>) -> bool

@@ -5,25 +5,22 @@ ghost use Rattle.std.specs.Int.{w64, to_le_bytes};
 ghost use Rattle.std.specs.List.{flat_map, repeat};
 ghost use Rattle.cet_isa.specs.Canonical.{fits_byte, one_byte};
 ghost use Rattle.cet_isa.specs.Spelled.{has_spelling};
-ghost use Rattle.cet_asm.specs.Tokens.{tokens};
-ghost use Rattle.cet_asm.specs.Line.{Code, bytes_in, quads_in};
+ghost use Rattle.cet_syntax.specs.Tokens.{tokens};
+ghost use Rattle.cet_syntax.specs.Line.{Code, bytes_in, quads_in};
 ghost use Rattle.cet_asm.specs.Layout.{size_of};
 ghost use Rattle.cet_asm.specs.Program.{item_bytes, short_opcode, short_distance, is_in_reach, code_bytes, bytes_of};
-ghost use Rattle.cet_asm.specs.Views.{uses_view, statement_view, item_view, IsSpelledStatement};
+ghost use Rattle.cet_syntax.specs.Views.{uses_view, statement_view, item_view, IsSpelledStatement};
 ghost use Rattle.cet_asm.specs.Passes.{IsWithin};
 ghost use Rattle.cet_asm.specs.Places.{whole_view, IsSmall};
 
 use crate::checks::short_distance;
 use crate::filling::filled;
-use crate::instructions::Uses;
 use crate::labels::{Labels, environment, found_in};
 use crate::layout::{address_of, spot_of};
-use crate::lists::{next_byte, next_quad};
-use crate::places::Item;
 use crate::sections::Here;
 use crate::sizes::spell;
-use crate::statements::Statement;
 use cet_isa::Instr;
+use cet_syntax::{Item, Statement, Uses, next_byte, next_quad};
 use cet_words::{Bytes, NoMemory};
 use std::alloc::Global;
 
@@ -78,7 +75,7 @@ fn short_opcode(instr: Instr) -> u8
     ensures { result ≡ short_opcode instr }
 {
     match instr {
-        Instr::Jcc { cond, .. } => 0x70 + cond as u8,
+        Instr::Jcc { cond, .. } => 0x70 + cond.number(),
         _ => 0xeb,
     }
 }

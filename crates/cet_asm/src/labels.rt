@@ -2,21 +2,18 @@
 
 ghost use Rattle.std.specs.Prelude.{◌≡◌, ◌<◌, ◌^◌, OnOk, IfOk, IfSome, is_some};
 ghost use Rattle.std.specs.List.{list_all};
-ghost use Rattle.cet_asm.specs.Tokens.{tokens};
-ghost use Rattle.cet_asm.specs.Line.{labels_of, quads_in};
+ghost use Rattle.cet_syntax.specs.Tokens.{tokens};
+ghost use Rattle.cet_syntax.specs.Line.{labels_of, quads_in};
 ghost use Rattle.cet_asm.specs.Program.{label_address, environment, knows, knows_item, knows_uses};
-ghost use Rattle.cet_asm.specs.Views.{name_view, uses_view, item_view};
+ghost use Rattle.cet_syntax.specs.Views.{name_view, uses_view, item_view};
 ghost use Rattle.cet_asm.specs.Filling.{address_for, found_in, AreSmall};
 ghost use Rattle.cet_asm.specs.Passes.{place_in, with_label, with_labels, has_one};
 ghost use Rattle.cet_asm.specs.Places.{whole_view, IsSmall};
 
 use crate::filling::Found;
-use crate::instructions::Uses;
 use crate::layout::{TEXT_START, address_of};
-use crate::lines::next_label;
-use crate::lists::next_quad;
-use crate::places::Item;
 use crate::sections::Spot;
+use cet_syntax::{Item, Uses, next_label, next_quad};
 use cet_words::NoMemory;
 use std::alloc::Global;
 use std::collections::BTreeMap;

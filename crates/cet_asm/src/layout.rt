@@ -2,11 +2,11 @@
 
 ghost use Rattle.std.specs.Prelude.{◌≡◌, ◌<◌, ◌≤◌, ◌^◌, if◌then◌else◌};
 ghost use Rattle.cet_asm.specs.Layout.{round_up, grown, exceeds, after, spot_of, start, address_of, size_of};
-ghost use Rattle.cet_asm.specs.Views.{statement_view};
+ghost use Rattle.cet_syntax.specs.Views.{statement_view};
 ghost use Rattle.cet_asm.specs.Passes.{IsWithin};
 
 use crate::sections::{Here, Section, Spot};
-use crate::statements::Statement;
+use cet_syntax::Statement;
 
 /// Where the text starts.
 pub(crate) const TEXT_START: u64 = 0x401000;

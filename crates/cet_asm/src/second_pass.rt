@@ -3,7 +3,7 @@
 ghost use Rattle.std.specs.Prelude.{◌≡◌, ◌<◌, ◌≤◌, ◌-◌, ◌^◌, ◌++◌, length, OnOk, true};
 ghost use Rattle.cet_asm.specs.Layout.{size_of};
 ghost use Rattle.cet_asm.specs.Program.{lines_of, bytes_of, in_section, is_in_reach, mark_after};
-ghost use Rattle.cet_asm.specs.Views.{statement_view, IsSpelledStatement};
+ghost use Rattle.cet_syntax.specs.Views.{statement_view, IsSpelledStatement};
 ghost use Rattle.cet_asm.specs.Passes.{is_number, IsWithin};
 ghost use Rattle.cet_asm.specs.Places.{whole_view, IsSmall};
 ghost use Rattle.cet_asm.specs.Second.{IsSecond, IsLineAnswer};
@@ -13,12 +13,10 @@ use crate::checks::{broken_at, rule_number};
 use crate::emission::put_statement;
 use crate::labels::{Labels, environment};
 use crate::layout::{after, start};
-use crate::lines::read_line;
 use crate::program::{AsmFault, Program};
 use crate::sections::{Here, Section};
 use crate::sizes::size_of;
-use crate::splitting::first_line;
-use crate::statements::Statement;
+use cet_syntax::{Statement, first_line, read_line};
 use cet_words::{Bytes, NoMemory};
 use std::alloc::Global;
 

@@ -3,19 +3,17 @@
 ghost use Rattle.std.specs.Prelude.{◌≡◌, ◌≤◌, ◌++◌, true, length, IfOk, OnOk};
 ghost use Rattle.cet_isa.specs.Canonical.{canonical_spelling};
 ghost use Rattle.cet_isa.specs.Spelled.{has_spelling, InstrFits};
-ghost use Rattle.cet_asm.specs.Tokens.{tokens};
-ghost use Rattle.cet_asm.specs.Line.{bytes_in, quads_in};
+ghost use Rattle.cet_syntax.specs.Tokens.{tokens};
+ghost use Rattle.cet_syntax.specs.Line.{bytes_in, quads_in};
 ghost use Rattle.cet_asm.specs.Layout.{code_size, size_of, text_start};
-ghost use Rattle.cet_asm.specs.Views.{name_view, uses_view, statement_view, IsSpelledStatement};
+ghost use Rattle.cet_syntax.specs.Views.{name_view, uses_view, statement_view, IsSpelledStatement};
 ghost use Rattle.cet_asm.specs.Filling.{address_for, found_in, AreSmall};
 
 use crate::filling::{Found, filled};
-use crate::instructions::Uses;
 use crate::layout::TEXT_START;
-use crate::lists::{next_byte, next_quad};
-use crate::statements::Statement;
 use cet_encode::encode;
 use cet_isa::Instr;
+use cet_syntax::{Statement, Uses, next_byte, next_quad};
 use cet_words::{Bytes, NoMemory};
 use std::alloc::Global;
 
@@ -76,7 +74,7 @@ fn code_size(alloc: Global, instr: Instr, uses: Uses) -> Result<usize, NoMemory>
     }
 }
 
-#[tactic(auto, using(crate::proofs::SizeLaws::size_laws))]
+#[tactic(auto, using(cet_syntax::proofs::SizeLaws::size_laws))]
 fn count_values(text: &[u8]) -> usize
     ensures { result ≡ length (bytes_in (tokens text.now)) }
 {
@@ -89,7 +87,7 @@ fn count_values(text: &[u8]) -> usize
     count
 }
 
-#[tactic(auto, using(crate::proofs::SizeLaws::size_laws))]
+#[tactic(auto, using(cet_syntax::proofs::SizeLaws::size_laws))]
 fn count_quads(text: &[u8]) -> usize
     ensures { result ≡ length (quads_in (tokens text.now)) }
 {

@@ -28,7 +28,7 @@ pub(crate) fn low(reg: Reg) -> u8
     ensures value { result ≡ low reg }
     ensures small { result < 8 }
 {
-    reg as u8 % 8
+    reg.number() % 8
 }
 
 /// The bit of a register that REX has.
@@ -36,7 +36,7 @@ pub(crate) fn high(reg: Reg) -> u8
     ensures value { result ≡ high reg }
     ensures small { result < 2 }
 {
-    reg as u8 / 8
+    reg.number() / 8
 }
 
 pub(crate) fn fits_byte(value: i32) -> bool

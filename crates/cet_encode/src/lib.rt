@@ -4,7 +4,6 @@
 mod bytes;
 mod coding;
 mod encoder;
-mod names;
 mod operands;
 mod spelling;
 mod syntax;

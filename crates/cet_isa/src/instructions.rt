@@ -2,16 +2,6 @@
 
 ghost use Rattle.std.specs.Prelude.{◌≡◌, ◌<◌};
 
-/// Match arms from rows of numbers and names. The last name stands for every other number.
-macro_rules! name_of {
-    ($number:expr; $($code:literal => $name:path),*; $last:path) => {
-        match $number {
-            $($code => $name,)*
-            _ => $last,
-        }
-    };
-}
-
 /// A general register, in encoding order.
 #[derive(Clone, Copy, Debug, PartialEq, Eq)]
 pub enum Reg {
@@ -36,6 +26,26 @@ pub enum Reg {
 impl Reg {
     ghost use Rattle.cet_isa.specs.Code.{reg_number, reg_at};
 
+    /// All registers by their numbers.
+    pub(crate) const ALL: [Reg; 16] = [
+        Reg::Rax,
+        Reg::Rcx,
+        Reg::Rdx,
+        Reg::Rbx,
+        Reg::Rsp,
+        Reg::Rbp,
+        Reg::Rsi,
+        Reg::Rdi,
+        Reg::R8,
+        Reg::R9,
+        Reg::R10,
+        Reg::R11,
+        Reg::R12,
+        Reg::R13,
+        Reg::R14,
+        Reg::R15,
+    ];
+
     /// The number by which an encoding names the register.
     pub fn number(self) -> u8
         ensures value { result ≡ reg_number self }
@@ -49,9 +59,7 @@ impl Reg {
         requires { number < 16 }
         ensures { result ≡ reg_at number }
     {
-        name_of!(number; 0 => Reg::Rax, 1 => Reg::Rcx, 2 => Reg::Rdx, 3 => Reg::Rbx, 4 => Reg::Rsp,
-            5 => Reg::Rbp, 6 => Reg::Rsi, 7 => Reg::Rdi, 8 => Reg::R8, 9 => Reg::R9, 10 => Reg::R10,
-            11 => Reg::R11, 12 => Reg::R12, 13 => Reg::R13, 14 => Reg::R14; Reg::R15)
+        Reg::ALL[number as usize]
     }
 }
 
@@ -79,6 +87,26 @@ pub enum Cond {
 impl Cond {
     ghost use Rattle.cet_isa.specs.Code.{cond_number, cond_at};
 
+    /// All conditions by their numbers.
+    pub(crate) const ALL: [Cond; 16] = [
+        Cond::O,
+        Cond::No,
+        Cond::B,
+        Cond::Ae,
+        Cond::E,
+        Cond::Ne,
+        Cond::Be,
+        Cond::A,
+        Cond::S,
+        Cond::Ns,
+        Cond::P,
+        Cond::Np,
+        Cond::L,
+        Cond::Ge,
+        Cond::Le,
+        Cond::G,
+    ];
+
     /// The number by which an encoding names the condition.
     pub fn number(self) -> u8
         ensures value { result ≡ cond_number self }
@@ -92,9 +120,7 @@ impl Cond {
         requires { number < 16 }
         ensures { result ≡ cond_at number }
     {
-        name_of!(number; 0 => Cond::O, 1 => Cond::No, 2 => Cond::B, 3 => Cond::Ae, 4 => Cond::E,
-            5 => Cond::Ne, 6 => Cond::Be, 7 => Cond::A, 8 => Cond::S, 9 => Cond::Ns, 10 => Cond::P,
-            11 => Cond::Np, 12 => Cond::L, 13 => Cond::Ge, 14 => Cond::Le; Cond::G)
+        Cond::ALL[number as usize]
     }
 }
 
@@ -147,6 +173,18 @@ pub enum AluOp {
 impl AluOp {
     ghost use Rattle.cet_isa.specs.Code.{op_number, alu_at};
 
+    /// All operations by their numbers.
+    pub(crate) const ALL: [AluOp; 8] = [
+        AluOp::Add,
+        AluOp::Or,
+        AluOp::Adc,
+        AluOp::Sbb,
+        AluOp::And,
+        AluOp::Sub,
+        AluOp::Xor,
+        AluOp::Cmp,
+    ];
+
     /// The number by which an encoding names the operation.
     pub fn number(self) -> u8
         ensures value { result ≡ op_number self }
@@ -160,8 +198,7 @@ impl AluOp {
         requires { number < 8 }
         ensures { result ≡ alu_at number }
     {
-        name_of!(number; 0 => AluOp::Add, 1 => AluOp::Or, 2 => AluOp::Adc, 3 => AluOp::Sbb,
-            4 => AluOp::And, 5 => AluOp::Sub, 6 => AluOp::Xor; AluOp::Cmp)
+        AluOp::ALL[number as usize]
     }
 }
 

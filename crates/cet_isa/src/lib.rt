@@ -4,6 +4,7 @@
 mod addresses;
 mod bits;
 mod instructions;
+mod names;
 mod spelled;
 #[cfg(test)]
 mod tests;

@@ -1,7 +1,7 @@
 use Rattle.std.proofs.Common.{◌≡◌, ◌++◌, length}
 use Rattle.std.specs.List.{flat_map}
-use Rattle.cet_asm.specs.Tokens.{tokens}
-use Rattle.cet_asm.specs.Line.{quads_in}
+use Rattle.cet_syntax.specs.Tokens.{tokens}
+use Rattle.cet_syntax.specs.Line.{quads_in}
 use Rattle.cet_asm.specs.Program.{item_bytes}
 use Rattle.cet_asm.specs.Places.{whole_view}
 use Rattle.cet_asm.proofs.emission.put_quads.Given as goal

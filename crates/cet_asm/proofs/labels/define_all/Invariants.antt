@@ -1,5 +1,5 @@
 use Rattle.std.proofs.Common.{◌≡◌, ◌||◌, length}
-use Rattle.cet_asm.specs.Line.{labels_of}
+use Rattle.cet_syntax.specs.Line.{labels_of}
 use Rattle.cet_asm.specs.Passes.{place_in, with_labels, has_one}
 use Rattle.cet_asm.proofs.labels.define_all.Given as goal
 

@@ -1,7 +1,7 @@
 use Rattle.std.proofs.Common.{◌≡◌, length}
 use Rattle.std.specs.List.{list_all}
-use Rattle.cet_asm.specs.Tokens.{tokens}
-use Rattle.cet_asm.specs.Line.{quads_in}
+use Rattle.cet_syntax.specs.Tokens.{tokens}
+use Rattle.cet_syntax.specs.Line.{quads_in}
 use Rattle.cet_asm.specs.Program.{knows_item}
 use Rattle.cet_asm.specs.Places.{whole_view}
 use Rattle.cet_asm.proofs.labels.knows_items.Given as goal

@@ -2,8 +2,8 @@ use Rattle.std.proofs.Common.{◌≡◌, ◌+◌, ◌++◌, ◌==◌, length}
 use Rattle.std.specs.List.{slice_split}
 use Rattle.cet_asm.specs.Layout.{start}
 use Rattle.cet_asm.specs.Program.{lines_of, section_from, mark_from}
-use Rattle.cet_asm.specs.Parts.{parts_left}
-use Rattle.cet_asm.proofs.PartsLeft.{lines_left}
+use Rattle.cet_syntax.specs.Parts.{parts_left}
+use Rattle.cet_syntax.proofs.PartsLeft.{lines_left}
 use Rattle.cet_asm.specs.Passes.{fault_by, IsWithin}
 use Rattle.cet_asm.specs.Places.{whole_view}
 use Rattle.cet_asm.specs.declared.sections.Section.TheVariants.{Text, Data}
