@@ -1,13 +1,11 @@
+//! Lines and what they state.
+
 use crate::instructions::Uses;
 use crate::lines::{next_label, read_line};
 use crate::lists::{next_byte, next_quad};
 use crate::places::Item;
 use crate::rules::Rule;
 use crate::statements::Statement;
-use cet_encode::encode;
-use cet_isa::is_spelled;
-use cet_words::{Bytes, NoMemory};
-use std::alloc::Global;
 
 fn broken(line: &[u8]) -> Option<Rule> {
     match read_line(line).statement {
@@ -112,64 +110,6 @@ fn first_rule_of_a_line_by_itself(rt: HostRuntime) {
     for (line, rule) in rows {
         assert_eq!(rt; broken(line), Some(rule));
     }
-}
-
-/// The bytes of a line's instruction, none for a line that has none.
-fn spelled(alloc: Global, line: &[u8]) -> Result<Bytes, NoMemory> {
-    let mut bytes = Bytes::new(alloc);
-    if let Statement::Code(instr, _) = read_line(line).statement {
-        if is_spelled(&instr) {
-            encode(alloc, &instr, &mut bytes)?;
-        }
-    }
-    Ok(bytes)
-}
-
-#[test]
-fn instructions_of_lines(rt: HostRuntime) -> Result<(), NoMemory> {
-    let alloc = rt.alloc();
-    let rows: [(&[u8], &[u8]); 24] = [
-        (b"add eax, 5", &[0x83, 0xc0, 0x05]),
-        (b"add eax, 0xffffffff", &[0x83, 0xc0, 0xff]),
-        (b"mov rax, 5", &[0x48, 0xc7, 0xc0, 5, 0, 0, 0]),
-        (
-            b"mov rcx, 0x200008ff8",
-            &[0x48, 0xb9, 0xf8, 0x8f, 0, 0, 2, 0, 0, 0],
-        ),
-        (b"mov rax, -1", &[0x48, 0xc7, 0xc0, 0xff, 0xff, 0xff, 0xff]),
-        (
-            b"movabs rax, -1",
-            &[0x48, 0xb8, 0xff, 0xff, 0xff, 0xff, 0xff, 0xff, 0xff, 0xff],
-        ),
-        (b"\tmov\tedi ,\t7 # seven", &[0xbf, 7, 0, 0, 0]),
-        (
-            b"rstorssp [rbx+4088]",
-            &[0xf3, 0x0f, 0x01, 0xab, 0xf8, 0x0f, 0, 0],
-        ),
-        (b"push 1000", &[0x68, 0xe8, 3, 0, 0]),
-        (b"a: b:syscall", &[0x0f, 0x05]),
-        (
-            b"cmp dword [ rbx + rax * 4 - 5 ], -5",
-            &[0x83, 0x7c, 0x83, 0xfb, 0xfb],
-        ),
-        (b"mov rax, [rbx--5]", &[0x48, 0x8b, 0x43, 0x05]),
-        (b"mov rax, [5+rcx*1+rbx]", &[0x48, 0x8b, 0x44, 0x0b, 0x05]),
-        (b"lea eax, [rbx+rcx]", &[0x8d, 0x04, 0x0b]),
-        (b"mov rax, [rip]", &[0x48, 0x8b, 0x05, 0, 0, 0, 0]),
-        (b"test [rbx], rdx", &[0x48, 0x85, 0x13]),
-        (b"movzx eax, byte [rbx]", &[0x0f, 0xb6, 0x03]),
-        (b"movsxd rax, ebx", &[0x48, 0x63, 0xc3]),
-        (b"cmovb rcx, rdx", &[0x48, 0x0f, 0x42, 0xca]),
-        (b"shl rax, cl", &[0x48, 0xd3, 0xe0]),
-        (b"ret 65535", &[0xc2, 0xff, 0xff]),
-        (b"jmp rel -5", &[0xe9, 0xfb, 0xff, 0xff, 0xff]),
-        (b"notrack  jmp [rbx]", &[0x3e, 0xff, 0x23]),
-        (b"lock xadd [rdi], rax", &[0xf0, 0x48, 0x0f, 0xc1, 0x07]),
-    ];
-    for (line, want) in rows {
-        assert_eq!(rt; spelled(alloc, line)?.as_slice(), want);
-    }
-    Ok(())
 }
 
 fn uses(line: &[u8]) -> [Option<&[u8]>; 4] {
