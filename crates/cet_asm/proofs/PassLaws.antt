@@ -9,7 +9,7 @@ use Rattle.std.specs.Str.{bytes_eq}
 use Rattle.cet_syntax.specs.Line.{Line, Statement}
 use Rattle.std.specs.Option.{option_or}
 use Rattle.cet_asm.specs.Layout.{after, spot_of, start, is_too_long}
-use Rattle.cet_asm.specs.Program.{Entry, entries_of, entries_from, spot_in, place_of, Whole, is_twice, broken_at, Fault, fault_at, option_or, fault_from, option_or, rule_unless, own_fault, directive_fault, knows_all, is_in_reach}
+use Rattle.cet_asm.specs.Program.{Entry, entries_of, entries_from, spot_in, place_of, Whole, is_twice, broken_at, Fault, fault_at, fault_from, rule_unless, own_fault, directive_fault, knows_all, is_in_reach}
 use Rattle.cet_asm.specs.Passes.{only_at, with_label, with_labels, has_one, places_from, twice_from, no_places, is_number, fault_by}
 use Rattle.cet_syntax.specs.declared.rules.Rule.{Rule}
 use Rattle.cet_syntax.specs.declared.rules.Rule.TheVariants as rules

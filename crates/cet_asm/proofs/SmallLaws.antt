@@ -4,7 +4,7 @@ use Rattle.std.specs.List.{find}
 use Rattle.std.specs.Str.{bytes_eq}
 use Rattle.cet_syntax.specs.Line.{Line, Statement, Nothing, Broken, TextSection, DataSection, Mark, Zero, Values, Quads, Code}
 use Rattle.std.specs.Option.{option_or}
-use Rattle.cet_asm.specs.Layout.{after, spot_of, start, exceeds, grown, is_too_long, size_of}
+use Rattle.cet_asm.specs.Layout.{after, spot_of, start, exceeds, grown, is_too_long, size_of, program_limit}
 use Rattle.cet_asm.specs.Program.{entries_of, entries_from, end_from, spot_in, place_of, whole_of}
 use Rattle.cet_asm.specs.Passes.{IsWithin}
 use Rattle.cet_asm.specs.Places.{IsSmall}
@@ -42,16 +42,16 @@ end_within h [] k = k
 end_within h (l ∷ ls) k = end_within (after h l.statement) ls (after_within h l.statement k)
 
 abbrev Low : Option Spot → Type 0
-Low o = IfSome o (λ spot. spot.offset ≤ 4190208)
+Low o = IfSome o (λ spot. spot.offset ≤ program_limit)
 
-spot_low : (h : Here) → IsWithin h → (spot_of h).offset ≤ 4190208
+spot_low : (h : Here) → IsWithin h → (spot_of h).offset ≤ program_limit
 spot_low h k = go h.section
   where
-    go : (s : Section) → (spot_of (record h { section = s })).offset ≤ 4190208
+    go : (s : Section) → (spot_of (record h { section = s })).offset ≤ program_limit
     go sections.Text = k.0
     go sections.Data = k.1
 
-labels_low : (spot : Spot) (names : List (List ℕ)) (q : List ℕ) → spot.offset ≤ 4190208 → Low (place_of (entries_of spot names) q)
+labels_low : (spot : Spot) (names : List (List ℕ)) (q : List ℕ) → spot.offset ≤ program_limit → Low (place_of (entries_of spot names) q)
 labels_low spot [] q k = tt
 labels_low spot (name ∷ names) q k = go (bytes_eq name q) (labels_low spot names q k)
   where

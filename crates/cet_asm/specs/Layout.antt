@@ -111,6 +111,10 @@ size_of (Quads items) = 8 * length items
 size_of (Code i u) = code_size i u
 size_of s = 0
 
+-- the most bytes that the text, rounded up to whole pages, and the data may have: they end at 0x800000
+abbrev pub program_limit : ℕ
+program_limit = 4190208
+
 -- up to whole pages
 abbrev pub round_up : ℕ → ℕ
 round_up n = (n + 4095) / 4096 * 4096
@@ -126,7 +130,7 @@ grown h n = go h.section
 
 -- whether text, rounded up to whole pages, and data exceed what a program may have
 abbrev pub exceeds : Here → Bool
-exceeds h = not (nat_le (round_up h.text + h.static_data) 4190208)
+exceeds h = not (nat_le (round_up h.text + h.static_data) program_limit)
 
 unfoldable pub is_too_long : Here → Statement → Bool
 is_too_long h s = exceeds (grown h (size_of s))

@@ -7,7 +7,7 @@ use Rattle.std.specs.Ordering.{nat_cmp}
 use Rattle.std.specs.Str.{bytes_eq}
 use Rattle.std.specs.Option.{option_or}
 use Rattle.cet_syntax.specs.Line.{Line}
-use Rattle.cet_asm.specs.Layout.{after, spot_of}
+use Rattle.cet_asm.specs.Layout.{after, spot_of, program_limit}
 use Rattle.cet_asm.specs.Program.{Whole, Fault, fault_at, broken_at}
 use Rattle.cet_asm.specs.declared.sections.Here.{Here}
 use Rattle.cet_asm.specs.declared.sections.Spot.{Spot}
@@ -35,7 +35,7 @@ has_one places spot (name ∷ names) = is_some (places name) || has_one (with_la
 
 -- neither section is longer than a program may be
 abbrev pub IsWithin : Here → Type 0
-IsWithin h = (h.text ≤ 4190208) × (h.static_data ≤ 4190208)
+IsWithin h = (h.text ≤ program_limit) × (h.static_data ≤ program_limit)
 
 -- the places of labels, those of these lines after those that are there
 abbrev pub places_from : (List ℕ → Option Spot) → Here → List Line → List ℕ → Option Spot

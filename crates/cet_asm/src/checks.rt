@@ -1,7 +1,6 @@
 //! The rules that a line breaks.
 
 ghost use Rattle.std.specs.Prelude.{◌≡◌};
-ghost use Rattle.cet_isa.specs.Canonical.{fits_byte};
 ghost use Rattle.cet_asm.specs.Layout.{size_of};
 ghost use Rattle.cet_asm.specs.Program.{knows_all, short_distance, is_in_reach, own_fault, directive_fault, broken_at, rule_number};
 ghost use Rattle.cet_syntax.specs.Views.{statement_view};
@@ -12,6 +11,7 @@ use crate::filling::distance;
 use crate::labels::{Labels, environment, knows_items, knows_uses};
 use crate::layout::{address_of, is_too_long, spot_of};
 use crate::sections::Here;
+use cet_isa::fits_byte;
 use cet_syntax::{Rule, Statement};
 
 #[tactic(auto, unfolding(crate::specs::Program::knows_all))]
@@ -36,12 +36,6 @@ pub(crate) fn short_distance<'a>(labels: &Labels<'a>, here: Here, name: &'a [u8]
         address_of(labels.text_size, spot_of(here)) + 2,
         environment(labels, name),
     )
-}
-
-fn fits_byte(distance: i32) -> bool
-    ensures { result ≡ fits_byte distance }
-{
-    distance >= -128 && distance < 128
 }
 
 #[tactic(auto, unfolding(crate::specs::Program::is_in_reach))]

@@ -7,7 +7,7 @@ ghost use Rattle.cet_isa.specs.Canonical.{fits_byte, one_byte};
 ghost use Rattle.cet_isa.specs.Spelled.{has_spelling};
 ghost use Rattle.cet_syntax.specs.Tokens.{tokens};
 ghost use Rattle.cet_syntax.specs.Line.{Code, bytes_in, quads_in};
-ghost use Rattle.cet_asm.specs.Layout.{size_of};
+ghost use Rattle.cet_asm.specs.Layout.{size_of, program_limit};
 ghost use Rattle.cet_asm.specs.Program.{item_bytes, short_opcode, short_distance, is_in_reach, code_bytes, bytes_of};
 ghost use Rattle.cet_syntax.specs.Views.{uses_view, statement_view, item_view, IsSpelledStatement};
 ghost use Rattle.cet_asm.specs.Passes.{IsWithin};
@@ -122,7 +122,7 @@ fn put_code<'a>(
     requires within { IsWithin here }
     requires spelled { has_spelling instr ≡ true }
     requires size { size ≡ size_of (Code instr (uses_view uses)) }
-    requires short { size ≤ 4190208 }
+    requires short { size ≤ program_limit }
     requires reach { is_in_reach (whole_view labels.now) here (Code instr (uses_view uses)) ≡ true }
     ensures { OnOk result (out.new ≡ out.old ++ code_bytes (whole_view labels.now) here instr (uses_view uses.entry)) }
 {
@@ -149,7 +149,7 @@ pub(crate) fn put_statement<'a>(
     requires within { IsWithin here }
     requires spelled { IsSpelledStatement statement }
     requires size { size ≡ size_of (statement_view statement) }
-    requires short { size ≤ 4190208 }
+    requires short { size ≤ program_limit }
     requires reach { is_in_reach (whole_view labels.now) here (statement_view statement) ≡ true }
     ensures { OnOk result (out.new ≡ out.old ++ bytes_of (whole_view labels.now) here (statement_view statement.entry)) }
 {

@@ -1,18 +1,18 @@
 //! Where the next bytes stand, and how long a program may get.
 
 ghost use Rattle.std.specs.Prelude.{◌≡◌, ◌<◌, ◌≤◌, ◌^◌, if◌then◌else◌};
-ghost use Rattle.cet_asm.specs.Layout.{round_up, grown, exceeds, after, spot_of, start, address_of, size_of};
+ghost use Rattle.cet_asm.specs.Layout.{round_up, grown, exceeds, after, spot_of, start, address_of, size_of, program_limit};
 ghost use Rattle.cet_syntax.specs.Views.{statement_view};
 ghost use Rattle.cet_asm.specs.Passes.{IsWithin};
 
 use crate::sections::{Here, Section, Spot};
 use cet_syntax::Statement;
 
-/// Where the text starts.
-pub(crate) const TEXT_START: u64 = 0x401000;
+/// The address at which the text of a program starts.
+pub const TEXT_START: u64 = 0x401000;
 
-/// The most bytes that the text, rounded up to whole pages, and the data may have.
-const LIMIT: u64 = 4_190_208;
+/// The most bytes that the text, rounded up to whole pages, and the data may have: they end at 0x800000.
+const PROGRAM_LIMIT: u64 = 4_190_208;
 
 pub(crate) fn start() -> Here
     ensures start { result ≡ start }
@@ -34,7 +34,7 @@ fn round_up(bytes: u64) -> u64
 
 fn grown(here: Here, size: u64) -> Here
     requires within { IsWithin here }
-    requires size { size ≤ 4190208 }
+    requires size { size ≤ program_limit }
     ensures { result ≡ grown here size }
 {
     match here.section {
@@ -56,7 +56,7 @@ fn exceeds(here: Here) -> bool
     requires static_data { here.static_data < 2 ^ 32 }
     ensures { result ≡ exceeds here }
 {
-    round_up(here.text) + here.static_data > LIMIT
+    round_up(here.text) + here.static_data > PROGRAM_LIMIT
 }
 
 /// Whether the program gets too long by so many bytes.
@@ -65,7 +65,7 @@ pub(crate) fn is_too_long(here: Here, size: u128) -> bool
     requires { IsWithin here }
     ensures { result ≡ exceeds (grown here size) }
 {
-    if size > LIMIT as u128 {
+    if size > PROGRAM_LIMIT as u128 {
         return true;
     }
     exceeds(grown(here, size as u64))
@@ -122,8 +122,8 @@ pub(crate) fn spot_of(here: Here) -> Spot
 /// The address of a place, where the text has so many bytes.
 #[tactic(auto, unfolding(crate::specs::Layout::address_of))]
 pub(crate) fn address_of(text: u64, spot: Spot) -> u64
-    requires text { text ≤ 4190208 }
-    requires spot { spot.offset ≤ 4190208 }
+    requires text { text ≤ program_limit }
+    requires spot { spot.offset ≤ program_limit }
     ensures address { result ≡ address_of text spot }
     ensures small { result < 2 ^ 24 }
 {

@@ -2,8 +2,6 @@
 #![tactic(auto)]
 
 mod assembler;
-#[cfg(test)]
-mod assembler_tests;
 mod checks;
 mod emission;
 mod filling;
@@ -14,6 +12,9 @@ mod program;
 mod second_pass;
 mod sections;
 mod sizes;
+#[cfg(test)]
+mod tests;
 
 pub use assembler::assemble;
+pub use layout::TEXT_START;
 pub use program::{AsmFault, Program};

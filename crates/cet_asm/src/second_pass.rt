@@ -1,8 +1,8 @@
 //! The second pass: the rules of each line, and the bytes of the program.
 
-ghost use Rattle.std.specs.Prelude.{◌≡◌, ◌<◌, ◌≤◌, ◌-◌, ◌^◌, ◌++◌, length, OnOk, true};
-ghost use Rattle.cet_asm.specs.Layout.{size_of};
-ghost use Rattle.cet_asm.specs.Program.{lines_of, bytes_of, in_section, is_in_reach, mark_after};
+ghost use Rattle.std.specs.Prelude.{◌≡◌, ◌<◌, ◌≤◌, ◌-◌, ◌^◌, ◌++◌, length, OnOk, true, codes};
+ghost use Rattle.cet_asm.specs.Layout.{size_of, program_limit};
+ghost use Rattle.cet_asm.specs.Program.{lines_of, bytes_of, in_section, is_in_reach, mark_after, environment};
 ghost use Rattle.cet_syntax.specs.Views.{statement_view, IsSpelledStatement};
 ghost use Rattle.cet_asm.specs.Passes.{is_number, IsWithin};
 ghost use Rattle.cet_asm.specs.Places.{whole_view, IsSmall};
@@ -58,7 +58,7 @@ fn put_line<'a>(
     requires within { IsWithin here }
     requires spelled { IsSpelledStatement statement }
     requires size { size ≡ size_of (statement_view statement) }
-    requires short { size ≤ 4190208 }
+    requires short { size ≤ program_limit }
     requires reach { is_in_reach (whole_view labels.now) here (statement_view statement) ≡ true }
     ensures text { OnOk result (out.new.text ≡ out.old.text ++ in_section Text here.section (bytes_of (whole_view labels.now) here (statement_view statement.entry))) }
     ensures static_data { OnOk result (out.new.static_data ≡ out.old.static_data ++ in_section Data here.section (bytes_of (whole_view labels.now) here (statement_view statement.entry))) }
@@ -96,6 +96,14 @@ fn second_line<'a>(
     }
     put_line(alloc, out, labels, here, statement, size)?;
     Ok(after(here, statement, size))
+}
+
+/// Where the program starts: at `_start`, or else where the text does.
+fn entry(labels: &Labels) -> u64
+    requires { IsSmall (whole_view labels.now) }
+    ensures { result ≡ environment (whole_view labels.now) (codes "_start") }
+{
+    environment(labels, b"_start")
 }
 
 /// Tests the lines of a text and writes its program, by the places of its labels and the first line with a label that
@@ -138,7 +146,7 @@ pub(crate) fn second_pass<'a>(
     Ok(Program {
         text: out.text,
         static_data: out.static_data,
-        entry: environment(labels, b"_start"),
+        entry: entry(labels),
         mark,
     })
 }

@@ -1,3 +1,5 @@
+//! From an instruction to its canonical bytes.
+
 ghost use Rattle.std.specs.Prelude.{◌≡◌, ◌<◌, [], ℕ, List, length, ◌++◌, OnOk, OnErr};
 ghost use Rattle.cet_isa.specs.Canonical.{canonical_spelling};
 ghost use Rattle.cet_isa.specs.Reading.{decoded, Read};

@@ -7,8 +7,6 @@ mod encoder;
 mod operands;
 mod spelling;
 mod syntax;
-#[cfg(test)]
-mod tests;
 
 pub use encoder::encode;
 pub use syntax::text;

@@ -1,3 +1,5 @@
+//! The text of operands.
+
 ghost use Rattle.std.specs.Prelude.{◌≡◌, [], ◌∷◌, OnOk};
 ghost use Rattle.cet_encode.specs.Text.{onto, number, signed, register, base_part, scaled, front, is_alone, displacement, memory, operand};
 

@@ -1,3 +1,5 @@
+//! The bytes of instructions with several forms: by their operands, or by the size of a number.
+
 ghost use Rattle.std.specs.Prelude.{◌≡◌, ◌++◌, ◌<◌, [], ◌∷◌, OnOk, OnErr, if◌then◌else◌};
 ghost use Rattle.cet_isa.specs.Canonical.{four_bytes, alu_spelling, test_spelling, mov_spelling, shift_spelling, push_spelling, canonical_spelling};
 ghost use Rattle.cet_encode.specs.Bytes.{rm_bytes, alu_number_bytes, shift_bytes};

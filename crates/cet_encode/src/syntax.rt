@@ -1,3 +1,5 @@
+//! From an instruction to its text.
+
 ghost use Rattle.std.specs.Prelude.{◌≡◌, ℕ, [], ◌∷◌, ◌++◌, OnOk, OnErr, codes};
 ghost use Rattle.cet_encode.specs.Groups.{IsFixed, IsMoving, IsShadow};
 ghost use Rattle.cet_isa.specs.Names.{condition_name, operation_name};

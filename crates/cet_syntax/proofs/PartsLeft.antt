@@ -1,7 +1,6 @@
 -- The lines that are left of a text. Source: own.
-use Rattle.std.specs.Prelude.{ℕ, ◌==◌, List, [], map, Option, Some, None}
+use Rattle.std.specs.Prelude.{ℕ, List, map, Option}
 use Rattle.std.specs.Borrow.{Bor}
-use Rattle.std.specs.List.{slice_split}
 use Rattle.cet_syntax.specs.Line.{Line, line_of}
 use Rattle.cet_syntax.specs.Parts.{parts_left}
 

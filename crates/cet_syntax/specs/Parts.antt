@@ -1,5 +1,5 @@
 -- The lines that are left of a text. Source: own.
-use Rattle.std.specs.Prelude.{ℕ, ◌==◌, List, [], map, Option, Some, None}
+use Rattle.std.specs.Prelude.{ℕ, ◌==◌, List, [], Option, Some, None}
 use Rattle.std.specs.Borrow.{Bor}
 use Rattle.std.specs.List.{slice_split}
 

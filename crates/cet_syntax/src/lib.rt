@@ -4,8 +4,6 @@
 mod addresses;
 mod classes;
 mod instructions;
-#[cfg(test)]
-mod line_tests;
 mod lines;
 mod lists;
 mod mnemonics;

@@ -13,7 +13,7 @@ use Rattle.cet_asm.specs.declared.sections.Section.TheVariants as sections
 use Rattle.cet_syntax.specs.Tokens.{in_class}
 use Rattle.cet_syntax.specs.Instructions.{no_uses}
 use Rattle.cet_syntax.specs.Line.{Line, Code, line_of}
-use Rattle.cet_asm.specs.Layout.{filled, size_of, round_up, is_too_long, start}
+use Rattle.cet_asm.specs.Layout.{filled, size_of, round_up, is_too_long, start, program_limit, text_start}
 use Rattle.cet_asm.specs.Program.{lines_of, whole_of, label_address, environment, knows_all, is_in_reach, broken_at, fault_from, bytes_of, section_from, mark_from, IsProgram}
 use Rattle.cet_texts.proofs.LengthLaws.{canonical_short}
 use Rattle.cet_texts.proofs.PieceTokens.{is_text_byte, joined, onto_joined, joined_text}
@@ -24,13 +24,13 @@ use Rattle.cet_texts.proofs.TextLaws.{pieces_line}
 abbrev line : Instr → Line
 line i = record { labels = []; statement = Code i no_uses }
 
-small : (n : ℕ) → n ≤ 21 → round_up (0 + n) + 0 ≤ 4190208
+small : (n : ℕ) → n ≤ 21 → round_up (0 + n) + 0 ≤ program_limit
 small n h = omega (arith, h)
 
 fits_program : (i : Instr) → is_too_long start (Code i no_uses) ≡ false
 unfolding is_too_long size_of filled
 fits_program i =
-    ap not (le-leb (round_up (0 + length (canonical_spelling i)) + 0) 4190208 (small (length (canonical_spelling i)) (canonical_short i)))
+    ap not (le-leb (round_up (0 + length (canonical_spelling i)) + 0) program_limit (small (length (canonical_spelling i)) (canonical_short i)))
 
 no_fault : (i : Instr) → fault_from (whole_of (line i ∷ [])) 1 [] start (line i ∷ []) ≡ None
 unfolding broken_at knows_all is_in_reach
@@ -43,7 +43,7 @@ text_bytes i = append-nil (canonical_spelling i)
 data_bytes : (i : Instr) → section_from (whole_of (line i ∷ [])) sections.Data start (line i ∷ []) ≡ []
 data_bytes i = refl
 
-no_start : (i : Instr) → environment (whole_of (line i ∷ [])) (codes "_start") ≡ 0x401000
+no_start : (i : Instr) → environment (whole_of (line i ∷ [])) (codes "_start") ≡ text_start
 unfolding label_address
 no_start i = refl
 
@@ -73,7 +73,7 @@ one_line i fits ok =
     ∙ ap (λ (x : Line). x ∷ []) l.same)
 
 pub program_text_of : (i : Instr) → InstrFits i → has_spelling i ≡ true
-    → IsProgram (text.text_of i) (record { text = canonical_spelling i; static_data = []; entry = 0x401000; mark = 2 })
+    → IsProgram (text.text_of i) (record { text = canonical_spelling i; static_data = []; entry = text_start; mark = 2 })
 program_text_of i fits ok =
     let e = one_line i fits ok in
     record {
