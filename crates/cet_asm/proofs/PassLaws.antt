@@ -9,7 +9,7 @@ use Rattle.std.specs.Str.{bytes_eq}
 use Rattle.cet_syntax.specs.Line.{Line, Statement}
 use Rattle.std.specs.Option.{option_or}
 use Rattle.cet_asm.specs.Layout.{after, spot_of, start, is_too_long}
-use Rattle.cet_asm.specs.Program.{Entry, entries_of, entries_from, spot_in, place_of, Whole, is_twice, broken_at, Fault, fault_at, fault_from, rule_unless, own_fault, directive_fault, knows_all, is_in_reach}
+use Rattle.cet_asm.specs.Program.{Entry, entries_of, entries_from, spot_in, place_of, Symbols, is_twice, broken_at, Fault, fault_at, fault_from, rule_unless, own_fault, directive_fault, knows_all, is_in_reach}
 use Rattle.cet_asm.specs.Passes.{only_at, with_label, with_labels, has_one, places_from, twice_from, no_places, is_number, fault_by}
 use Rattle.cet_syntax.specs.declared.rules.Rule.{Rule}
 use Rattle.cet_syntax.specs.declared.rules.Rule.TheVariants as rules
@@ -111,7 +111,7 @@ one_is_twice places spot (name ∷ names) above h =
 -- ---- faults
 
 -- a line with a label that is defined before is faulty
-twice_faulty : (w : Whole) (h : Here) (s : Statement) (number : ℕ) (x y : Option Fault) → option_or (fault_at number (broken_at w true h s)) x ≡ option_or (fault_at number (broken_at w true h s)) y
+twice_faulty : (w : Symbols) (h : Here) (s : Statement) (number : ℕ) (x y : Option Fault) → option_or (fault_at number (broken_at w true h s)) x ≡ option_or (fault_at number (broken_at w true h s)) y
 unfolding broken_at
 twice_faulty w h s number x y = go (own_fault s) (knows_all w s)
   where
@@ -139,7 +139,7 @@ not_now number (Some n) h = grind (arith, h)
 is_same : (n : ℕ) → (n == n) ≡ true
 is_same n = grind arith
 
-pub faults_are : (w : Whole) (number : ℕ) (places : List ℕ → Option Spot) (above : List (List ℕ)) (h : Here) (ls : List Line) → Agrees places above
+pub faults_are : (w : Symbols) (number : ℕ) (places : List ℕ → Option Spot) (above : List (List ℕ)) (h : Here) (ls : List Line) → Agrees places above
     → fault_by w (twice_from number places h ls) number h ls ≡ fault_from w number above h ls
 faults_are w number places above h [] a = refl
 faults_are w number places above h (l ∷ ls) a =
@@ -161,5 +161,5 @@ faults_are w number places above h (l ∷ ls) a =
         (not_now number next (later (number + 1) (number + 1) (with_labels places (spot_of h) l.labels) (after h l.statement) ls (omega arith)) ∙ e)
         ∙ ap (option_or (fault_at number (broken_at w (is_twice above l.labels) h l.statement))) ih
 
-pub all_faults : (w : Whole) (ls : List Line) → fault_by w (twice_from 1 no_places start ls) 1 start ls ≡ fault_from w 1 [] start ls
+pub all_faults : (w : Symbols) (ls : List Line) → fault_by w (twice_from 1 no_places start ls) 1 start ls ≡ fault_from w 1 [] start ls
 all_faults w ls = faults_are w 1 no_places [] start ls (λ q. refl)

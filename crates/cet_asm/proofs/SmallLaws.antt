@@ -5,7 +5,7 @@ use Rattle.std.specs.Str.{bytes_eq}
 use Rattle.cet_syntax.specs.Line.{Line, Statement, Nothing, Broken, TextSection, DataSection, Mark, Zero, Values, Quads, Code}
 use Rattle.std.specs.Option.{option_or}
 use Rattle.cet_asm.specs.Layout.{after, spot_of, start, exceeds, grown, is_too_long, size_of, program_limit}
-use Rattle.cet_asm.specs.Program.{entries_of, entries_from, end_from, spot_in, place_of, whole_of}
+use Rattle.cet_asm.specs.Program.{entries_of, entries_from, end_from, spot_in, place_of, symbols_of}
 use Rattle.cet_asm.specs.Passes.{IsWithin}
 use Rattle.cet_asm.specs.Places.{IsSmall}
 use Rattle.cet_asm.specs.declared.sections.Section.{Section}
@@ -74,5 +74,5 @@ entries_low h (l ∷ ls) q k =
 start_within : IsWithin start
 start_within = (omega arith, omega arith)
 
-pub whole_small : (ls : List Line) → IsSmall (whole_of ls)
-whole_small ls = ((end_within start ls start_within).0, λ q. entries_low start ls q start_within)
+pub symbols_small : (ls : List Line) → IsSmall (symbols_of ls)
+symbols_small ls = ((end_within start ls start_within).0, λ q. entries_low start ls q start_within)

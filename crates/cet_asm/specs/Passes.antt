@@ -8,7 +8,7 @@ use Rattle.std.specs.Str.{bytes_eq}
 use Rattle.std.specs.Option.{option_or}
 use Rattle.cet_syntax.specs.Line.{Line}
 use Rattle.cet_asm.specs.Layout.{after, spot_of, program_limit}
-use Rattle.cet_asm.specs.Program.{Whole, Fault, fault_at, broken_at}
+use Rattle.cet_asm.specs.Program.{Symbols, Fault, fault_at, broken_at}
 use Rattle.cet_asm.specs.declared.sections.Here.{Here}
 use Rattle.cet_asm.specs.declared.sections.Spot.{Spot}
 
@@ -60,7 +60,7 @@ is_number number None = false
 is_number number (Some n) = n == number
 
 -- the first faulty line of these, by the first line with a label that is defined before
-abbrev pub fault_by : Whole → Option ℕ → ℕ → Here → List Line → Option Fault
+abbrev pub fault_by : Symbols → Option ℕ → ℕ → Here → List Line → Option Fault
 fault_by w twice number h [] = None
 fault_by w twice number h (l ∷ ls) =
     option_or (fault_at number (broken_at w (is_number number twice) h l.statement)) (fault_by w twice (number + 1) (after h l.statement) ls)

@@ -64,19 +64,19 @@ abbrev pub place_of : List Entry → List ℕ → Option Spot
 place_of entries name = spot_in (find (λ e. bytes_eq e.name name) entries)
 
 -- what a line needs to know of the whole text
-pub record Whole : Type 0 where
+pub record Symbols : Type 0 where
   pub place : List ℕ → Option Spot
   pub text_size : ℕ
 
-abbrev pub whole_of : List Line → Whole
-whole_of lines = record { place = place_of (entries_from start lines); text_size = (end_from start lines).text }
+abbrev pub symbols_of : List Line → Symbols
+symbols_of lines = record { place = place_of (entries_from start lines); text_size = (end_from start lines).text }
 
 abbrev pub address_in : ℕ → Option Spot → Option ℕ
 address_in text None = None
 address_in text (Some spot) = Some (address_of text spot)
 
 -- the address of a label, where it is defined
-unfoldable pub label_address : Whole → List ℕ → Option ℕ
+unfoldable pub label_address : Symbols → List ℕ → Option ℕ
 label_address w name = address_in w.text_size (w.place name)
 
 abbrev pub or_start : Option ℕ → ℕ
@@ -84,24 +84,24 @@ or_start None = text_start
 or_start (Some a) = a
 
 -- an unknown label counts as the start
-abbrev pub environment : Whole → List ℕ → ℕ
+abbrev pub environment : Symbols → List ℕ → ℕ
 environment w name = or_start (label_address w name)
 
 -- ---- the rules of one line
 
-abbrev pub knows : Whole → Option (List ℕ) → Bool
+abbrev pub knows : Symbols → Option (List ℕ) → Bool
 knows w None = true
 knows w (Some name) = is_some (label_address w name)
 
-abbrev pub knows_item : Whole → Item → Bool
+abbrev pub knows_item : Symbols → Item → Bool
 knows_item w (Known n) = true
 knows_item w (Named name) = is_some (label_address w name)
 
-abbrev pub knows_uses : Whole → Uses → Bool
+abbrev pub knows_uses : Symbols → Uses → Bool
 knows_uses w u = knows w u.displacement && (knows w u.immediate && (knows w u.target && knows w u.short))
 
 -- whether all labels that a line uses are defined
-unfoldable pub knows_all : Whole → Statement → Bool
+unfoldable pub knows_all : Symbols → Statement → Bool
 knows_all w (Code i u) = knows_uses w u
 knows_all w (Quads items) = list_all (knows_item w) items
 knows_all w s = true
@@ -112,10 +112,10 @@ is_twice above [] = false
 is_twice above (name ∷ names) = list_any (bytes_eq name) above || is_twice (above ++ name ∷ []) names
 
 -- from the byte after a short jump that stands here to its label
-abbrev pub short_distance : Whole → Here → List ℕ → ℤ
+abbrev pub short_distance : Symbols → Here → List ℕ → ℤ
 short_distance w h name = distance (address_of w.text_size (spot_of h) + 2) (environment w name)
 
-unfoldable pub is_in_reach : Whole → Here → Statement → Bool
+unfoldable pub is_in_reach : Symbols → Here → Statement → Bool
 is_in_reach w h (Code i u) = go u.short
   where
     go : Option (List ℕ) → Bool
@@ -137,7 +137,7 @@ rule_unless true rule = None
 rule_unless false rule = Some rule
 
 -- the first rule that a line breaks which stands here, by whether one of its labels is defined before
-unfoldable pub broken_at : Whole → Bool → Here → Statement → Option Rule
+unfoldable pub broken_at : Symbols → Bool → Here → Statement → Option Rule
 broken_at w twice h s =
     option_or (own_fault s)
     (option_or (rule_unless (knows_all w s) rules.UnknownLabel)
@@ -147,7 +147,7 @@ broken_at w twice h s =
     (rule_unless (not (is_too_long h s)) rules.TooLong)))))
 
 -- the first rule that a line breaks, which stands here below these labels
-abbrev pub broken_by : Whole → List (List ℕ) → Here → Line → Option Rule
+abbrev pub broken_by : Symbols → List (List ℕ) → Here → Line → Option Rule
 broken_by w above h l = broken_at w (is_twice above l.labels) h l.statement
 
 -- a line that breaks a rule
@@ -160,14 +160,14 @@ fault_at number None = None
 fault_at number (Some rule) = Some (record { line = number; rule = rule_number rule })
 
 -- the first faulty line of these, which begin by this number, below these labels, and here
-abbrev pub fault_from : Whole → ℕ → List (List ℕ) → Here → List Line → Option Fault
+abbrev pub fault_from : Symbols → ℕ → List (List ℕ) → Here → List Line → Option Fault
 fault_from w number above h [] = None
 fault_from w number above h (l ∷ ls) =
     option_or (fault_at number (broken_by w above h l)) (fault_from w (number + 1) (above ++ l.labels) (after h l.statement) ls)
 
 -- ---- bytes
 
-abbrev pub item_bytes : Whole → Item → List ℕ
+abbrev pub item_bytes : Symbols → Item → List ℕ
 item_bytes w (Known n) = to_le_bytes w64 n
 item_bytes w (Named name) = to_le_bytes w64 (environment w name)
 
@@ -175,14 +175,14 @@ abbrev pub short_opcode : Instr → ℕ
 short_opcode (instrs.Jcc cond d) = 0x70 + cond_number cond
 short_opcode i = 0xeb
 
-abbrev pub code_bytes : Whole → Here → Instr → Uses → List ℕ
+abbrev pub code_bytes : Symbols → Here → Instr → Uses → List ℕ
 code_bytes w h i u = go u.short
   where
     go : Option (List ℕ) → List ℕ
     go None = canonical_spelling (filled (environment w) (address_of w.text_size (spot_of h) + size_of (Code i u)) u i)
     go (Some name) = short_opcode i ∷ one_byte (short_distance w h name)
 
-unfoldable pub bytes_of : Whole → Here → Statement → List ℕ
+unfoldable pub bytes_of : Symbols → Here → Statement → List ℕ
 bytes_of w h (Zero n) = repeat n (0 ∷ [])
 bytes_of w h (Values bytes) = bytes
 bytes_of w h (Quads items) = flat_map (item_bytes w) items
@@ -195,7 +195,7 @@ in_section sections.Data sections.Data bytes = bytes
 in_section s t bytes = []
 
 -- the bytes of a section, where no line breaks a rule
-abbrev pub section_from : Whole → Section → Here → List Line → List ℕ
+abbrev pub section_from : Symbols → Section → Here → List Line → List ℕ
 section_from w s h [] = []
 section_from w s h (l ∷ ls) = in_section s h.section (bytes_of w h l.statement) ++ section_from w s (after h l.statement) ls
 
@@ -212,15 +212,15 @@ mark_from m (l ∷ ls) = mark_from (mark_after m l.statement) ls
 -- ---- the language
 
 abbrev pub fault_of : List ℕ → Option Fault
-fault_of source = let ls = lines_of source in fault_from (whole_of ls) 1 [] start ls
+fault_of source = let ls = lines_of source in fault_from (symbols_of ls) 1 [] start ls
 
 -- The text has this program: no line breaks a rule, and these are the bytes of the sections, the address of `_start` or
 -- else the start, and the last mark, or else 2.
 pub record IsProgram (source : List ℕ) (program : Program) : Type 0 where
   pub sound : fault_of source ≡ None
-  pub text : program.text ≡ section_from (whole_of (lines_of source)) sections.Text start (lines_of source)
-  pub static_data : program.static_data ≡ section_from (whole_of (lines_of source)) sections.Data start (lines_of source)
-  pub entry : program.entry ≡ environment (whole_of (lines_of source)) (codes "_start")
+  pub text : program.text ≡ section_from (symbols_of (lines_of source)) sections.Text start (lines_of source)
+  pub static_data : program.static_data ≡ section_from (symbols_of (lines_of source)) sections.Data start (lines_of source)
+  pub entry : program.entry ≡ environment (symbols_of (lines_of source)) (codes "_start")
   pub mark : program.mark ≡ mark_from 2 (lines_of source)
 
 -- The first line that breaks a rule, and the first rule that it breaks, by its number.

@@ -5,7 +5,7 @@ ghost use Rattle.cet_asm.specs.Layout.{size_of};
 ghost use Rattle.cet_asm.specs.Program.{knows_all, short_distance, is_in_reach, own_fault, directive_fault, broken_at, rule_number};
 ghost use Rattle.cet_syntax.specs.Views.{statement_view};
 ghost use Rattle.cet_asm.specs.Passes.{IsWithin};
-ghost use Rattle.cet_asm.specs.Places.{whole_view, IsSmall};
+ghost use Rattle.cet_asm.specs.Places.{symbols_view, IsSmall};
 
 use crate::filling::distance;
 use crate::labels::{Labels, environment, knows_items, knows_uses};
@@ -16,8 +16,8 @@ use cet_syntax::{Rule, Statement};
 
 #[tactic(auto, unfolding(crate::specs::Program::knows_all))]
 fn knows_all<'a>(labels: &Labels<'a>, statement: Statement<'a>) -> bool
-    requires { IsSmall (whole_view labels.now) }
-    ensures { result ≡ knows_all (whole_view labels.now) (statement_view statement.entry) }
+    requires { IsSmall (symbols_view labels.now) }
+    ensures { result ≡ knows_all (symbols_view labels.now) (statement_view statement.entry) }
 {
     match statement {
         Statement::Code(_, uses) => knows_uses(labels, uses),
@@ -28,9 +28,9 @@ fn knows_all<'a>(labels: &Labels<'a>, statement: Statement<'a>) -> bool
 
 /// From the byte after a short jump that stands here to its label.
 pub(crate) fn short_distance<'a>(labels: &Labels<'a>, here: Here, name: &'a [u8]) -> i32
-    requires small { IsSmall (whole_view labels.now) }
+    requires small { IsSmall (symbols_view labels.now) }
     requires within { IsWithin here }
-    ensures { result ≡ short_distance (whole_view labels.now) here name.now }
+    ensures { result ≡ short_distance (symbols_view labels.now) here name.now }
 {
     distance(
         address_of(labels.text_size, spot_of(here)) + 2,
@@ -40,9 +40,9 @@ pub(crate) fn short_distance<'a>(labels: &Labels<'a>, here: Here, name: &'a [u8]
 
 #[tactic(auto, unfolding(crate::specs::Program::is_in_reach))]
 fn is_in_reach<'a>(labels: &Labels<'a>, here: Here, statement: Statement<'a>) -> bool
-    requires small { IsSmall (whole_view labels.now) }
+    requires small { IsSmall (symbols_view labels.now) }
     requires within { IsWithin here }
-    ensures { result ≡ is_in_reach (whole_view labels.now) here (statement_view statement.entry) }
+    ensures { result ≡ is_in_reach (symbols_view labels.now) here (statement_view statement.entry) }
 {
     match statement {
         Statement::Code(_, uses) => match uses.short {
@@ -81,10 +81,10 @@ pub(crate) fn broken_at<'a>(
     statement: Statement<'a>,
     size: u128,
 ) -> Option<Rule>
-    requires small { IsSmall (whole_view labels.now) }
+    requires small { IsSmall (symbols_view labels.now) }
     requires within { IsWithin here }
     requires size { size ≡ size_of (statement_view statement) }
-    ensures { result ≡ broken_at (whole_view labels.now) twice here (statement_view statement.entry) }
+    ensures { result ≡ broken_at (symbols_view labels.now) twice here (statement_view statement.entry) }
 {
     if let Some(rule) = own_fault(statement) {
         return Some(rule);

@@ -11,7 +11,7 @@ ghost use Rattle.cet_asm.specs.Layout.{size_of, program_limit};
 ghost use Rattle.cet_asm.specs.Program.{item_bytes, short_opcode, short_distance, is_in_reach, code_bytes, bytes_of};
 ghost use Rattle.cet_syntax.specs.Views.{uses_view, statement_view, item_view, IsSpelledStatement};
 ghost use Rattle.cet_asm.specs.Passes.{IsWithin};
-ghost use Rattle.cet_asm.specs.Places.{whole_view, IsSmall};
+ghost use Rattle.cet_asm.specs.Places.{symbols_view, IsSmall};
 
 use crate::checks::short_distance;
 use crate::filling::filled;
@@ -45,8 +45,8 @@ fn put_values(alloc: Global, out: &mut Bytes, text: &[u8]) -> Result<(), NoMemor
 }
 
 fn item_word<'a>(labels: &Labels<'a>, item: Item<'a>) -> u64
-    requires { IsSmall (whole_view labels.now) }
-    ensures { to_le_bytes w64 result ≡ item_bytes (whole_view labels.now) (item_view item.entry) }
+    requires { IsSmall (symbols_view labels.now) }
+    ensures { to_le_bytes w64 result ≡ item_bytes (symbols_view labels.now) (item_view item.entry) }
 {
     match item {
         Item::Known(word) => word,
@@ -60,8 +60,8 @@ fn put_quads<'a>(
     labels: &Labels<'a>,
     text: &'a [u8],
 ) -> Result<(), NoMemory>
-    requires { IsSmall (whole_view labels.now) }
-    ensures { OnOk result (out.new ≡ out.old ++ flat_map (item_bytes (whole_view labels.now)) (quads_in (tokens text.now))) }
+    requires { IsSmall (symbols_view labels.now) }
+    ensures { OnOk result (out.new ≡ out.old ++ flat_map (item_bytes (symbols_view labels.now)) (quads_in (tokens text.now))) }
 {
     let mut rest = text;
     while let Some((item, after)) = next_quad(rest) {
@@ -97,10 +97,10 @@ fn put_short<'a>(
     instr: Instr,
     name: &'a [u8],
 ) -> Result<(), NoMemory>
-    requires small { IsSmall (whole_view labels.now) }
+    requires small { IsSmall (symbols_view labels.now) }
     requires within { IsWithin here }
-    requires reach { fits_byte (short_distance (whole_view labels.now) here name.now) ≡ true }
-    ensures { OnOk result (out.new ≡ out.old ++ short_opcode instr ∷ one_byte (short_distance (whole_view labels.now) here name.now)) }
+    requires reach { fits_byte (short_distance (symbols_view labels.now) here name.now) ≡ true }
+    ensures { OnOk result (out.new ≡ out.old ++ short_opcode instr ∷ one_byte (short_distance (symbols_view labels.now) here name.now)) }
 {
     let distance = short_distance(labels, here, name);
     out.push(alloc, short_opcode(instr))?;
@@ -118,13 +118,13 @@ fn put_code<'a>(
     uses: Uses<'a>,
     size: u128,
 ) -> Result<(), NoMemory>
-    requires small { IsSmall (whole_view labels.now) }
+    requires small { IsSmall (symbols_view labels.now) }
     requires within { IsWithin here }
     requires spelled { has_spelling instr ≡ true }
     requires size { size ≡ size_of (Code instr (uses_view uses)) }
     requires short { size ≤ program_limit }
-    requires reach { is_in_reach (whole_view labels.now) here (Code instr (uses_view uses)) ≡ true }
-    ensures { OnOk result (out.new ≡ out.old ++ code_bytes (whole_view labels.now) here instr (uses_view uses.entry)) }
+    requires reach { is_in_reach (symbols_view labels.now) here (Code instr (uses_view uses)) ≡ true }
+    ensures { OnOk result (out.new ≡ out.old ++ code_bytes (symbols_view labels.now) here instr (uses_view uses.entry)) }
 {
     match uses.short {
         Some(name) => put_short(alloc, out, labels, here, instr, name),
@@ -145,13 +145,13 @@ pub(crate) fn put_statement<'a>(
     statement: Statement<'a>,
     size: u128,
 ) -> Result<(), NoMemory>
-    requires small { IsSmall (whole_view labels.now) }
+    requires small { IsSmall (symbols_view labels.now) }
     requires within { IsWithin here }
     requires spelled { IsSpelledStatement statement }
     requires size { size ≡ size_of (statement_view statement) }
     requires short { size ≤ program_limit }
-    requires reach { is_in_reach (whole_view labels.now) here (statement_view statement) ≡ true }
-    ensures { OnOk result (out.new ≡ out.old ++ bytes_of (whole_view labels.now) here (statement_view statement.entry)) }
+    requires reach { is_in_reach (symbols_view labels.now) here (statement_view statement) ≡ true }
+    ensures { OnOk result (out.new ≡ out.old ++ bytes_of (symbols_view labels.now) here (statement_view statement.entry)) }
 {
     match statement {
         Statement::Zero(count) => put_zeros(alloc, out, count),

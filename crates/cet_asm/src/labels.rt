@@ -8,7 +8,7 @@ ghost use Rattle.cet_asm.specs.Program.{label_address, environment, knows, knows
 ghost use Rattle.cet_syntax.specs.Views.{name_view, uses_view, item_view};
 ghost use Rattle.cet_asm.specs.Filling.{address_for, found_in, AreSmall};
 ghost use Rattle.cet_asm.specs.Passes.{place_in, with_label, with_labels, has_one};
-ghost use Rattle.cet_asm.specs.Places.{whole_view, IsSmall};
+ghost use Rattle.cet_asm.specs.Places.{symbols_view, IsSmall};
 
 use crate::filling::Found;
 use crate::layout::{TEXT_START, address_of};
@@ -62,8 +62,8 @@ pub(crate) fn define_all<'a>(
 /// The address of a label, where it is defined.
 #[tactic(auto, unfolding(crate::specs::Program::label_address))]
 pub(crate) fn label_address<'a>(labels: &Labels<'a>, name: &'a [u8]) -> Option<u64>
-    requires { IsSmall (whole_view labels.now) }
-    ensures address { result ≡ label_address (whole_view labels.now) name.now }
+    requires { IsSmall (symbols_view labels.now) }
+    ensures address { result ≡ label_address (symbols_view labels.now) name.now }
     ensures small { IfSome result (λ a. a < 2 ^ 24) }
 {
     match labels.places.get(&name) {
@@ -74,16 +74,16 @@ pub(crate) fn label_address<'a>(labels: &Labels<'a>, name: &'a [u8]) -> Option<u
 
 /// The address of a label, or where the text starts.
 pub(crate) fn environment<'a>(labels: &Labels<'a>, name: &'a [u8]) -> u64
-    requires { IsSmall (whole_view labels.now) }
-    ensures address { result ≡ environment (whole_view labels.now) name.now }
+    requires { IsSmall (symbols_view labels.now) }
+    ensures address { result ≡ environment (symbols_view labels.now) name.now }
     ensures small { result < 2 ^ 24 }
 {
     label_address(labels, name).unwrap_or(TEXT_START)
 }
 
 fn address_for<'a>(labels: &Labels<'a>, name: Option<&'a [u8]>) -> Option<u64>
-    requires { IsSmall (whole_view labels.now) }
-    ensures address { result ≡ address_for (environment (whole_view labels.now)) (name_view name.entry) }
+    requires { IsSmall (symbols_view labels.now) }
+    ensures address { result ≡ address_for (environment (symbols_view labels.now)) (name_view name.entry) }
     ensures small { IfSome result (λ a. a < 2 ^ 24) }
 {
     match name {
@@ -94,8 +94,8 @@ fn address_for<'a>(labels: &Labels<'a>, name: Option<&'a [u8]>) -> Option<u64>
 
 /// The addresses of the labels that an instruction uses.
 pub(crate) fn found_in<'a>(labels: &Labels<'a>, uses: Uses<'a>) -> Found
-    requires { IsSmall (whole_view labels.now) }
-    ensures found { result ≡ found_in (environment (whole_view labels.now)) (uses_view uses.entry) }
+    requires { IsSmall (symbols_view labels.now) }
+    ensures found { result ≡ found_in (environment (symbols_view labels.now)) (uses_view uses.entry) }
     ensures small { AreSmall result }
 {
     Found {
@@ -106,8 +106,8 @@ pub(crate) fn found_in<'a>(labels: &Labels<'a>, uses: Uses<'a>) -> Found
 }
 
 fn knows<'a>(labels: &Labels<'a>, name: Option<&'a [u8]>) -> bool
-    requires { IsSmall (whole_view labels.now) }
-    ensures { result ≡ knows (whole_view labels.now) (name_view name.entry) }
+    requires { IsSmall (symbols_view labels.now) }
+    ensures { result ≡ knows (symbols_view labels.now) (name_view name.entry) }
 {
     match name {
         Some(name) => label_address(labels, name).is_some(),
@@ -116,8 +116,8 @@ fn knows<'a>(labels: &Labels<'a>, name: Option<&'a [u8]>) -> bool
 }
 
 fn knows_item<'a>(labels: &Labels<'a>, item: Item<'a>) -> bool
-    requires { IsSmall (whole_view labels.now) }
-    ensures { result ≡ knows_item (whole_view labels.now) (item_view item.entry) }
+    requires { IsSmall (symbols_view labels.now) }
+    ensures { result ≡ knows_item (symbols_view labels.now) (item_view item.entry) }
 {
     match item {
         Item::Known(_) => true,
@@ -127,8 +127,8 @@ fn knows_item<'a>(labels: &Labels<'a>, item: Item<'a>) -> bool
 
 /// Whether all labels of a list are defined.
 pub(crate) fn knows_items<'a>(labels: &Labels<'a>, text: &'a [u8]) -> bool
-    requires { IsSmall (whole_view labels.now) }
-    ensures { result ≡ list_all (knows_item (whole_view labels.now)) (quads_in (tokens text.now)) }
+    requires { IsSmall (symbols_view labels.now) }
+    ensures { result ≡ list_all (knows_item (symbols_view labels.now)) (quads_in (tokens text.now)) }
 {
     let mut rest = text;
     while let Some((item, after)) = next_quad(rest) {
@@ -142,8 +142,8 @@ pub(crate) fn knows_items<'a>(labels: &Labels<'a>, text: &'a [u8]) -> bool
 
 /// Whether all labels that an instruction uses are defined.
 pub(crate) fn knows_uses<'a>(labels: &Labels<'a>, uses: Uses<'a>) -> bool
-    requires { IsSmall (whole_view labels.now) }
-    ensures { result ≡ knows_uses (whole_view labels.now) (uses_view uses.entry) }
+    requires { IsSmall (symbols_view labels.now) }
+    ensures { result ≡ knows_uses (symbols_view labels.now) (uses_view uses.entry) }
 {
     knows(labels, uses.displacement)
         && knows(labels, uses.immediate)

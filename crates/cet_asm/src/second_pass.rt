@@ -5,7 +5,7 @@ ghost use Rattle.cet_asm.specs.Layout.{size_of, program_limit};
 ghost use Rattle.cet_asm.specs.Program.{lines_of, bytes_of, in_section, is_in_reach, mark_after, environment};
 ghost use Rattle.cet_syntax.specs.Views.{statement_view, IsSpelledStatement};
 ghost use Rattle.cet_asm.specs.Passes.{is_number, IsWithin};
-ghost use Rattle.cet_asm.specs.Places.{whole_view, IsSmall};
+ghost use Rattle.cet_asm.specs.Places.{symbols_view, IsSmall};
 ghost use Rattle.cet_asm.specs.Second.{IsSecond, IsLineAnswer};
 ghost use Rattle.cet_asm.specs.declared.sections.Section.TheVariants.{Text, Data};
 
@@ -54,14 +54,14 @@ fn put_line<'a>(
     statement: Statement<'a>,
     size: u128,
 ) -> Result<(), NoMemory>
-    requires small { IsSmall (whole_view labels.now) }
+    requires small { IsSmall (symbols_view labels.now) }
     requires within { IsWithin here }
     requires spelled { IsSpelledStatement statement }
     requires size { size ≡ size_of (statement_view statement) }
     requires short { size ≤ program_limit }
-    requires reach { is_in_reach (whole_view labels.now) here (statement_view statement) ≡ true }
-    ensures text { OnOk result (out.new.text ≡ out.old.text ++ in_section Text here.section (bytes_of (whole_view labels.now) here (statement_view statement.entry))) }
-    ensures static_data { OnOk result (out.new.static_data ≡ out.old.static_data ++ in_section Data here.section (bytes_of (whole_view labels.now) here (statement_view statement.entry))) }
+    requires reach { is_in_reach (symbols_view labels.now) here (statement_view statement) ≡ true }
+    ensures text { OnOk result (out.new.text ≡ out.old.text ++ in_section Text here.section (bytes_of (symbols_view labels.now) here (statement_view statement.entry))) }
+    ensures static_data { OnOk result (out.new.static_data ≡ out.old.static_data ++ in_section Data here.section (bytes_of (symbols_view labels.now) here (statement_view statement.entry))) }
 {
     match here.section {
         Section::Text => put_statement(alloc, &mut out.text, labels, here, statement, size),
@@ -80,12 +80,12 @@ fn second_line<'a>(
     here: Here,
     statement: Statement<'a>,
 ) -> Result<Here, AsmFault>
-    requires small { IsSmall (whole_view labels.now) }
+    requires small { IsSmall (symbols_view labels.now) }
     requires within { IsWithin here }
     requires spelled { IsSpelledStatement statement }
-    ensures answer { IsLineAnswer (whole_view labels.now) twice number here (statement_view statement.entry) result }
-    ensures text { OnOk result (out.new.text ≡ out.old.text ++ in_section Text here.section (bytes_of (whole_view labels.now) here (statement_view statement.entry))) }
-    ensures static_data { OnOk result (out.new.static_data ≡ out.old.static_data ++ in_section Data here.section (bytes_of (whole_view labels.now) here (statement_view statement.entry))) }
+    ensures answer { IsLineAnswer (symbols_view labels.now) twice number here (statement_view statement.entry) result }
+    ensures text { OnOk result (out.new.text ≡ out.old.text ++ in_section Text here.section (bytes_of (symbols_view labels.now) here (statement_view statement.entry))) }
+    ensures static_data { OnOk result (out.new.static_data ≡ out.old.static_data ++ in_section Data here.section (bytes_of (symbols_view labels.now) here (statement_view statement.entry))) }
 {
     let size = size_of(alloc, statement)?;
     if let Some(rule) = broken_at(labels, twice, here, statement, size) {
@@ -100,8 +100,8 @@ fn second_line<'a>(
 
 /// Where the program starts: at `_start`, or else where the text does.
 fn entry(labels: &Labels) -> u64
-    requires { IsSmall (whole_view labels.now) }
-    ensures { result ≡ environment (whole_view labels.now) (codes "_start") }
+    requires { IsSmall (symbols_view labels.now) }
+    ensures { result ≡ environment (symbols_view labels.now) (codes "_start") }
 {
     environment(labels, b"_start")
 }
@@ -115,8 +115,8 @@ pub(crate) fn second_pass<'a>(
     twice: Option<u32>,
 ) -> Result<Program, AsmFault>
     requires short { length source.now < 2 ^ 32 - 1 }
-    requires small { IsSmall (whole_view labels.now) }
-    ensures { IsSecond (whole_view labels.now) twice (lines_of source.now) result }
+    requires small { IsSmall (symbols_view labels.now) }
+    ensures { IsSecond (symbols_view labels.now) twice (lines_of source.now) result }
 {
     let mut out = Output {
         text: Bytes::new(alloc),

@@ -14,7 +14,7 @@ use Rattle.cet_syntax.specs.Tokens.{in_class}
 use Rattle.cet_syntax.specs.Instructions.{no_uses}
 use Rattle.cet_syntax.specs.Line.{Line, Code, line_of}
 use Rattle.cet_asm.specs.Layout.{filled, size_of, round_up, is_too_long, start, program_limit, text_start}
-use Rattle.cet_asm.specs.Program.{lines_of, whole_of, label_address, environment, knows_all, is_in_reach, broken_at, fault_from, bytes_of, section_from, mark_from, IsProgram}
+use Rattle.cet_asm.specs.Program.{lines_of, symbols_of, label_address, environment, knows_all, is_in_reach, broken_at, fault_from, bytes_of, section_from, mark_from, IsProgram}
 use Rattle.cet_texts.proofs.LengthLaws.{canonical_short}
 use Rattle.cet_texts.proofs.PieceTokens.{is_text_byte, joined, onto_joined, joined_text}
 use Rattle.cet_texts.proofs.TextLaws.{pieces_line}
@@ -32,18 +32,18 @@ unfolding is_too_long size_of filled
 fits_program i =
     ap not (le-leb (round_up (0 + length (canonical_spelling i)) + 0) program_limit (small (length (canonical_spelling i)) (canonical_short i)))
 
-no_fault : (i : Instr) → fault_from (whole_of (line i ∷ [])) 1 [] start (line i ∷ []) ≡ None
+no_fault : (i : Instr) → fault_from (symbols_of (line i ∷ [])) 1 [] start (line i ∷ []) ≡ None
 unfolding broken_at knows_all is_in_reach
 no_fault i = rw (fits_program i) refl
 
-text_bytes : (i : Instr) → section_from (whole_of (line i ∷ [])) sections.Text start (line i ∷ []) ≡ canonical_spelling i
+text_bytes : (i : Instr) → section_from (symbols_of (line i ∷ [])) sections.Text start (line i ∷ []) ≡ canonical_spelling i
 unfolding bytes_of filled
 text_bytes i = append-nil (canonical_spelling i)
 
-data_bytes : (i : Instr) → section_from (whole_of (line i ∷ [])) sections.Data start (line i ∷ []) ≡ []
+data_bytes : (i : Instr) → section_from (symbols_of (line i ∷ [])) sections.Data start (line i ∷ []) ≡ []
 data_bytes i = refl
 
-no_start : (i : Instr) → environment (whole_of (line i ∷ [])) (codes "_start") ≡ text_start
+no_start : (i : Instr) → environment (symbols_of (line i ∷ [])) (codes "_start") ≡ text_start
 unfolding label_address
 no_start i = refl
 
@@ -77,9 +77,9 @@ pub program_text_of : (i : Instr) → InstrFits i → has_spelling i ≡ true
 program_text_of i fits ok =
     let e = one_line i fits ok in
     record {
-      sound = ap (λ (ls : List Line). fault_from (whole_of ls) 1 [] start ls) e ∙ no_fault i;
-      text = sym (ap (λ (ls : List Line). section_from (whole_of ls) sections.Text start ls) e ∙ text_bytes i);
-      static_data = sym (ap (λ (ls : List Line). section_from (whole_of ls) sections.Data start ls) e ∙ data_bytes i);
-      entry = sym (ap (λ (ls : List Line). environment (whole_of ls) (codes "_start")) e ∙ no_start i);
+      sound = ap (λ (ls : List Line). fault_from (symbols_of ls) 1 [] start ls) e ∙ no_fault i;
+      text = sym (ap (λ (ls : List Line). section_from (symbols_of ls) sections.Text start ls) e ∙ text_bytes i);
+      static_data = sym (ap (λ (ls : List Line). section_from (symbols_of ls) sections.Data start ls) e ∙ data_bytes i);
+      entry = sym (ap (λ (ls : List Line). environment (symbols_of ls) (codes "_start")) e ∙ no_start i);
       mark = sym (ap (mark_from 2) e ∙ no_mark i);
     }
