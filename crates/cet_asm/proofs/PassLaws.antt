@@ -13,7 +13,7 @@ use Rattle.cet_asm.specs.Program.{Entry, entries_of, entries_from, spot_in, plac
 use Rattle.cet_asm.specs.Passes.{only_at, with_label, with_labels, has_one, places_from, twice_from, no_places, is_number, fault_by}
 use Rattle.cet_syntax.specs.declared.rules.Rule.{Rule}
 use Rattle.cet_syntax.specs.declared.rules.Rule.TheVariants as rules
-use Rattle.cet_asm.specs.declared.sections.Here.{Here}
+use Rattle.cet_asm.specs.declared.sections.LocationCounter.{LocationCounter}
 use Rattle.cet_asm.specs.declared.sections.Spot.{Spot}
 
 -- ---- places
@@ -49,7 +49,7 @@ labels_place places spot (name ∷ names) q =
     ∙ (option_or_assoc (places q) (only_at spot (bytes_eq name q)) (place_of (entries_of spot names) q)
     ∙ ap (option_or (places q)) (place_one spot name (entries_of spot names) q))
 
-lines_place : (places : List ℕ → Option Spot) (h : Here) (ls : List Line) (q : List ℕ) → places_from places h ls q ≡ option_or (places q) (place_of (entries_from h ls) q)
+lines_place : (places : List ℕ → Option Spot) (h : LocationCounter) (ls : List Line) (q : List ℕ) → places_from places h ls q ≡ option_or (places q) (place_of (entries_from h ls) q)
 lines_place places h [] q = sym (option_or_none (places q))
 lines_place places h (l ∷ ls) q =
     lines_place (with_labels places (spot_of h) l.labels) (after h l.statement) ls q
@@ -111,7 +111,7 @@ one_is_twice places spot (name ∷ names) above h =
 -- ---- faults
 
 -- a line with a label that is defined before is faulty
-twice_faulty : (w : Symbols) (h : Here) (s : Statement) (number : ℕ) (x y : Option Fault) → option_or (fault_at number (broken_at w true h s)) x ≡ option_or (fault_at number (broken_at w true h s)) y
+twice_faulty : (w : Symbols) (h : LocationCounter) (s : Statement) (number : ℕ) (x y : Option Fault) → option_or (fault_at number (broken_at w true h s)) x ≡ option_or (fault_at number (broken_at w true h s)) y
 unfolding broken_at
 twice_faulty w h s number x y = go (own_fault s) (knows_all w s)
   where
@@ -123,7 +123,7 @@ twice_faulty w h s number x y = go (own_fault s) (knows_all w s)
     go None false = refl
 
 -- a line from this number on
-later : (number least : ℕ) (places : List ℕ → Option Spot) (h : Here) (ls : List Line) → least ≤ number → IfSome (twice_from number places h ls) (λ n. least ≤ n)
+later : (number least : ℕ) (places : List ℕ → Option Spot) (h : LocationCounter) (ls : List Line) → least ≤ number → IfSome (twice_from number places h ls) (λ n. least ≤ n)
 later number least places h [] k = tt
 later number least places h (l ∷ ls) k = go (has_one places (spot_of h) l.labels) (later (number + 1) least (with_labels places (spot_of h) l.labels) (after h l.statement) ls (omega (arith, k)))
   where
@@ -139,7 +139,7 @@ not_now number (Some n) h = grind (arith, h)
 is_same : (n : ℕ) → (n == n) ≡ true
 is_same n = grind arith
 
-pub faults_are : (w : Symbols) (number : ℕ) (places : List ℕ → Option Spot) (above : List (List ℕ)) (h : Here) (ls : List Line) → Agrees places above
+pub faults_are : (w : Symbols) (number : ℕ) (places : List ℕ → Option Spot) (above : List (List ℕ)) (h : LocationCounter) (ls : List Line) → Agrees places above
     → fault_by w (twice_from number places h ls) number h ls ≡ fault_from w number above h ls
 faults_are w number places above h [] a = refl
 faults_are w number places above h (l ∷ ls) a =

@@ -10,22 +10,22 @@ use Rattle.cet_asm.specs.Passes.{IsWithin}
 use Rattle.cet_asm.specs.Places.{IsSmall}
 use Rattle.cet_asm.specs.declared.sections.Section.{Section}
 use Rattle.cet_asm.specs.declared.sections.Section.TheVariants as sections
-use Rattle.cet_asm.specs.declared.sections.Here.{Here}
+use Rattle.cet_asm.specs.declared.sections.LocationCounter.{LocationCounter}
 use Rattle.cet_asm.specs.declared.sections.Spot.{Spot}
 use Rattle.cet_asm.proofs.LayoutLaws.{round_up_least}
 use Rattle.cet_asm.proofs.PassLaws.{place_append}
 
-short_within : (h : Here) → exceeds h ≡ false → IsWithin h
+short_within : (h : LocationCounter) → exceeds h ≡ false → IsWithin h
 short_within h e = (grind (arith, round_up_least h.text), grind (arith, round_up_least h.text))
 
-moved_within : (h : Here) (n : ℕ) → IsWithin h → IsWithin (cond (exceeds (grown h n)) h (grown h n))
+moved_within : (h : LocationCounter) (n : ℕ) → IsWithin h → IsWithin (cond (exceeds (grown h n)) h (grown h n))
 moved_within h n k = go (exceeds (grown h n)) refl
   where
     go : (t : Bool) → exceeds (grown h n) ≡ t → IsWithin (cond t h (grown h n))
     go true e = k
     go false e = short_within (grown h n) e
 
-after_within : (h : Here) (s : Statement) → IsWithin h → IsWithin (after h s)
+after_within : (h : LocationCounter) (s : Statement) → IsWithin h → IsWithin (after h s)
 unfolding after is_too_long
 after_within h TextSection k = k
 after_within h DataSection k = k
@@ -37,14 +37,14 @@ after_within h (Values bytes) k = moved_within h (size_of (Values bytes)) k
 after_within h (Quads items) k = moved_within h (size_of (Quads items)) k
 after_within h (Code i u) k = moved_within h (size_of (Code i u)) k
 
-end_within : (h : Here) (ls : List Line) → IsWithin h → IsWithin (end_from h ls)
+end_within : (h : LocationCounter) (ls : List Line) → IsWithin h → IsWithin (end_from h ls)
 end_within h [] k = k
 end_within h (l ∷ ls) k = end_within (after h l.statement) ls (after_within h l.statement k)
 
 abbrev Low : Option Spot → Type 0
 Low o = IfSome o (λ spot. spot.offset ≤ program_limit)
 
-spot_low : (h : Here) → IsWithin h → (spot_of h).offset ≤ program_limit
+spot_low : (h : LocationCounter) → IsWithin h → (spot_of h).offset ≤ program_limit
 spot_low h k = go h.section
   where
     go : (s : Section) → (spot_of (record h { section = s })).offset ≤ program_limit
@@ -63,7 +63,7 @@ option_or_low : (x y : Option Spot) → Low x → Low y → Low (option_or x y)
 option_or_low None y h k = k
 option_or_low (Some s) y h k = h
 
-entries_low : (h : Here) (ls : List Line) (q : List ℕ) → IsWithin h → Low (place_of (entries_from h ls) q)
+entries_low : (h : LocationCounter) (ls : List Line) (q : List ℕ) → IsWithin h → Low (place_of (entries_from h ls) q)
 entries_low h [] q k = tt
 entries_low h (l ∷ ls) q k =
     subst Low (sym (place_append (entries_of (spot_of h) l.labels) (entries_from (after h l.statement) ls) q))

@@ -13,7 +13,7 @@ use Rattle.cet_syntax.specs.Instructions.{Uses}
 use Rattle.cet_syntax.specs.Line.{Statement, TextSection, DataSection, Zero, Values, Quads, Code}
 use Rattle.cet_asm.specs.declared.sections.Section.{Section}
 use Rattle.cet_asm.specs.declared.sections.Section.TheVariants as sections
-use Rattle.cet_asm.specs.declared.sections.Here.{Here}
+use Rattle.cet_asm.specs.declared.sections.LocationCounter.{LocationCounter}
 use Rattle.cet_asm.specs.declared.sections.Spot.{Spot}
 
 -- ---- labels in instructions
@@ -121,34 +121,34 @@ round_up n = (n + 4095) / 4096 * 4096
 
 -- ---- sections
 
-abbrev pub grown : Here → ℕ → Here
+abbrev pub grown : LocationCounter → ℕ → LocationCounter
 grown h n = go h.section
   where
-    go : Section → Here
+    go : Section → LocationCounter
     go sections.Text = record h { text = h.text + n }
     go sections.Data = record h { static_data = h.static_data + n }
 
 -- whether text, rounded up to whole pages, and data exceed what a program may have
-abbrev pub exceeds : Here → Bool
+abbrev pub exceeds : LocationCounter → Bool
 exceeds h = not (nat_le (round_up h.text + h.static_data) program_limit)
 
-unfoldable pub is_too_long : Here → Statement → Bool
+unfoldable pub is_too_long : LocationCounter → Statement → Bool
 is_too_long h s = exceeds (grown h (size_of s))
 
 -- after a line; one that makes the program too long has no bytes
-unfoldable pub after : Here → Statement → Here
+unfoldable pub after : LocationCounter → Statement → LocationCounter
 after h TextSection = record h { section = sections.Text }
 after h DataSection = record h { section = sections.Data }
 after h s = if is_too_long h s then h else grown h (size_of s)
 
-abbrev pub spot_of : Here → Spot
+abbrev pub spot_of : LocationCounter → Spot
 spot_of h = go h.section
   where
     go : Section → Spot
     go sections.Text = record { section = sections.Text; offset = h.text }
     go sections.Data = record { section = sections.Data; offset = h.static_data }
 
-abbrev pub start : Here
+abbrev pub start : LocationCounter
 start = record { section = sections.Text; text = 0; static_data = 0 }
 
 -- the address of a place, where the text has so many bytes

@@ -9,7 +9,7 @@ use Rattle.std.specs.Option.{option_or}
 use Rattle.cet_syntax.specs.Line.{Line}
 use Rattle.cet_asm.specs.Layout.{after, spot_of, program_limit}
 use Rattle.cet_asm.specs.Program.{Symbols, Fault, fault_at, broken_at}
-use Rattle.cet_asm.specs.declared.sections.Here.{Here}
+use Rattle.cet_asm.specs.declared.sections.LocationCounter.{LocationCounter}
 use Rattle.cet_asm.specs.declared.sections.Spot.{Spot}
 
 -- the place that a map has for a label
@@ -34,16 +34,16 @@ has_one places spot [] = false
 has_one places spot (name ∷ names) = is_some (places name) || has_one (with_label places spot name) spot names
 
 -- neither section is longer than a program may be
-abbrev pub IsWithin : Here → Type 0
+abbrev pub IsWithin : LocationCounter → Type 0
 IsWithin h = (h.text ≤ program_limit) × (h.static_data ≤ program_limit)
 
 -- the places of labels, those of these lines after those that are there
-abbrev pub places_from : (List ℕ → Option Spot) → Here → List Line → List ℕ → Option Spot
+abbrev pub places_from : (List ℕ → Option Spot) → LocationCounter → List Line → List ℕ → Option Spot
 places_from places h [] = places
 places_from places h (l ∷ ls) = places_from (with_labels places (spot_of h) l.labels) (after h l.statement) ls
 
 -- the first of these lines, which begin by this number, with a label that has a place before it
-abbrev pub twice_from : ℕ → (List ℕ → Option Spot) → Here → List Line → Option ℕ
+abbrev pub twice_from : ℕ → (List ℕ → Option Spot) → LocationCounter → List Line → Option ℕ
 twice_from number places h [] = None
 twice_from number places h (l ∷ ls) =
     if has_one places (spot_of h) l.labels then Some number
@@ -60,7 +60,7 @@ is_number number None = false
 is_number number (Some n) = n == number
 
 -- the first faulty line of these, by the first line with a label that is defined before
-abbrev pub fault_by : Symbols → Option ℕ → ℕ → Here → List Line → Option Fault
+abbrev pub fault_by : Symbols → Option ℕ → ℕ → LocationCounter → List Line → Option Fault
 fault_by w twice number h [] = None
 fault_by w twice number h (l ∷ ls) =
     option_or (fault_at number (broken_at w (is_number number twice) h l.statement)) (fault_by w twice (number + 1) (after h l.statement) ls)

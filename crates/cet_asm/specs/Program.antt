@@ -17,7 +17,7 @@ use Rattle.cet_syntax.specs.declared.rules.Rule.{Rule}
 use Rattle.cet_syntax.specs.declared.rules.Rule.TheVariants as rules
 use Rattle.cet_asm.specs.declared.sections.Section.{Section}
 use Rattle.cet_asm.specs.declared.sections.Section.TheVariants as sections
-use Rattle.cet_asm.specs.declared.sections.Here.{Here}
+use Rattle.cet_asm.specs.declared.sections.LocationCounter.{LocationCounter}
 use Rattle.cet_asm.specs.declared.sections.Spot.{Spot}
 
 abbrev pub lines_of : List ℕ → List Line
@@ -46,12 +46,12 @@ abbrev pub entries_of : Spot → List (List ℕ) → List Entry
 entries_of spot names = map (λ name. record { name = name; spot = spot }) names
 
 -- the labels of the lines, the first of which stands here
-abbrev pub entries_from : Here → List Line → List Entry
+abbrev pub entries_from : LocationCounter → List Line → List Entry
 entries_from h [] = []
 entries_from h (l ∷ ls) = entries_of (spot_of h) l.labels ++ entries_from (after h l.statement) ls
 
 -- where the lines end
-abbrev pub end_from : Here → List Line → Here
+abbrev pub end_from : LocationCounter → List Line → LocationCounter
 end_from h [] = h
 end_from h (l ∷ ls) = end_from (after h l.statement) ls
 
@@ -112,10 +112,10 @@ is_twice above [] = false
 is_twice above (name ∷ names) = list_any (bytes_eq name) above || is_twice (above ++ name ∷ []) names
 
 -- from the byte after a short jump that stands here to its label
-abbrev pub short_distance : Symbols → Here → List ℕ → ℤ
+abbrev pub short_distance : Symbols → LocationCounter → List ℕ → ℤ
 short_distance w h name = distance (address_of w.text_size (spot_of h) + 2) (environment w name)
 
-unfoldable pub is_in_reach : Symbols → Here → Statement → Bool
+unfoldable pub is_in_reach : Symbols → LocationCounter → Statement → Bool
 is_in_reach w h (Code i u) = go u.short
   where
     go : Option (List ℕ) → Bool
@@ -137,7 +137,7 @@ rule_unless true rule = None
 rule_unless false rule = Some rule
 
 -- the first rule that a line breaks which stands here, by whether one of its labels is defined before
-unfoldable pub broken_at : Symbols → Bool → Here → Statement → Option Rule
+unfoldable pub broken_at : Symbols → Bool → LocationCounter → Statement → Option Rule
 broken_at w twice h s =
     option_or (own_fault s)
     (option_or (rule_unless (knows_all w s) rules.UnknownLabel)
@@ -147,7 +147,7 @@ broken_at w twice h s =
     (rule_unless (not (is_too_long h s)) rules.TooLong)))))
 
 -- the first rule that a line breaks, which stands here below these labels
-abbrev pub broken_by : Symbols → List (List ℕ) → Here → Line → Option Rule
+abbrev pub broken_by : Symbols → List (List ℕ) → LocationCounter → Line → Option Rule
 broken_by w above h l = broken_at w (is_twice above l.labels) h l.statement
 
 -- a line that breaks a rule
@@ -160,7 +160,7 @@ fault_at number None = None
 fault_at number (Some rule) = Some (record { line = number; rule = rule_number rule })
 
 -- the first faulty line of these, which begin by this number, below these labels, and here
-abbrev pub fault_from : Symbols → ℕ → List (List ℕ) → Here → List Line → Option Fault
+abbrev pub fault_from : Symbols → ℕ → List (List ℕ) → LocationCounter → List Line → Option Fault
 fault_from w number above h [] = None
 fault_from w number above h (l ∷ ls) =
     option_or (fault_at number (broken_by w above h l)) (fault_from w (number + 1) (above ++ l.labels) (after h l.statement) ls)
@@ -175,14 +175,14 @@ abbrev pub short_opcode : Instr → ℕ
 short_opcode (instrs.Jcc cond d) = 0x70 + cond_number cond
 short_opcode i = 0xeb
 
-abbrev pub code_bytes : Symbols → Here → Instr → Uses → List ℕ
+abbrev pub code_bytes : Symbols → LocationCounter → Instr → Uses → List ℕ
 code_bytes w h i u = go u.short
   where
     go : Option (List ℕ) → List ℕ
     go None = canonical_spelling (filled (environment w) (address_of w.text_size (spot_of h) + size_of (Code i u)) u i)
     go (Some name) = short_opcode i ∷ one_byte (short_distance w h name)
 
-unfoldable pub bytes_of : Symbols → Here → Statement → List ℕ
+unfoldable pub bytes_of : Symbols → LocationCounter → Statement → List ℕ
 bytes_of w h (Zero n) = repeat n (0 ∷ [])
 bytes_of w h (Values bytes) = bytes
 bytes_of w h (Quads items) = flat_map (item_bytes w) items
@@ -195,7 +195,7 @@ in_section sections.Data sections.Data bytes = bytes
 in_section s t bytes = []
 
 -- the bytes of a section, where no line breaks a rule
-abbrev pub section_from : Symbols → Section → Here → List Line → List ℕ
+abbrev pub section_from : Symbols → Section → LocationCounter → List Line → List ℕ
 section_from w s h [] = []
 section_from w s h (l ∷ ls) = in_section s h.section (bytes_of w h l.statement) ++ section_from w s (after h l.statement) ls
 

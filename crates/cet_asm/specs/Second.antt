@@ -7,7 +7,7 @@ use Rattle.cet_asm.specs.Passes.{fault_by, IsWithin}
 use Rattle.cet_asm.specs.declared.program.Program.{Program}
 use Rattle.cet_asm.specs.declared.program.AsmFault.{AsmFault}
 use Rattle.cet_asm.specs.declared.program.AsmFault.TheVariants.{At, NoMemory}
-use Rattle.cet_asm.specs.declared.sections.Here.{Here}
+use Rattle.cet_asm.specs.declared.sections.LocationCounter.{LocationCounter}
 use Rattle.cet_asm.specs.declared.sections.Section.TheVariants as sections
 
 -- the program of these lines, where no line breaks a rule
@@ -24,7 +24,7 @@ IsSecond w twice lines (Err (At line rule)) = fault_by w twice 1 start lines ≡
 IsSecond w twice lines (Err NoMemory) = Unit {0}
 
 -- a line that breaks no rule, and where the next one stands; or the rule that it breaks
-abbrev pub IsLineAnswer : Symbols → Bool → ℕ → Here → Statement → Result Here AsmFault → Type 0
+abbrev pub IsLineAnswer : Symbols → Bool → ℕ → LocationCounter → Statement → Result LocationCounter AsmFault → Type 0
 IsLineAnswer w twice number h s (Ok next) = (broken_at w twice h s ≡ None) × ((next ≡ after h s) × IsWithin next)
 IsLineAnswer w twice number h s (Err (At line rule)) = fault_at number (broken_at w twice h s) ≡ Some (record { line = line; rule = rule })
 IsLineAnswer w twice number h s (Err NoMemory) = Unit {0}

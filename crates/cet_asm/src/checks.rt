@@ -10,7 +10,7 @@ ghost use Rattle.cet_asm.specs.Places.{symbols_view, IsSmall};
 use crate::filling::distance;
 use crate::labels::{Labels, environment, knows_items, knows_uses};
 use crate::layout::{address_of, is_too_long, spot_of};
-use crate::sections::Here;
+use crate::sections::LocationCounter;
 use cet_isa::fits_byte;
 use cet_syntax::{Rule, Statement};
 
@@ -27,7 +27,7 @@ fn knows_all<'a>(labels: &Labels<'a>, statement: Statement<'a>) -> bool
 }
 
 /// From the byte after a short jump that stands here to its label.
-pub(crate) fn short_distance<'a>(labels: &Labels<'a>, here: Here, name: &'a [u8]) -> i32
+pub(crate) fn short_distance<'a>(labels: &Labels<'a>, here: LocationCounter, name: &'a [u8]) -> i32
     requires small { IsSmall (symbols_view labels.now) }
     requires within { IsWithin here }
     ensures { result ≡ short_distance (symbols_view labels.now) here name.now }
@@ -39,7 +39,7 @@ pub(crate) fn short_distance<'a>(labels: &Labels<'a>, here: Here, name: &'a [u8]
 }
 
 #[tactic(auto, unfolding(crate::specs::Program::is_in_reach))]
-fn is_in_reach<'a>(labels: &Labels<'a>, here: Here, statement: Statement<'a>) -> bool
+fn is_in_reach<'a>(labels: &Labels<'a>, here: LocationCounter, statement: Statement<'a>) -> bool
     requires small { IsSmall (symbols_view labels.now) }
     requires within { IsWithin here }
     ensures { result ≡ is_in_reach (symbols_view labels.now) here (statement_view statement.entry) }
@@ -77,7 +77,7 @@ fn directive_fault(statement: Statement) -> Option<Rule>
 pub(crate) fn broken_at<'a>(
     labels: &Labels<'a>,
     twice: bool,
-    here: Here,
+    here: LocationCounter,
     statement: Statement<'a>,
     size: u128,
 ) -> Option<Rule>

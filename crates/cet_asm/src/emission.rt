@@ -17,7 +17,7 @@ use crate::checks::short_distance;
 use crate::filling::filled;
 use crate::labels::{Labels, environment, found_in};
 use crate::layout::{address_of, spot_of};
-use crate::sections::Here;
+use crate::sections::LocationCounter;
 use crate::sizes::spell;
 use cet_isa::Instr;
 use cet_syntax::{Item, Statement, Uses, next_byte, next_quad};
@@ -93,7 +93,7 @@ fn put_short<'a>(
     alloc: Global,
     out: &mut Bytes,
     labels: &Labels<'a>,
-    here: Here,
+    here: LocationCounter,
     instr: Instr,
     name: &'a [u8],
 ) -> Result<(), NoMemory>
@@ -113,7 +113,7 @@ fn put_code<'a>(
     alloc: Global,
     out: &mut Bytes,
     labels: &Labels<'a>,
-    here: Here,
+    here: LocationCounter,
     instr: Instr,
     uses: Uses<'a>,
     size: u128,
@@ -141,7 +141,7 @@ pub(crate) fn put_statement<'a>(
     alloc: Global,
     out: &mut Bytes,
     labels: &Labels<'a>,
-    here: Here,
+    here: LocationCounter,
     statement: Statement<'a>,
     size: u128,
 ) -> Result<(), NoMemory>

@@ -5,7 +5,7 @@ ghost use Rattle.cet_asm.specs.Layout.{round_up, grown, exceeds, after, spot_of,
 ghost use Rattle.cet_syntax.specs.Views.{statement_view};
 ghost use Rattle.cet_asm.specs.Passes.{IsWithin};
 
-use crate::sections::{Here, Section, Spot};
+use crate::sections::{LocationCounter, Section, Spot};
 use cet_syntax::Statement;
 
 /// The address at which the text of a program starts.
@@ -14,11 +14,11 @@ pub const TEXT_START: u64 = 0x401000;
 /// The most bytes that the text, rounded up to whole pages, and the data may have: they end at 0x800000.
 const PROGRAM_LIMIT: u64 = 4_190_208;
 
-pub(crate) fn start() -> Here
+pub(crate) fn start() -> LocationCounter
     ensures start { result ≡ start }
     ensures within { IsWithin result }
 {
-    Here {
+    LocationCounter {
         section: Section::Text,
         text: 0,
         static_data: 0,
@@ -32,18 +32,18 @@ fn round_up(bytes: u64) -> u64
     (bytes + 4095) / 4096 * 4096
 }
 
-fn grown(here: Here, size: u64) -> Here
+fn grown(here: LocationCounter, size: u64) -> LocationCounter
     requires within { IsWithin here }
     requires size { size ≤ program_limit }
     ensures { result ≡ grown here size }
 {
     match here.section {
-        Section::Text => Here {
+        Section::Text => LocationCounter {
             section: here.section,
             text: here.text + size,
             static_data: here.static_data,
         },
-        Section::Data => Here {
+        Section::Data => LocationCounter {
             section: here.section,
             text: here.text,
             static_data: here.static_data + size,
@@ -51,7 +51,7 @@ fn grown(here: Here, size: u64) -> Here
     }
 }
 
-fn exceeds(here: Here) -> bool
+fn exceeds(here: LocationCounter) -> bool
     requires text { here.text < 2 ^ 32 }
     requires static_data { here.static_data < 2 ^ 32 }
     ensures { result ≡ exceeds here }
@@ -61,7 +61,7 @@ fn exceeds(here: Here) -> bool
 
 /// Whether the program gets too long by so many bytes.
 #[tactic(auto, using(crate::proofs::LayoutLaws::layout_laws))]
-pub(crate) fn is_too_long(here: Here, size: u128) -> bool
+pub(crate) fn is_too_long(here: LocationCounter, size: u128) -> bool
     requires { IsWithin here }
     ensures { result ≡ exceeds (grown here size) }
 {
@@ -71,7 +71,7 @@ pub(crate) fn is_too_long(here: Here, size: u128) -> bool
     exceeds(grown(here, size as u64))
 }
 
-fn moved(here: Here, size: u128) -> Here
+fn moved(here: LocationCounter, size: u128) -> LocationCounter
     requires { IsWithin here }
     ensures here { result ≡ (if exceeds (grown here size) then here else grown here size) }
     ensures within { IsWithin result }
@@ -85,19 +85,19 @@ fn moved(here: Here, size: u128) -> Here
 
 /// After a line of so many bytes. One that makes the program too long has none.
 #[tactic(auto, unfolding(crate::specs::Layout::after, crate::specs::Layout::is_too_long))]
-pub(crate) fn after(here: Here, statement: Statement, size: u128) -> Here
+pub(crate) fn after(here: LocationCounter, statement: Statement, size: u128) -> LocationCounter
     requires within { IsWithin here }
     requires size { size ≡ size_of (statement_view statement) }
     ensures here { result ≡ after here (statement_view statement.entry) }
     ensures within { IsWithin result }
 {
     match statement {
-        Statement::TextSection => Here {
+        Statement::TextSection => LocationCounter {
             section: Section::Text,
             text: here.text,
             static_data: here.static_data,
         },
-        Statement::DataSection => Here {
+        Statement::DataSection => LocationCounter {
             section: Section::Data,
             text: here.text,
             static_data: here.static_data,
@@ -106,7 +106,7 @@ pub(crate) fn after(here: Here, statement: Statement, size: u128) -> Here
     }
 }
 
-pub(crate) fn spot_of(here: Here) -> Spot
+pub(crate) fn spot_of(here: LocationCounter) -> Spot
     ensures { result ≡ spot_of here }
 {
     let offset = match here.section {

@@ -14,7 +14,7 @@ use crate::emission::put_statement;
 use crate::labels::{Labels, environment};
 use crate::layout::{after, start};
 use crate::program::{AsmFault, Program};
-use crate::sections::{Here, Section};
+use crate::sections::{LocationCounter, Section};
 use crate::sizes::size_of;
 use cet_syntax::{Statement, first_line, read_line};
 use cet_words::{Bytes, NoMemory};
@@ -50,7 +50,7 @@ fn put_line<'a>(
     alloc: Global,
     out: &mut Output,
     labels: &Labels<'a>,
-    here: Here,
+    here: LocationCounter,
     statement: Statement<'a>,
     size: u128,
 ) -> Result<(), NoMemory>
@@ -77,9 +77,9 @@ fn second_line<'a>(
     labels: &Labels<'a>,
     twice: bool,
     number: u32,
-    here: Here,
+    here: LocationCounter,
     statement: Statement<'a>,
-) -> Result<Here, AsmFault>
+) -> Result<LocationCounter, AsmFault>
     requires small { IsSmall (symbols_view labels.now) }
     requires within { IsWithin here }
     requires spelled { IsSpelledStatement statement }

@@ -18,7 +18,7 @@ pub(crate) struct Spot {
 
 /// Where the next bytes stand: the section, and how many bytes each of the two has so far.
 #[derive(Clone, Copy)]
-pub(crate) struct Here {
+pub(crate) struct LocationCounter {
     pub section: Section,
     pub text: u64,
     pub static_data: u64,
