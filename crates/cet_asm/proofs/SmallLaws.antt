@@ -4,14 +4,14 @@ use Rattle.std.specs.List.{find}
 use Rattle.std.specs.Str.{bytes_eq}
 use Rattle.cet_syntax.specs.Line.{Line, Statement, Nothing, Broken, TextSection, DataSection, Mark, Zero, Values, Quads, Code}
 use Rattle.std.specs.Option.{option_or}
-use Rattle.cet_asm.specs.Layout.{after, spot_of, start, exceeds, grown, is_too_long, size_of, program_limit}
-use Rattle.cet_asm.specs.Program.{entries_of, entries_from, end_from, spot_in, place_of, symbols_of}
+use Rattle.cet_asm.specs.Layout.{after, symbol_of, start, exceeds, grown, is_too_long, size_of, program_limit}
+use Rattle.cet_asm.specs.Program.{entries_of, entries_from, end_from, symbol_in, place_of, symbols_of}
 use Rattle.cet_asm.specs.Passes.{IsWithin}
 use Rattle.cet_asm.specs.Places.{IsSmall}
 use Rattle.cet_asm.specs.declared.sections.Section.{Section}
 use Rattle.cet_asm.specs.declared.sections.Section.TheVariants as sections
 use Rattle.cet_asm.specs.declared.sections.LocationCounter.{LocationCounter}
-use Rattle.cet_asm.specs.declared.sections.Spot.{Spot}
+use Rattle.cet_asm.specs.declared.sections.SymbolValue.{SymbolValue}
 use Rattle.cet_asm.proofs.LayoutLaws.{round_up_least}
 use Rattle.cet_asm.proofs.PassLaws.{place_append}
 
@@ -41,34 +41,34 @@ end_within : (h : LocationCounter) (ls : List Line) → IsWithin h → IsWithin 
 end_within h [] k = k
 end_within h (l ∷ ls) k = end_within (after h l.statement) ls (after_within h l.statement k)
 
-abbrev Low : Option Spot → Type 0
-Low o = IfSome o (λ spot. spot.offset ≤ program_limit)
+abbrev Low : Option SymbolValue → Type 0
+Low o = IfSome o (λ symbol. symbol.offset ≤ program_limit)
 
-spot_low : (h : LocationCounter) → IsWithin h → (spot_of h).offset ≤ program_limit
-spot_low h k = go h.section
+symbol_low : (h : LocationCounter) → IsWithin h → (symbol_of h).offset ≤ program_limit
+symbol_low h k = go h.section
   where
-    go : (s : Section) → (spot_of (record h { section = s })).offset ≤ program_limit
+    go : (s : Section) → (symbol_of (record h { section = s })).offset ≤ program_limit
     go sections.Text = k.0
     go sections.Data = k.1
 
-labels_low : (spot : Spot) (names : List (List ℕ)) (q : List ℕ) → spot.offset ≤ program_limit → Low (place_of (entries_of spot names) q)
-labels_low spot [] q k = tt
-labels_low spot (name ∷ names) q k = go (bytes_eq name q) (labels_low spot names q k)
+labels_low : (symbol : SymbolValue) (names : List (List ℕ)) (q : List ℕ) → symbol.offset ≤ program_limit → Low (place_of (entries_of symbol names) q)
+labels_low symbol [] q k = tt
+labels_low symbol (name ∷ names) q k = go (bytes_eq name q) (labels_low symbol names q k)
   where
-    go : (t : Bool) → Low (place_of (entries_of spot names) q) → Low (spot_in (cond t (Some (record { name = name; spot = spot })) (find (λ e. bytes_eq e.name q) (entries_of spot names))))
+    go : (t : Bool) → Low (place_of (entries_of symbol names) q) → Low (symbol_in (cond t (Some (record { name = name; symbol = symbol })) (find (λ e. bytes_eq e.name q) (entries_of symbol names))))
     go true h = k
     go false h = h
 
-option_or_low : (x y : Option Spot) → Low x → Low y → Low (option_or x y)
+option_or_low : (x y : Option SymbolValue) → Low x → Low y → Low (option_or x y)
 option_or_low None y h k = k
 option_or_low (Some s) y h k = h
 
 entries_low : (h : LocationCounter) (ls : List Line) (q : List ℕ) → IsWithin h → Low (place_of (entries_from h ls) q)
 entries_low h [] q k = tt
 entries_low h (l ∷ ls) q k =
-    subst Low (sym (place_append (entries_of (spot_of h) l.labels) (entries_from (after h l.statement) ls) q))
-    (option_or_low (place_of (entries_of (spot_of h) l.labels) q) (place_of (entries_from (after h l.statement) ls) q)
-    (labels_low (spot_of h) l.labels q (spot_low h k))
+    subst Low (sym (place_append (entries_of (symbol_of h) l.labels) (entries_from (after h l.statement) ls) q))
+    (option_or_low (place_of (entries_of (symbol_of h) l.labels) q) (place_of (entries_from (after h l.statement) ls) q)
+    (labels_low (symbol_of h) l.labels q (symbol_low h k))
     (entries_low (after h l.statement) ls q (after_within h l.statement k)))
 
 start_within : IsWithin start

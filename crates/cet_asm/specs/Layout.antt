@@ -14,7 +14,7 @@ use Rattle.cet_syntax.specs.Line.{Statement, TextSection, DataSection, Zero, Val
 use Rattle.cet_asm.specs.declared.sections.Section.{Section}
 use Rattle.cet_asm.specs.declared.sections.Section.TheVariants as sections
 use Rattle.cet_asm.specs.declared.sections.LocationCounter.{LocationCounter}
-use Rattle.cet_asm.specs.declared.sections.Spot.{Spot}
+use Rattle.cet_asm.specs.declared.sections.SymbolValue.{SymbolValue}
 
 -- ---- labels in instructions
 
@@ -141,10 +141,10 @@ after h TextSection = record h { section = sections.Text }
 after h DataSection = record h { section = sections.Data }
 after h s = if is_too_long h s then h else grown h (size_of s)
 
-abbrev pub spot_of : LocationCounter → Spot
-spot_of h = go h.section
+abbrev pub symbol_of : LocationCounter → SymbolValue
+symbol_of h = go h.section
   where
-    go : Section → Spot
+    go : Section → SymbolValue
     go sections.Text = record { section = sections.Text; offset = h.text }
     go sections.Data = record { section = sections.Data; offset = h.static_data }
 
@@ -152,9 +152,9 @@ abbrev pub start : LocationCounter
 start = record { section = sections.Text; text = 0; static_data = 0 }
 
 -- the address of a place, where the text has so many bytes
-unfoldable pub address_of : ℕ → Spot → ℕ
-address_of text spot = go spot.section
+unfoldable pub address_of : ℕ → SymbolValue → ℕ
+address_of text symbol = go symbol.section
   where
     go : Section → ℕ
-    go sections.Text = text_start + spot.offset
-    go sections.Data = text_start + round_up text + spot.offset
+    go sections.Text = text_start + symbol.offset
+    go sections.Data = text_start + round_up text + symbol.offset

@@ -10,4 +10,4 @@ symbols_view l = record { place = place_in l.places; text_size = l.text_size }
 
 -- all places are within what a program may be
 abbrev pub IsSmall : Symbols → Type 0
-IsSmall w = (w.text_size ≤ program_limit) × ((name : List ℕ) → IfSome (w.place name) (λ spot. spot.offset ≤ program_limit))
+IsSmall w = (w.text_size ≤ program_limit) × ((name : List ℕ) → IfSome (w.place name) (λ symbol. symbol.offset ≤ program_limit))

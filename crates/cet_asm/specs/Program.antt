@@ -11,14 +11,14 @@ use Rattle.cet_isa.specs.declared.instructions.Instr.{Instr}
 use Rattle.cet_isa.specs.declared.instructions.Instr.TheVariants as instrs
 use Rattle.cet_syntax.specs.Instructions.{Uses}
 use Rattle.cet_syntax.specs.Line.{Item, Known, Named, Statement, Broken, Mark, Zero, Values, Quads, Code, Line, line_of}
-use Rattle.cet_asm.specs.Layout.{filled, text_start, size_of, is_too_long, after, spot_of, start, address_of, distance}
+use Rattle.cet_asm.specs.Layout.{filled, text_start, size_of, is_too_long, after, symbol_of, start, address_of, distance}
 use Rattle.cet_asm.specs.declared.program.Program.{Program}
 use Rattle.cet_syntax.specs.declared.rules.Rule.{Rule}
 use Rattle.cet_syntax.specs.declared.rules.Rule.TheVariants as rules
 use Rattle.cet_asm.specs.declared.sections.Section.{Section}
 use Rattle.cet_asm.specs.declared.sections.Section.TheVariants as sections
 use Rattle.cet_asm.specs.declared.sections.LocationCounter.{LocationCounter}
-use Rattle.cet_asm.specs.declared.sections.Spot.{Spot}
+use Rattle.cet_asm.specs.declared.sections.SymbolValue.{SymbolValue}
 
 abbrev pub lines_of : List ℕ → List Line
 lines_of source = map line_of (slice_split (λ b. b == 10) source)
@@ -40,40 +40,40 @@ rule_number rules.NotUtf8 = 9
 -- a label and its place
 pub record Entry : Type 0 where
   pub name : List ℕ
-  pub spot : Spot
+  pub symbol : SymbolValue
 
-abbrev pub entries_of : Spot → List (List ℕ) → List Entry
-entries_of spot names = map (λ name. record { name = name; spot = spot }) names
+abbrev pub entries_of : SymbolValue → List (List ℕ) → List Entry
+entries_of symbol names = map (λ name. record { name = name; symbol = symbol }) names
 
 -- the labels of the lines, the first of which stands here
 abbrev pub entries_from : LocationCounter → List Line → List Entry
 entries_from h [] = []
-entries_from h (l ∷ ls) = entries_of (spot_of h) l.labels ++ entries_from (after h l.statement) ls
+entries_from h (l ∷ ls) = entries_of (symbol_of h) l.labels ++ entries_from (after h l.statement) ls
 
 -- where the lines end
 abbrev pub end_from : LocationCounter → List Line → LocationCounter
 end_from h [] = h
 end_from h (l ∷ ls) = end_from (after h l.statement) ls
 
-abbrev pub spot_in : Option Entry → Option Spot
-spot_in None = None
-spot_in (Some e) = Some e.spot
+abbrev pub symbol_in : Option Entry → Option SymbolValue
+symbol_in None = None
+symbol_in (Some e) = Some e.symbol
 
 -- the place of a label's first definition
-abbrev pub place_of : List Entry → List ℕ → Option Spot
-place_of entries name = spot_in (find (λ e. bytes_eq e.name name) entries)
+abbrev pub place_of : List Entry → List ℕ → Option SymbolValue
+place_of entries name = symbol_in (find (λ e. bytes_eq e.name name) entries)
 
 -- what a line needs to know of the whole text
 pub record Symbols : Type 0 where
-  pub place : List ℕ → Option Spot
+  pub place : List ℕ → Option SymbolValue
   pub text_size : ℕ
 
 abbrev pub symbols_of : List Line → Symbols
 symbols_of lines = record { place = place_of (entries_from start lines); text_size = (end_from start lines).text }
 
-abbrev pub address_in : ℕ → Option Spot → Option ℕ
+abbrev pub address_in : ℕ → Option SymbolValue → Option ℕ
 address_in text None = None
-address_in text (Some spot) = Some (address_of text spot)
+address_in text (Some symbol) = Some (address_of text symbol)
 
 -- the address of a label, where it is defined
 unfoldable pub label_address : Symbols → List ℕ → Option ℕ
@@ -113,7 +113,7 @@ is_twice above (name ∷ names) = list_any (bytes_eq name) above || is_twice (ab
 
 -- from the byte after a short jump that stands here to its label
 abbrev pub short_distance : Symbols → LocationCounter → List ℕ → ℤ
-short_distance w h name = distance (address_of w.text_size (spot_of h) + 2) (environment w name)
+short_distance w h name = distance (address_of w.text_size (symbol_of h) + 2) (environment w name)
 
 unfoldable pub is_in_reach : Symbols → LocationCounter → Statement → Bool
 is_in_reach w h (Code i u) = go u.short
@@ -179,7 +179,7 @@ abbrev pub code_bytes : Symbols → LocationCounter → Instr → Uses → List 
 code_bytes w h i u = go u.short
   where
     go : Option (List ℕ) → List ℕ
-    go None = canonical_spelling (filled (environment w) (address_of w.text_size (spot_of h) + size_of (Code i u)) u i)
+    go None = canonical_spelling (filled (environment w) (address_of w.text_size (symbol_of h) + size_of (Code i u)) u i)
     go (Some name) = short_opcode i ∷ one_byte (short_distance w h name)
 
 unfoldable pub bytes_of : Symbols → LocationCounter → Statement → List ℕ

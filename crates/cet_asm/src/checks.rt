@@ -9,7 +9,7 @@ ghost use Rattle.cet_asm.specs.Places.{symbols_view, IsSmall};
 
 use crate::filling::distance;
 use crate::labels::{Labels, environment, knows_items, knows_uses};
-use crate::layout::{address_of, is_too_long, spot_of};
+use crate::layout::{address_of, is_too_long, symbol_of};
 use crate::sections::LocationCounter;
 use cet_isa::fits_byte;
 use cet_syntax::{Rule, Statement};
@@ -33,7 +33,7 @@ pub(crate) fn short_distance<'a>(labels: &Labels<'a>, here: LocationCounter, nam
     ensures { result ≡ short_distance (symbols_view labels.now) here name.now }
 {
     distance(
-        address_of(labels.text_size, spot_of(here)) + 2,
+        address_of(labels.text_size, symbol_of(here)) + 2,
         environment(labels, name),
     )
 }

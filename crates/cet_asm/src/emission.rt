@@ -16,7 +16,7 @@ ghost use Rattle.cet_asm.specs.Places.{symbols_view, IsSmall};
 use crate::checks::short_distance;
 use crate::filling::filled;
 use crate::labels::{Labels, environment, found_in};
-use crate::layout::{address_of, spot_of};
+use crate::layout::{address_of, symbol_of};
 use crate::sections::LocationCounter;
 use crate::sizes::spell;
 use cet_isa::Instr;
@@ -129,7 +129,7 @@ fn put_code<'a>(
     match uses.short {
         Some(name) => put_short(alloc, out, labels, here, instr, name),
         None => {
-            let next = address_of(labels.text_size, spot_of(here)) + size as u64;
+            let next = address_of(labels.text_size, symbol_of(here)) + size as u64;
             spell(alloc, out, filled(next, found_in(labels, uses), instr))
         }
     }

@@ -12,7 +12,7 @@ ghost use Rattle.cet_asm.specs.Places.{symbols_view, IsSmall};
 
 use crate::filling::Found;
 use crate::layout::{TEXT_START, address_of};
-use crate::sections::Spot;
+use crate::sections::SymbolValue;
 use cet_syntax::{Item, Uses, next_label, next_quad};
 use cet_words::NoMemory;
 use std::alloc::Global;
@@ -21,39 +21,39 @@ use std::collections::BTreeMap;
 /// The places of all labels of a text, and how many bytes its text section has.
 #[derive(Drop)]
 pub(crate) struct Labels<'a> {
-    pub places: BTreeMap<&'a [u8], Spot>,
+    pub places: BTreeMap<&'a [u8], SymbolValue>,
     pub text_size: u64,
 }
 
 /// Gives a label a place where it has none. The answer says whether it has one already.
 fn define<'a>(
-    places: &mut BTreeMap<&'a [u8], Spot>,
+    places: &mut BTreeMap<&'a [u8], SymbolValue>,
     name: &'a [u8],
-    spot: Spot,
+    symbol: SymbolValue,
 ) -> Result<bool, NoMemory>
     ensures known { IfOk result (λ known. known ≡ is_some (place_in places.old name.now)) }
-    ensures places { OnOk result (place_in places.new ≡ with_label (place_in places.old) spot name.now) }
+    ensures places { OnOk result (place_in places.new ≡ with_label (place_in places.old) symbol name.now) }
 {
     if places.contains_key(&name) {
         return Ok(true);
     }
-    places.insert(name, spot)?;
+    places.insert(name, symbol)?;
     Ok(false)
 }
 
 /// Gives the labels at the front of a line a place. The answer says whether one of them has one already.
 pub(crate) fn define_all<'a>(
-    places: &mut BTreeMap<&'a [u8], Spot>,
+    places: &mut BTreeMap<&'a [u8], SymbolValue>,
     text: &'a [u8],
-    spot: Spot,
+    symbol: SymbolValue,
 ) -> Result<bool, NoMemory>
-    ensures known { IfOk result (λ known. known ≡ has_one (place_in places.old) spot (labels_of text.now)) }
-    ensures places { OnOk result (place_in places.new ≡ with_labels (place_in places.old) spot (labels_of text.now)) }
+    ensures known { IfOk result (λ known. known ≡ has_one (place_in places.old) symbol (labels_of text.now)) }
+    ensures places { OnOk result (place_in places.new ≡ with_labels (place_in places.old) symbol (labels_of text.now)) }
 {
     let mut known = false;
     let mut rest = text;
     while let Some((name, after)) = next_label(rest) {
-        known = define(places, name, spot)? || known;
+        known = define(places, name, symbol)? || known;
         rest = after;
     }
     Ok(known)
@@ -67,7 +67,7 @@ pub(crate) fn label_address<'a>(labels: &Labels<'a>, name: &'a [u8]) -> Option<u
     ensures small { IfSome result (λ a. a < 2 ^ 24) }
 {
     match labels.places.get(&name) {
-        Some(spot) => Some(address_of(labels.text_size, *spot)),
+        Some(symbol) => Some(address_of(labels.text_size, *symbol)),
         None => None,
     }
 }

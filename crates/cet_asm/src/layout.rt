@@ -1,11 +1,11 @@
 //! Where the next bytes stand, and how long a program may get.
 
 ghost use Rattle.std.specs.Prelude.{◌≡◌, ◌<◌, ◌≤◌, ◌^◌, if◌then◌else◌};
-ghost use Rattle.cet_asm.specs.Layout.{round_up, grown, exceeds, after, spot_of, start, address_of, size_of, program_limit};
+ghost use Rattle.cet_asm.specs.Layout.{round_up, grown, exceeds, after, symbol_of, start, address_of, size_of, program_limit};
 ghost use Rattle.cet_syntax.specs.Views.{statement_view};
 ghost use Rattle.cet_asm.specs.Passes.{IsWithin};
 
-use crate::sections::{LocationCounter, Section, Spot};
+use crate::sections::{LocationCounter, Section, SymbolValue};
 use cet_syntax::Statement;
 
 /// The address at which the text of a program starts.
@@ -106,14 +106,14 @@ pub(crate) fn after(here: LocationCounter, statement: Statement, size: u128) -> 
     }
 }
 
-pub(crate) fn spot_of(here: LocationCounter) -> Spot
-    ensures { result ≡ spot_of here }
+pub(crate) fn symbol_of(here: LocationCounter) -> SymbolValue
+    ensures { result ≡ symbol_of here }
 {
     let offset = match here.section {
         Section::Text => here.text,
         Section::Data => here.static_data,
     };
-    Spot {
+    SymbolValue {
         section: here.section,
         offset,
     }
@@ -121,14 +121,14 @@ pub(crate) fn spot_of(here: LocationCounter) -> Spot
 
 /// The address of a place, where the text has so many bytes.
 #[tactic(auto, unfolding(crate::specs::Layout::address_of))]
-pub(crate) fn address_of(text: u64, spot: Spot) -> u64
+pub(crate) fn address_of(text: u64, symbol: SymbolValue) -> u64
     requires text { text ≤ program_limit }
-    requires spot { spot.offset ≤ program_limit }
-    ensures address { result ≡ address_of text spot }
+    requires symbol { symbol.offset ≤ program_limit }
+    ensures address { result ≡ address_of text symbol }
     ensures small { result < 2 ^ 24 }
 {
-    match spot.section {
-        Section::Text => TEXT_START + spot.offset,
-        Section::Data => TEXT_START + round_up(text) + spot.offset,
+    match symbol.section {
+        Section::Text => TEXT_START + symbol.offset,
+        Section::Data => TEXT_START + round_up(text) + symbol.offset,
     }
 }

@@ -11,7 +11,7 @@ pub(crate) enum Section {
 
 /// A place in a program: so many bytes after the start of a section.
 #[derive(Clone, Copy)]
-pub(crate) struct Spot {
+pub(crate) struct SymbolValue {
     pub section: Section,
     pub offset: u64,
 }
