@@ -84,8 +84,8 @@ or_start None = text_start
 or_start (Some a) = a
 
 -- an unknown label counts as the start
-abbrev pub environment : Symbols → List ℕ → ℕ
-environment w name = or_start (label_address w name)
+abbrev pub symbol_address : Symbols → List ℕ → ℕ
+symbol_address w name = or_start (label_address w name)
 
 -- ---- the rules of one line
 
@@ -113,7 +113,7 @@ is_twice above (name ∷ names) = list_any (bytes_eq name) above || is_twice (ab
 
 -- from the byte after a short jump that stands here to its label
 abbrev pub short_distance : Symbols → LocationCounter → List ℕ → ℤ
-short_distance w h name = distance (address_of w.text_size (symbol_of h) + 2) (environment w name)
+short_distance w h name = distance (address_of w.text_size (symbol_of h) + 2) (symbol_address w name)
 
 unfoldable pub is_in_reach : Symbols → LocationCounter → Statement → Bool
 is_in_reach w h (Code i u) = go u.short
@@ -169,7 +169,7 @@ fault_from w number above h (l ∷ ls) =
 
 abbrev pub item_bytes : Symbols → Item → List ℕ
 item_bytes w (Known n) = to_le_bytes w64 n
-item_bytes w (Named name) = to_le_bytes w64 (environment w name)
+item_bytes w (Named name) = to_le_bytes w64 (symbol_address w name)
 
 abbrev pub short_opcode : Instr → ℕ
 short_opcode (instrs.Jcc cond d) = 0x70 + cond_number cond
@@ -179,7 +179,7 @@ abbrev pub code_bytes : Symbols → LocationCounter → Instr → Uses → List 
 code_bytes w h i u = go u.short
   where
     go : Option (List ℕ) → List ℕ
-    go None = canonical_spelling (filled (environment w) (address_of w.text_size (symbol_of h) + size_of (Code i u)) u i)
+    go None = canonical_spelling (filled (symbol_address w) (address_of w.text_size (symbol_of h) + size_of (Code i u)) u i)
     go (Some name) = short_opcode i ∷ one_byte (short_distance w h name)
 
 unfoldable pub bytes_of : Symbols → LocationCounter → Statement → List ℕ
@@ -220,7 +220,7 @@ pub record IsProgram (source : List ℕ) (program : Program) : Type 0 where
   pub sound : fault_of source ≡ None
   pub text : program.text ≡ section_from (symbols_of (lines_of source)) sections.Text start (lines_of source)
   pub static_data : program.static_data ≡ section_from (symbols_of (lines_of source)) sections.Data start (lines_of source)
-  pub entry : program.entry ≡ environment (symbols_of (lines_of source)) (codes "_start")
+  pub entry : program.entry ≡ symbol_address (symbols_of (lines_of source)) (codes "_start")
   pub mark : program.mark ≡ mark_from 2 (lines_of source)
 
 -- The first line that breaks a rule, and the first rule that it breaks, by its number.

@@ -2,7 +2,7 @@
 use Rattle.std.specs.Prelude.{◌≡◌, ℕ, Bool, List, Option, Some, None, Result, Ok, Err, codes}
 use Rattle.cet_syntax.specs.Line.{Line, Statement}
 use Rattle.cet_asm.specs.Layout.{start, after}
-use Rattle.cet_asm.specs.Program.{Symbols, fault_at, broken_at, section_from, environment, mark_from}
+use Rattle.cet_asm.specs.Program.{Symbols, fault_at, broken_at, section_from, symbol_address, mark_from}
 use Rattle.cet_asm.specs.Passes.{fault_by, IsWithin}
 use Rattle.cet_asm.specs.declared.program.Program.{Program}
 use Rattle.cet_asm.specs.declared.program.AsmFault.{AsmFault}
@@ -15,7 +15,7 @@ pub record IsOutput (w : Symbols) (twice : Option ℕ) (lines : List Line) (prog
   pub sound : fault_by w twice 1 start lines ≡ None
   pub text : program.text ≡ section_from w sections.Text start lines
   pub static_data : program.static_data ≡ section_from w sections.Data start lines
-  pub entry : program.entry ≡ environment w (codes "_start")
+  pub entry : program.entry ≡ symbol_address w (codes "_start")
   pub mark : program.mark ≡ mark_from 2 lines
 
 abbrev pub IsSecond : Symbols → Option ℕ → List Line → Result Program AsmFault → Type 0

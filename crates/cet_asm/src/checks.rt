@@ -8,7 +8,7 @@ ghost use Rattle.cet_asm.specs.Passes.{IsWithin};
 ghost use Rattle.cet_asm.specs.Places.{symbols_view, IsSmall};
 
 use crate::filling::distance;
-use crate::labels::{Labels, environment, knows_items, knows_uses};
+use crate::labels::{Labels, knows_items, knows_uses, symbol_address};
 use crate::layout::{address_of, is_too_long, symbol_of};
 use crate::sections::LocationCounter;
 use cet_isa::fits_byte;
@@ -34,7 +34,7 @@ pub(crate) fn short_distance<'a>(labels: &Labels<'a>, here: LocationCounter, nam
 {
     distance(
         address_of(labels.text_size, symbol_of(here)) + 2,
-        environment(labels, name),
+        symbol_address(labels, name),
     )
 }
 

@@ -15,7 +15,7 @@ ghost use Rattle.cet_asm.specs.Places.{symbols_view, IsSmall};
 
 use crate::checks::short_distance;
 use crate::filling::filled;
-use crate::labels::{Labels, environment, found_in};
+use crate::labels::{Labels, found_in, symbol_address};
 use crate::layout::{address_of, symbol_of};
 use crate::sections::LocationCounter;
 use crate::sizes::spell;
@@ -50,7 +50,7 @@ fn item_word<'a>(labels: &Labels<'a>, item: Item<'a>) -> u64
 {
     match item {
         Item::Known(word) => word,
-        Item::Named(name) => environment(labels, name),
+        Item::Named(name) => symbol_address(labels, name),
     }
 }
 

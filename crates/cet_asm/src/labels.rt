@@ -4,7 +4,7 @@ ghost use Rattle.std.specs.Prelude.{◌≡◌, ◌<◌, ◌^◌, OnOk, IfOk, IfS
 ghost use Rattle.std.specs.List.{list_all};
 ghost use Rattle.cet_syntax.specs.Tokens.{tokens};
 ghost use Rattle.cet_syntax.specs.Line.{labels_of, quads_in};
-ghost use Rattle.cet_asm.specs.Program.{label_address, environment, knows, knows_item, knows_uses};
+ghost use Rattle.cet_asm.specs.Program.{label_address, symbol_address, knows, knows_item, knows_uses};
 ghost use Rattle.cet_syntax.specs.Views.{name_view, uses_view, item_view};
 ghost use Rattle.cet_asm.specs.Filling.{address_for, found_in, AreSmall};
 ghost use Rattle.cet_asm.specs.Passes.{place_in, with_label, with_labels, has_one};
@@ -73,9 +73,9 @@ pub(crate) fn label_address<'a>(labels: &Labels<'a>, name: &'a [u8]) -> Option<u
 }
 
 /// The address of a label, or where the text starts.
-pub(crate) fn environment<'a>(labels: &Labels<'a>, name: &'a [u8]) -> u64
+pub(crate) fn symbol_address<'a>(labels: &Labels<'a>, name: &'a [u8]) -> u64
     requires { IsSmall (symbols_view labels.now) }
-    ensures address { result ≡ environment (symbols_view labels.now) name.now }
+    ensures address { result ≡ symbol_address (symbols_view labels.now) name.now }
     ensures small { result < 2 ^ 24 }
 {
     label_address(labels, name).unwrap_or(TEXT_START)
@@ -83,11 +83,11 @@ pub(crate) fn environment<'a>(labels: &Labels<'a>, name: &'a [u8]) -> u64
 
 fn address_for<'a>(labels: &Labels<'a>, name: Option<&'a [u8]>) -> Option<u64>
     requires { IsSmall (symbols_view labels.now) }
-    ensures address { result ≡ address_for (environment (symbols_view labels.now)) (name_view name.entry) }
+    ensures address { result ≡ address_for (symbol_address (symbols_view labels.now)) (name_view name.entry) }
     ensures small { IfSome result (λ a. a < 2 ^ 24) }
 {
     match name {
-        Some(name) => Some(environment(labels, name)),
+        Some(name) => Some(symbol_address(labels, name)),
         None => None,
     }
 }
@@ -95,7 +95,7 @@ fn address_for<'a>(labels: &Labels<'a>, name: Option<&'a [u8]>) -> Option<u64>
 /// The addresses of the labels that an instruction uses.
 pub(crate) fn found_in<'a>(labels: &Labels<'a>, uses: Uses<'a>) -> Found
     requires { IsSmall (symbols_view labels.now) }
-    ensures found { result ≡ found_in (environment (symbols_view labels.now)) (uses_view uses.entry) }
+    ensures found { result ≡ found_in (symbol_address (symbols_view labels.now)) (uses_view uses.entry) }
     ensures small { AreSmall result }
 {
     Found {

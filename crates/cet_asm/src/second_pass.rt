@@ -2,7 +2,7 @@
 
 ghost use Rattle.std.specs.Prelude.{◌≡◌, ◌<◌, ◌≤◌, ◌-◌, ◌^◌, ◌++◌, length, OnOk, true, codes};
 ghost use Rattle.cet_asm.specs.Layout.{size_of, program_limit};
-ghost use Rattle.cet_asm.specs.Program.{lines_of, bytes_of, in_section, is_in_reach, mark_after, environment};
+ghost use Rattle.cet_asm.specs.Program.{lines_of, bytes_of, in_section, is_in_reach, mark_after, symbol_address};
 ghost use Rattle.cet_syntax.specs.Views.{statement_view, IsSpelledStatement};
 ghost use Rattle.cet_asm.specs.Passes.{is_number, IsWithin};
 ghost use Rattle.cet_asm.specs.Places.{symbols_view, IsSmall};
@@ -11,7 +11,7 @@ ghost use Rattle.cet_asm.specs.declared.sections.Section.TheVariants.{Text, Data
 
 use crate::checks::{broken_at, rule_number};
 use crate::emission::put_statement;
-use crate::labels::{Labels, environment};
+use crate::labels::{Labels, symbol_address};
 use crate::layout::{after, start};
 use crate::program::{AsmFault, Program};
 use crate::sections::{LocationCounter, Section};
@@ -101,9 +101,9 @@ fn second_line<'a>(
 /// Where the program starts: at `_start`, or else where the text does.
 fn entry(labels: &Labels) -> u64
     requires { IsSmall (symbols_view labels.now) }
-    ensures { result ≡ environment (symbols_view labels.now) (codes "_start") }
+    ensures { result ≡ symbol_address (symbols_view labels.now) (codes "_start") }
 {
-    environment(labels, b"_start")
+    symbol_address(labels, b"_start")
 }
 
 /// Tests the lines of a text and writes its program, by the places of its labels and the first line with a label that

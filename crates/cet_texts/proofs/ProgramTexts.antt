@@ -14,7 +14,7 @@ use Rattle.cet_syntax.specs.Tokens.{in_class}
 use Rattle.cet_syntax.specs.Instructions.{no_uses}
 use Rattle.cet_syntax.specs.Line.{Line, Code, line_of}
 use Rattle.cet_asm.specs.Layout.{filled, size_of, round_up, is_too_long, start, program_limit, text_start}
-use Rattle.cet_asm.specs.Program.{lines_of, symbols_of, label_address, environment, knows_all, is_in_reach, broken_at, fault_from, bytes_of, section_from, mark_from, IsProgram}
+use Rattle.cet_asm.specs.Program.{lines_of, symbols_of, label_address, symbol_address, knows_all, is_in_reach, broken_at, fault_from, bytes_of, section_from, mark_from, IsProgram}
 use Rattle.cet_texts.proofs.LengthLaws.{canonical_short}
 use Rattle.cet_texts.proofs.PieceTokens.{is_text_byte, joined, onto_joined, joined_text}
 use Rattle.cet_texts.proofs.TextLaws.{pieces_line}
@@ -43,7 +43,7 @@ text_bytes i = append-nil (canonical_spelling i)
 data_bytes : (i : Instr) → section_from (symbols_of (line i ∷ [])) sections.Data start (line i ∷ []) ≡ []
 data_bytes i = refl
 
-no_start : (i : Instr) → environment (symbols_of (line i ∷ [])) (codes "_start") ≡ text_start
+no_start : (i : Instr) → symbol_address (symbols_of (line i ∷ [])) (codes "_start") ≡ text_start
 unfolding label_address
 no_start i = refl
 
@@ -80,6 +80,6 @@ program_text_of i fits ok =
       sound = ap (λ (ls : List Line). fault_from (symbols_of ls) 1 [] start ls) e ∙ no_fault i;
       text = sym (ap (λ (ls : List Line). section_from (symbols_of ls) sections.Text start ls) e ∙ text_bytes i);
       static_data = sym (ap (λ (ls : List Line). section_from (symbols_of ls) sections.Data start ls) e ∙ data_bytes i);
-      entry = sym (ap (λ (ls : List Line). environment (symbols_of ls) (codes "_start")) e ∙ no_start i);
+      entry = sym (ap (λ (ls : List Line). symbol_address (symbols_of ls) (codes "_start")) e ∙ no_start i);
       mark = sym (ap (mark_from 2) e ∙ no_mark i);
     }
