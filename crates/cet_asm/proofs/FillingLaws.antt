@@ -11,7 +11,7 @@ use Rattle.cet_isa.specs.declared.instructions.Operand.TheVariants as operands
 use Rattle.cet_isa.specs.declared.instructions.Reg.{Reg}
 use Rattle.cet_isa.specs.declared.instructions.Size.{Size}
 use Rattle.cet_isa.specs.Spelled.{mem_ok, place_ok, alu_ok, test_ok, mov_ok, push_ok, has_spelling}
-use Rattle.cet_syntax.specs.Instructions.{Uses}
+use Rattle.cet_syntax.specs.Instructions.{Fixups}
 use Rattle.cet_asm.specs.Layout.{operand_memory, operand_immediate, with_memory, with_immediate, with_target, placed_mem, distance, filled}
 use Rattle.cet_asm.specs.Filling.{on_address, filled_at, address_for, found_in}
 use Rattle.cet_asm.specs.declared.filling.Found.{Found}
@@ -135,7 +135,7 @@ filled_spelled next x i =
     ∙ on_same x.displacement (λ a. with_memory (placed_mem next a)) i (λ a j. memory_same next a j))
 
 -- the same filling, by what is found
-pub filled_found : (env : List ℕ → ℕ) (next : ℕ) (u : Uses) (i : Instr) → filled env next u i ≡ filled_at next (found_in env u) i
+pub filled_found : (env : List ℕ → ℕ) (next : ℕ) (u : Fixups) (i : Instr) → filled env next u i ≡ filled_at next (found_in env u) i
 unfolding filled
 filled_found env next u i = go u.displacement u.immediate u.target
   where

@@ -1,7 +1,7 @@
 -- Instructions with the addresses of their labels. Source: own.
 use Rattle.std.specs.Prelude.{ℕ, ◌<◌, ◌^◌, List, Option, Some, None, IfSome}
 use Rattle.cet_isa.specs.declared.instructions.Instr.{Instr}
-use Rattle.cet_syntax.specs.Instructions.{Uses}
+use Rattle.cet_syntax.specs.Instructions.{Fixups}
 use Rattle.cet_asm.specs.Layout.{with_memory, with_immediate, with_target, placed_mem, distance}
 use Rattle.cet_asm.specs.declared.filling.Found.{Found}
 
@@ -20,7 +20,7 @@ abbrev pub address_for : (List ℕ → ℕ) → Option (List ℕ) → Option ℕ
 address_for env None = None
 address_for env (Some name) = Some (env name)
 
-abbrev pub found_in : (List ℕ → ℕ) → Uses → Found
+abbrev pub found_in : (List ℕ → ℕ) → Fixups → Found
 found_in env u = record { displacement = address_for env u.displacement; immediate = address_for env u.immediate; target = address_for env u.target }
 
 -- each fits a signed number of 32 bits

@@ -9,7 +9,7 @@ use Rattle.cet_isa.specs.declared.instructions.Instr.TheVariants as instrs
 use Rattle.cet_isa.specs.declared.instructions.Mem.{Mem}
 use Rattle.cet_isa.specs.declared.instructions.Operand.{Operand}
 use Rattle.cet_isa.specs.declared.instructions.Operand.TheVariants as operands
-use Rattle.cet_syntax.specs.Instructions.{Uses}
+use Rattle.cet_syntax.specs.Instructions.{Fixups}
 use Rattle.cet_syntax.specs.Line.{Statement, TextSection, DataSection, Zero, Values, Quads, Code}
 use Rattle.cet_asm.specs.declared.sections.Section.{Section}
 use Rattle.cet_asm.specs.declared.sections.Section.TheVariants as sections
@@ -83,7 +83,7 @@ on_label env None f i = i
 on_label env (Some name) f i = f (env name) i
 
 -- the instruction with the addresses of its labels, the next one standing at `next`
-unfoldable pub filled : (List ℕ → ℕ) → ℕ → Uses → Instr → Instr
+unfoldable pub filled : (List ℕ → ℕ) → ℕ → Fixups → Instr → Instr
 filled env next u i =
     on_label env u.target (λ a. with_target (distance next a))
     (on_label env u.immediate with_immediate
@@ -96,7 +96,7 @@ abbrev pub text_start : ℕ
 text_start = 0x401000
 
 -- the size of an instruction, which is the same wherever its labels are; a short jump has two bytes
-abbrev pub code_size : Instr → Uses → ℕ
+abbrev pub code_size : Instr → Fixups → ℕ
 code_size i u = go u.short
   where
     go : Option (List ℕ) → ℕ

@@ -9,7 +9,7 @@ use Rattle.cet_isa.specs.Canonical.{canonical_spelling, fits_byte, one_byte}
 use Rattle.cet_isa.specs.Code.{cond_number}
 use Rattle.cet_isa.specs.declared.instructions.Instr.{Instr}
 use Rattle.cet_isa.specs.declared.instructions.Instr.TheVariants as instrs
-use Rattle.cet_syntax.specs.Instructions.{Uses}
+use Rattle.cet_syntax.specs.Instructions.{Fixups}
 use Rattle.cet_syntax.specs.Line.{Item, Known, Named, Statement, Broken, Mark, Zero, Values, Quads, Code, Line, line_of}
 use Rattle.cet_asm.specs.Layout.{filled, text_start, size_of, is_too_long, after, symbol_of, start, address_of, distance}
 use Rattle.cet_asm.specs.declared.program.Program.{Program}
@@ -97,12 +97,12 @@ abbrev pub knows_item : Symbols → Item → Bool
 knows_item w (Known n) = true
 knows_item w (Named name) = is_some (label_address w name)
 
-abbrev pub knows_uses : Symbols → Uses → Bool
-knows_uses w u = knows w u.displacement && (knows w u.immediate && (knows w u.target && knows w u.short))
+abbrev pub knows_fixups : Symbols → Fixups → Bool
+knows_fixups w u = knows w u.displacement && (knows w u.immediate && (knows w u.target && knows w u.short))
 
 -- whether all labels that a line uses are defined
 unfoldable pub knows_all : Symbols → Statement → Bool
-knows_all w (Code i u) = knows_uses w u
+knows_all w (Code i u) = knows_fixups w u
 knows_all w (Quads items) = list_all (knows_item w) items
 knows_all w s = true
 
@@ -175,7 +175,7 @@ abbrev pub short_opcode : Instr → ℕ
 short_opcode (instrs.Jcc cond d) = 0x70 + cond_number cond
 short_opcode i = 0xeb
 
-abbrev pub code_bytes : Symbols → LocationCounter → Instr → Uses → List ℕ
+abbrev pub code_bytes : Symbols → LocationCounter → Instr → Fixups → List ℕ
 code_bytes w h i u = go u.short
   where
     go : Option (List ℕ) → List ℕ

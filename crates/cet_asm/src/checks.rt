@@ -8,7 +8,7 @@ ghost use Rattle.cet_asm.specs.Passes.{IsWithin};
 ghost use Rattle.cet_asm.specs.Places.{symbols_view, IsSmall};
 
 use crate::filling::distance;
-use crate::labels::{Labels, knows_items, knows_uses, symbol_address};
+use crate::labels::{Labels, knows_fixups, knows_items, symbol_address};
 use crate::layout::{address_of, is_too_long, symbol_of};
 use crate::sections::LocationCounter;
 use cet_isa::fits_byte;
@@ -20,7 +20,7 @@ fn knows_all<'a>(labels: &Labels<'a>, statement: Statement<'a>) -> bool
     ensures { result ≡ knows_all (symbols_view labels.now) (statement_view statement.entry) }
 {
     match statement {
-        Statement::Code(_, uses) => knows_uses(labels, uses),
+        Statement::Code(_, fixups) => knows_fixups(labels, fixups),
         Statement::Quads(text) => knows_items(labels, text),
         _ => true,
     }
@@ -45,7 +45,7 @@ fn is_in_reach<'a>(labels: &Labels<'a>, here: LocationCounter, statement: Statem
     ensures { result ≡ is_in_reach (symbols_view labels.now) here (statement_view statement.entry) }
 {
     match statement {
-        Statement::Code(_, uses) => match uses.short {
+        Statement::Code(_, fixups) => match fixups.short {
             Some(name) => fits_byte(short_distance(labels, here, name)),
             None => true,
         },

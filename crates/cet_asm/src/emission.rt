@@ -9,7 +9,7 @@ ghost use Rattle.cet_syntax.specs.Tokens.{tokens};
 ghost use Rattle.cet_syntax.specs.Line.{Code, bytes_in, quads_in};
 ghost use Rattle.cet_asm.specs.Layout.{size_of, program_limit};
 ghost use Rattle.cet_asm.specs.Program.{item_bytes, short_opcode, short_distance, is_in_reach, code_bytes, bytes_of};
-ghost use Rattle.cet_syntax.specs.Views.{uses_view, statement_view, item_view, IsSpelledStatement};
+ghost use Rattle.cet_syntax.specs.Views.{fixups_view, statement_view, item_view, IsSpelledStatement};
 ghost use Rattle.cet_asm.specs.Passes.{IsWithin};
 ghost use Rattle.cet_asm.specs.Places.{symbols_view, IsSmall};
 
@@ -20,7 +20,7 @@ use crate::layout::{address_of, symbol_of};
 use crate::sections::LocationCounter;
 use crate::sizes::spell;
 use cet_isa::Instr;
-use cet_syntax::{Item, Statement, Uses, next_byte, next_quad};
+use cet_syntax::{Fixups, Item, Statement, next_byte, next_quad};
 use cet_words::{Bytes, NoMemory};
 use std::alloc::Global;
 
@@ -115,22 +115,22 @@ fn put_code<'a>(
     labels: &Labels<'a>,
     here: LocationCounter,
     instr: Instr,
-    uses: Uses<'a>,
+    fixups: Fixups<'a>,
     size: u128,
 ) -> Result<(), NoMemory>
     requires small { IsSmall (symbols_view labels.now) }
     requires within { IsWithin here }
     requires spelled { has_spelling instr ≡ true }
-    requires size { size ≡ size_of (Code instr (uses_view uses)) }
+    requires size { size ≡ size_of (Code instr (fixups_view fixups)) }
     requires short { size ≤ program_limit }
-    requires reach { is_in_reach (symbols_view labels.now) here (Code instr (uses_view uses)) ≡ true }
-    ensures { OnOk result (out.new ≡ out.old ++ code_bytes (symbols_view labels.now) here instr (uses_view uses.entry)) }
+    requires reach { is_in_reach (symbols_view labels.now) here (Code instr (fixups_view fixups)) ≡ true }
+    ensures { OnOk result (out.new ≡ out.old ++ code_bytes (symbols_view labels.now) here instr (fixups_view fixups.entry)) }
 {
-    match uses.short {
+    match fixups.short {
         Some(name) => put_short(alloc, out, labels, here, instr, name),
         None => {
             let next = address_of(labels.text_size, symbol_of(here)) + size as u64;
-            spell(alloc, out, filled(next, found_in(labels, uses), instr))
+            spell(alloc, out, filled(next, found_in(labels, fixups), instr))
         }
     }
 }
@@ -157,7 +157,7 @@ pub(crate) fn put_statement<'a>(
         Statement::Zero(count) => put_zeros(alloc, out, count),
         Statement::Values(text) => put_values(alloc, out, text),
         Statement::Quads(text) => put_quads(alloc, out, labels, text),
-        Statement::Code(instr, uses) => put_code(alloc, out, labels, here, instr, uses, size),
+        Statement::Code(instr, fixups) => put_code(alloc, out, labels, here, instr, fixups, size),
         _ => Ok(()),
     }
 }

@@ -4,8 +4,8 @@ ghost use Rattle.std.specs.Prelude.{◌≡◌, ◌<◌, ◌^◌, OnOk, IfOk, IfS
 ghost use Rattle.std.specs.List.{list_all};
 ghost use Rattle.cet_syntax.specs.Tokens.{tokens};
 ghost use Rattle.cet_syntax.specs.Line.{labels_of, quads_in};
-ghost use Rattle.cet_asm.specs.Program.{label_address, symbol_address, knows, knows_item, knows_uses};
-ghost use Rattle.cet_syntax.specs.Views.{name_view, uses_view, item_view};
+ghost use Rattle.cet_asm.specs.Program.{label_address, symbol_address, knows, knows_item, knows_fixups};
+ghost use Rattle.cet_syntax.specs.Views.{name_view, fixups_view, item_view};
 ghost use Rattle.cet_asm.specs.Filling.{address_for, found_in, AreSmall};
 ghost use Rattle.cet_asm.specs.Passes.{place_in, with_label, with_labels, has_one};
 ghost use Rattle.cet_asm.specs.Places.{symbols_view, IsSmall};
@@ -13,7 +13,7 @@ ghost use Rattle.cet_asm.specs.Places.{symbols_view, IsSmall};
 use crate::filling::Found;
 use crate::layout::{TEXT_START, address_of};
 use crate::sections::SymbolValue;
-use cet_syntax::{Item, Uses, next_label, next_quad};
+use cet_syntax::{Fixups, Item, next_label, next_quad};
 use cet_words::NoMemory;
 use std::alloc::Global;
 use std::collections::BTreeMap;
@@ -93,15 +93,15 @@ fn address_for<'a>(labels: &Labels<'a>, name: Option<&'a [u8]>) -> Option<u64>
 }
 
 /// The addresses of the labels that an instruction uses.
-pub(crate) fn found_in<'a>(labels: &Labels<'a>, uses: Uses<'a>) -> Found
+pub(crate) fn found_in<'a>(labels: &Labels<'a>, fixups: Fixups<'a>) -> Found
     requires { IsSmall (symbols_view labels.now) }
-    ensures found { result ≡ found_in (symbol_address (symbols_view labels.now)) (uses_view uses.entry) }
+    ensures found { result ≡ found_in (symbol_address (symbols_view labels.now)) (fixups_view fixups.entry) }
     ensures small { AreSmall result }
 {
     Found {
-        displacement: address_for(labels, uses.displacement),
-        immediate: address_for(labels, uses.immediate),
-        target: address_for(labels, uses.target),
+        displacement: address_for(labels, fixups.displacement),
+        immediate: address_for(labels, fixups.immediate),
+        target: address_for(labels, fixups.target),
     }
 }
 
@@ -141,12 +141,12 @@ pub(crate) fn knows_items<'a>(labels: &Labels<'a>, text: &'a [u8]) -> bool
 }
 
 /// Whether all labels that an instruction uses are defined.
-pub(crate) fn knows_uses<'a>(labels: &Labels<'a>, uses: Uses<'a>) -> bool
+pub(crate) fn knows_fixups<'a>(labels: &Labels<'a>, fixups: Fixups<'a>) -> bool
     requires { IsSmall (symbols_view labels.now) }
-    ensures { result ≡ knows_uses (symbols_view labels.now) (uses_view uses.entry) }
+    ensures { result ≡ knows_fixups (symbols_view labels.now) (fixups_view fixups.entry) }
 {
-    knows(labels, uses.displacement)
-        && knows(labels, uses.immediate)
-        && knows(labels, uses.target)
-        && knows(labels, uses.short)
+    knows(labels, fixups.displacement)
+        && knows(labels, fixups.immediate)
+        && knows(labels, fixups.target)
+        && knows(labels, fixups.short)
 }

@@ -21,14 +21,14 @@ use Rattle.cet_syntax.specs.declared.mnemonics.Mnemonic.TheVariants as words
 
 -- The labels whose addresses belong into an instruction: as displacement, where RIP is the base counted from the next
 -- instruction; as immediate; as target of a relative jump of four bytes, and of one byte.
-pub record Uses : Type 0 where
+pub record Fixups : Type 0 where
   pub displacement : Option (List ℕ)
   pub immediate : Option (List ℕ)
   pub target : Option (List ℕ)
   pub short : Option (List ℕ)
 
-abbrev pub no_uses : Uses
-no_uses = record { displacement = None; immediate = None; target = None; short = None }
+abbrev pub no_fixups : Fixups
+no_fixups = record { displacement = None; immediate = None; target = None; short = None }
 
 -- a number of a field, 0 for a label and for one that doesn't fit
 pub record Field : Type 0 where
@@ -108,15 +108,15 @@ common_size g h = None
 pub record Built : Type 0 where
   pub instr : Instr
   pub fits : Bool
-  pub uses : Uses
+  pub fixups : Fixups
 
 abbrev pub plain : Option Instr → Option Built
 plain None = None
-plain (Some i) = Some (record { instr = i; fits = true; uses = no_uses })
+plain (Some i) = Some (record { instr = i; fits = true; fixups = no_fixups })
 
 abbrev pub with_argument : Argument → Option Instr → Option Built
 with_argument x None = None
-with_argument x (Some i) = Some (record { instr = i; fits = x.fits; uses = record no_uses { displacement = x.displacement; immediate = x.immediate } })
+with_argument x (Some i) = Some (record { instr = i; fits = x.fits; fixups = record no_fixups { displacement = x.displacement; immediate = x.immediate } })
 
 -- two operands of one size
 unfoldable pub pair_instr : Mnemonic → Size → Operand → Operand → Option Instr
@@ -144,10 +144,10 @@ pair m g h = do
   with_argument (both x y) (pair_instr m size x.operand y.operand)
 
 abbrev pub wide_number : Reg → Option ℕ → Built
-wide_number r n = record { instr = instrs.MovWide r (unwrap_or n 0); fits = is_some n; uses = no_uses }
+wide_number r n = record { instr = instrs.MovWide r (unwrap_or n 0); fits = is_some n; fixups = no_fixups }
 
 abbrev pub wide_built : Reg → Place → Built
-wide_built r (Label name) = record { instr = instrs.MovWide r 0; fits = true; uses = record no_uses { immediate = Some name } }
+wide_built r (Label name) = record { instr = instrs.MovWide r 0; fits = true; fixups = record no_fixups { immediate = Some name } }
 wide_built r (Number value) = wide_number r (value >>= quad_field)
 
 unfoldable pub wide_move : Given → Given → Option Built
@@ -184,7 +184,7 @@ small_number count (Number value) = value >>= unsigned_field count
 
 abbrev pub with_fit : Bool → Option Instr → Option Built
 with_fit fits None = None
-with_fit fits (Some i) = Some (record { instr = i; fits = fits; uses = no_uses })
+with_fit fits (Some i) = Some (record { instr = i; fits = fits; fixups = no_fixups })
 
 unfoldable pub shift : Mnemonic → Given → Given → Option Built
 shift m (Register s r) Counter = plain (shift_instr m s r counts.Cl)
@@ -246,16 +246,16 @@ short_instr words.Jmp = Some (instrs.JmpRel (pos 0))
 short_instr (words.Jump c) = Some (instrs.Jcc c (pos 0))
 short_instr m = None
 
-abbrev pub with_uses : Uses → Option Instr → Option Built
-with_uses uses None = None
-with_uses uses (Some i) = Some (record { instr = i; fits = true; uses = uses })
+abbrev pub with_fixups : Fixups → Option Instr → Option Built
+with_fixups fixups None = None
+with_fixups fixups (Some i) = Some (record { instr = i; fits = true; fixups = fixups })
 
 abbrev pub with_field : Field → Option Instr → Option Built
 with_field f None = None
-with_field f (Some i) = Some (record { instr = i; fits = f.fits; uses = record no_uses { immediate = f.label } })
+with_field f (Some i) = Some (record { instr = i; fits = f.fits; fixups = record no_fixups { immediate = f.label } })
 
 abbrev pub label_target : Mnemonic → Place → Option Built
-label_target m (Label name) = with_uses (record no_uses { target = Some name }) (relative_instr m (pos 0))
+label_target m (Label name) = with_fixups (record no_fixups { target = Some name }) (relative_instr m (pos 0))
 label_target m (Number value) = None
 
 -- a number or label alone
@@ -269,7 +269,7 @@ one_operand m (Register s r) = plain (register_instr m s r)
 one_operand m (Memory a) = let f = disp_field a.disp in with_argument (memory_argument a) (memory_instr m (mem_of a f.value))
 one_operand m (Value p) = value_built m p
 one_operand m (Relative value) = let f = value_field sizes.Qword value in with_field f (relative_instr m f.value)
-one_operand m (Short name) = with_uses (record no_uses { short = Some name }) (short_instr m)
+one_operand m (Short name) = with_fixups (record no_fixups { short = Some name }) (short_instr m)
 one_operand m g = None
 
 abbrev pub alone : Mnemonic → Option Instr

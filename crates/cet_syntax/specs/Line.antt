@@ -12,7 +12,7 @@ use Rattle.cet_syntax.specs.Tokens.{front, behind, Token, tokens, ◌>>=◌}
 use Rattle.cet_syntax.specs.Words.{Place, Number, Label, is_label, unsigned_field, byte_field, quad_field}
 use Rattle.cet_syntax.specs.Operands.{Operands, One, Value, operands, is_list, items, listed}
 use Rattle.cet_syntax.specs.Mnemonics.{mnemonic_of, locked_mnemonic, untracked_mnemonic}
-use Rattle.cet_syntax.specs.Instructions.{Uses, Built, built}
+use Rattle.cet_syntax.specs.Instructions.{Fixups, Built, built}
 
 -- an item of `.quad`
 pub data Item : Type 0 where
@@ -30,7 +30,7 @@ pub data Statement : Type 0 where
   Zero : (count : ℕ) → Statement
   Values : (bytes : List ℕ) → Statement
   Quads : (items : List Item) → Statement
-  Code : Instr → Uses → Statement
+  Code : Instr → Fixups → Statement
 
 pub record Line : Type 0 where
   pub labels : List (List ℕ)
@@ -40,7 +40,7 @@ pub record Line : Type 0 where
 
 -- operands that the instruction doesn't have are tested before numbers that don't fit
 abbrev pub judged : Built → Statement
-judged b = if not (has_spelling b.instr) then Broken rules.Operand else if b.fits then Code b.instr b.uses else Broken rules.Number
+judged b = if not (has_spelling b.instr) then Broken rules.Operand else if b.fits then Code b.instr b.fixups else Broken rules.Number
 
 abbrev pub stated : Option Built → Statement
 stated None = Broken rules.Operand

@@ -16,7 +16,7 @@ use Rattle.cet_syntax.specs.declared.operands.Operands.TheVariants as operands_v
 use Rattle.cet_syntax.specs.declared.lists.ListKind as kind
 use Rattle.cet_syntax.specs.declared.lists.ListKind.TheVariants as kinds
 use Rattle.cet_syntax.specs.declared.mnemonics.Named as named
-use Rattle.cet_syntax.specs.declared.instructions.Uses as uses
+use Rattle.cet_syntax.specs.declared.instructions.Fixups as fixups
 use Rattle.cet_syntax.specs.declared.instructions.Field as field
 use Rattle.cet_syntax.specs.declared.instructions.Argument as argument
 use Rattle.cet_syntax.specs.declared.instructions.Built as built
@@ -27,7 +27,7 @@ use Rattle.cet_syntax.specs.Tokens.{Token, Word, Sign, Minus, tokens, word_first
 use Rattle.cet_syntax.specs.Words.{Place, Number, Label}
 use Rattle.cet_syntax.specs.Operands.{Address, Given, Register, Counter, Value, Memory, Dword, Byte, Relative, Short, Operands, Absent, One, Two}
 use Rattle.cet_syntax.specs.Mnemonics as mnemonics
-use Rattle.cet_syntax.specs.Instructions.{Uses, Field, Argument, Built}
+use Rattle.cet_syntax.specs.Instructions.{Fixups, Field, Argument, Built}
 use Rattle.cet_syntax.specs.Line.{Item, Known, Named, Statement, Nothing, Broken, TextSection, DataSection, Mark, Zero, Values, Quads, Code, Line, bytes_in, quads_in, is_byte, is_quad, labels_of}
 
 abbrev pub token_view : token.Token → Token
@@ -92,8 +92,8 @@ abbrev pub operands_option_view : Option operands.Operands → Option Operands
 operands_option_view None = None
 operands_option_view (Some o) = Some (operands_view o)
 
-abbrev pub uses_view : uses.Uses → Uses
-uses_view u = record { displacement = name_view u.displacement; immediate = name_view u.immediate; target = name_view u.target; short = name_view u.short }
+abbrev pub fixups_view : fixups.Fixups → Fixups
+fixups_view u = record { displacement = name_view u.displacement; immediate = name_view u.immediate; target = name_view u.target; short = name_view u.short }
 
 abbrev pub field_view : field.Field → Field
 field_view f = record { value = f.value; fits = f.fits; label = name_view f.label }
@@ -106,7 +106,7 @@ argument_option_view None = None
 argument_option_view (Some x) = Some (argument_view x)
 
 abbrev pub built_view : built.Built → Built
-built_view b = record { instr = b.instr; fits = b.fits; uses = uses_view b.uses }
+built_view b = record { instr = b.instr; fits = b.fits; fixups = fixups_view b.fixups }
 
 abbrev pub built_option_view : Option built.Built → Option Built
 built_option_view None = None
@@ -121,7 +121,7 @@ statement_view (statement_variants.Mark n) = Mark n
 statement_view (statement_variants.Zero n) = Zero n
 statement_view (statement_variants.Values text) = Values (bytes_in (tokens text.now))
 statement_view (statement_variants.Quads text) = Quads (quads_in (tokens text.now))
-statement_view (statement_variants.Code i u) = Code i (uses_view u)
+statement_view (statement_variants.Code i u) = Code i (fixups_view u)
 
 abbrev pub line_view : line.Line → Line
 line_view l = record { labels = labels_of l.labels.now; statement = statement_view l.statement }

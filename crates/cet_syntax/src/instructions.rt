@@ -3,7 +3,7 @@
 ghost use Rattle.std.specs.Prelude.{◌≡◌, ◌^◌};
 ghost use Rattle.cet_isa.specs.Spelled.{has_spelling, InstrFits};
 ghost use Rattle.cet_syntax.specs.Instructions.{
-  no_uses,
+  no_fixups,
   number_field,
   value_field,
   place_field,
@@ -38,7 +38,7 @@ ghost use Rattle.cet_syntax.specs.Instructions.{
   memory_instr,
   relative_instr,
   short_instr,
-  with_uses,
+  with_fixups,
   with_field,
   label_target,
   value_built,
@@ -53,7 +53,7 @@ ghost use Rattle.cet_syntax.specs.Views.{
   address_view,
   given_view,
   operands_view,
-  uses_view,
+  fixups_view,
   field_view,
   argument_view,
   argument_option_view,
@@ -70,7 +70,7 @@ use cet_isa::{Count, Instr, Mem, Operand, Reg, Size};
 /// The labels whose addresses belong into an instruction: as displacement, which counts from the next instruction
 /// where RIP is the base; as immediate; as target of a relative jump of four bytes, and of one byte.
 #[derive(Clone, Copy)]
-pub struct Uses<'a> {
+pub struct Fixups<'a> {
     pub displacement: Option<&'a [u8]>,
     pub immediate: Option<&'a [u8]>,
     pub target: Option<&'a [u8]>,
@@ -82,7 +82,7 @@ pub struct Uses<'a> {
 pub(crate) struct Built<'a> {
     pub instr: Instr,
     pub fits: bool,
-    pub uses: Uses<'a>,
+    pub fixups: Fixups<'a>,
 }
 
 /// A number of a field, 0 for a label and for one that doesn't fit.
@@ -102,10 +102,10 @@ struct Argument<'a> {
     immediate: Option<&'a [u8]>,
 }
 
-fn no_uses() -> Uses<'static>
-    ensures { uses_view result ≡ no_uses }
+fn no_fixups() -> Fixups<'static>
+    ensures { fixups_view result ≡ no_fixups }
 {
-    Uses {
+    Fixups {
         displacement: None,
         immediate: None,
         target: None,
@@ -257,7 +257,7 @@ fn plain(instr: Option<Instr>) -> Option<Built<'static>>
     Some(Built {
         instr: instr?,
         fits: true,
-        uses: no_uses(),
+        fixups: no_fixups(),
     })
 }
 
@@ -267,10 +267,10 @@ fn with_argument(argument: Argument, instr: Option<Instr>) -> Option<Built>
     Some(Built {
         instr: instr?,
         fits: argument.fits,
-        uses: Uses {
+        fixups: Fixups {
             displacement: argument.displacement,
             immediate: argument.immediate,
-            ..no_uses()
+            ..no_fixups()
         },
     })
 }
@@ -340,7 +340,7 @@ fn wide_number(dst: Reg, number: Option<u64>) -> Built<'static>
             value: number.unwrap_or(0),
         },
         fits: number.is_some(),
-        uses: no_uses(),
+        fixups: no_fixups(),
     }
 }
 
@@ -354,9 +354,9 @@ fn wide_built(dst: Reg, place: Place) -> Built
         Place::Label(name) => Built {
             instr: Instr::MovWide { dst, value: 0 },
             fits: true,
-            uses: Uses {
+            fixups: Fixups {
                 immediate: Some(name),
-                ..no_uses()
+                ..no_fixups()
             },
         },
     }
@@ -455,7 +455,7 @@ fn with_fit(fits: bool, instr: Option<Instr>) -> Option<Built<'static>>
     Some(Built {
         instr: instr?,
         fits,
-        uses: no_uses(),
+        fixups: no_fixups(),
     })
 }
 
@@ -583,13 +583,13 @@ fn short_instr(mnemonic: Mnemonic) -> Option<Instr>
     }
 }
 
-fn with_uses(uses: Uses, instr: Option<Instr>) -> Option<Built>
-    ensures { built_option_view result ≡ with_uses (uses_view uses.entry) instr }
+fn with_fixups(fixups: Fixups, instr: Option<Instr>) -> Option<Built>
+    ensures { built_option_view result ≡ with_fixups (fixups_view fixups.entry) instr }
 {
     Some(Built {
         instr: instr?,
         fits: true,
-        uses,
+        fixups,
     })
 }
 
@@ -599,9 +599,9 @@ fn with_field(field: Field, instr: Option<Instr>) -> Option<Built>
     Some(Built {
         instr: instr?,
         fits: field.fits,
-        uses: Uses {
+        fixups: Fixups {
             immediate: field.label,
-            ..no_uses()
+            ..no_fixups()
         },
     })
 }
@@ -611,11 +611,11 @@ fn label_target(mnemonic: Mnemonic, place: Place) -> Option<Built>
 {
     match place {
         Place::Label(name) => {
-            let uses = Uses {
+            let fixups = Fixups {
                 target: Some(name),
-                ..no_uses()
+                ..no_fixups()
             };
-            with_uses(uses, relative_instr(mnemonic, 0))
+            with_fixups(fixups, relative_instr(mnemonic, 0))
         }
         Place::Number(_) => None,
     }
@@ -667,11 +667,11 @@ fn one_operand(mnemonic: Mnemonic, given: Given) -> Option<Built>
             with_field(field, relative_instr(mnemonic, field.value))
         }
         Given::Short(name) => {
-            let uses = Uses {
+            let fixups = Fixups {
                 short: Some(name),
-                ..no_uses()
+                ..no_fixups()
             };
-            with_uses(uses, short_instr(mnemonic))
+            with_fixups(fixups, short_instr(mnemonic))
         }
         _ => None,
     }

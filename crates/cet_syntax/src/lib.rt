@@ -15,7 +15,7 @@ mod splitting;
 mod statements;
 mod tokens;
 
-pub use instructions::Uses;
+pub use instructions::Fixups;
 pub use lines::{Line, next_label, read_line};
 pub use lists::{next_byte, next_quad};
 pub use places::Item;

@@ -21,7 +21,7 @@ ghost use Rattle.cet_syntax.specs.Tokens.{tokens};
 ghost use Rattle.cet_syntax.specs.Views.{built_view, built_option_view, statement_view, IsSpelledStatement};
 
 use crate::classes::{Class, skip_class, split_class};
-use crate::instructions::{Built, Uses, build};
+use crate::instructions::{Built, Fixups, build};
 use crate::lists::{ListKind, list_fits};
 use crate::mnemonics::{Mnemonic, locked_mnemonic, mnemonic_of, untracked_mnemonic};
 use crate::names::is_word;
@@ -44,7 +44,7 @@ pub enum Statement<'a> {
     Zero(u64),
     Values(&'a [u8]),
     Quads(&'a [u8]),
-    Code(Instr, Uses<'a>),
+    Code(Instr, Fixups<'a>),
 }
 
 /// Operands that the instruction doesn't have are tested before numbers that don't fit.
@@ -55,7 +55,7 @@ fn judged(built: Built) -> Statement
     if !is_spelled(&built.instr) {
         Statement::Broken(Rule::Operand)
     } else if built.fits {
-        Statement::Code(built.instr, built.uses)
+        Statement::Code(built.instr, built.fixups)
     } else {
         Statement::Broken(Rule::Number)
     }

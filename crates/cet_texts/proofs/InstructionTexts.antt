@@ -19,7 +19,7 @@ use Rattle.cet_syntax.specs.Tokens.{◌>>=◌}
 use Rattle.cet_syntax.specs.Words.{Number}
 use Rattle.cet_syntax.specs.Operands as asm
 use Rattle.cet_syntax.specs.Operands.{Given, Register, Counter, Value, Memory, Byte, Relative, Operands, Absent, One, Two}
-use Rattle.cet_syntax.specs.Instructions.{no_uses, Argument, argument, common_size, Built, pair_instr, pair, wide_move, is_wide, any_move, zero_move, sign_move, shift_instr, shift, two_operands, register_instr, memory_instr, relative_instr, value_built, one_operand, built}
+use Rattle.cet_syntax.specs.Instructions.{no_fixups, Argument, argument, common_size, Built, pair_instr, pair, wide_move, is_wide, any_move, zero_move, sign_move, shift_instr, shift, two_operands, register_instr, memory_instr, relative_instr, value_built, one_operand, built}
 use Rattle.cet_syntax.specs.Line.{Code, judged, stated}
 use Rattle.cet_syntax.specs.declared.mnemonics.Mnemonic.{Mnemonic}
 use Rattle.cet_syntax.specs.declared.mnemonics.Mnemonic.TheVariants as words
@@ -30,14 +30,14 @@ use Rattle.cet_texts.proofs.GivenTexts.{value_ok, mem_plain, operand_plain, pair
 
 -- an instruction that is stated as it is
 abbrev pub clean_built : Instr → Built
-clean_built i = record { instr = i; fits = true; uses = no_uses }
+clean_built i = record { instr = i; fits = true; fixups = no_fixups }
 
 -- the pieces after a mnemonic that state an instruction
 pub record IsCode (m : Mnemonic) (ps : List text.Piece) (i : Instr) : Type 0 where
   pub plain : IsPlain ps
-  pub same : stated (asm.operands (tokens_of ps) >>= built m) ≡ Code i no_uses
+  pub same : stated (asm.operands (tokens_of ps) >>= built m) ≡ Code i no_fixups
 
-judged_clean : (i : Instr) → has_spelling i ≡ true → judged (clean_built i) ≡ Code i no_uses
+judged_clean : (i : Instr) → has_spelling i ≡ true → judged (clean_built i) ≡ Code i no_fixups
 judged_clean i h = rw h refl
 
 pub code_from : (m : Mnemonic) (ps : List text.Piece) (o : Operands) (i : Instr) → IsPlain ps → asm.operands (tokens_of ps) ≡ Some o

@@ -10,7 +10,7 @@ use Rattle.cet_syntax.specs.declared.classes.Class.{Class}
 use Rattle.cet_syntax.specs.declared.classes.Class.TheVariants.{Blank, Solid, NameByte, BeforeComment}
 use Rattle.cet_syntax.specs.Tokens.{is_name_byte, in_class, front, behind, Token, ◌>>=◌}
 use Rattle.cet_syntax.specs.Operands as asm
-use Rattle.cet_syntax.specs.Instructions.{no_uses, built}
+use Rattle.cet_syntax.specs.Instructions.{no_fixups, built}
 use Rattle.cet_syntax.specs.Line.{Statement, Line, Code, stated, instruction, skip_blanks, after_colon, begun, statement_of, first_label, line_of}
 use Rattle.cet_syntax.specs.declared.mnemonics.Mnemonic.{Mnemonic}
 use Rattle.cet_syntax.proofs.LineLaws.{label_none, after_none}
@@ -103,10 +103,10 @@ line_text bs h e = rw (text_utf8 bs h, no_comment bs h, label_none bs (sym e), a
 -- the pieces are those of a line that states the instruction
 pub record IsLine (ps : List text.Piece) (i : Instr) : Type 0 where
   pub plain : IsPlain ps
-  pub same : line_of (joined ps) ≡ (record { labels = []; statement = Code i no_uses })
+  pub same : line_of (joined ps) ≡ (record { labels = []; statement = Code i no_fixups })
 
 line_from : (w : List ℕ) (ps : List text.Piece) (i : Instr) → IsPlain (text.Word w ∷ ps) → IsRest (joined ps)
-    → begun w (joined ps) ≡ Code i no_uses → IsLine (text.Word w ∷ ps) i
+    → begun w (joined ps) ≡ Code i no_fixups → IsLine (text.Word w ∷ ps) i
 line_from w ps i p r e =
     let h = joined_text (text.Word w ∷ ps) p in
     let l : line_of (w ++ joined ps) ≡ (record { labels = []; statement = statement_of (w ++ joined ps) }) =
@@ -115,7 +115,7 @@ line_from w ps i p r e =
     record { plain = p; same = l ∙ ap f (begun_by w (joined ps) p.0 r ∙ e) }
 
 -- a mnemonic that stands alone
-pub alone_line : (w : List ℕ) (i : Instr) → is_word w ≡ true → begun w [] ≡ Code i no_uses → IsLine (text.Word w ∷ []) i
+pub alone_line : (w : List ℕ) (i : Instr) → is_word w ≡ true → begun w [] ≡ Code i no_fixups → IsLine (text.Word w ∷ []) i
 alone_line w i h e = line_from w [] i (h, refl, tt) rest_end e
 
 -- a word that is a mnemonic
@@ -124,7 +124,7 @@ pub record IsMnemonic (w : List ℕ) (m : Mnemonic) : Type 0 where
   pub begins : (bytes : List ℕ) → begun w bytes ≡ instruction (Some m) bytes
 
 stated_by : (m : Mnemonic) (ps : List text.Piece) (i : Instr) → IsCode m ps i
-    → instruction (Some m) (joined (text.Space ∷ ps)) ≡ Code i no_uses
+    → instruction (Some m) (joined (text.Space ∷ ps)) ≡ Code i no_fixups
 unfolding instruction
 stated_by m ps i c =
     ap (λ (ts : List Token). stated (asm.operands ts >>= built m)) (tokens_joined (text.Space ∷ ps) c.plain) ∙ c.same

@@ -8,7 +8,7 @@ use Rattle.cet_isa.specs.declared.instructions.Size.TheVariants as sizes
 use Rattle.cet_syntax.specs.Tokens.{tokens}
 use Rattle.cet_syntax.specs.Operands as asm
 use Rattle.cet_syntax.specs.Mnemonics.{plain_mnemonic, mnemonic_of, locked_mnemonic, untracked_mnemonic}
-use Rattle.cet_syntax.specs.Instructions.{no_uses, pair_instr, two_operands, shift, register_instr, memory_instr, relative_instr, built}
+use Rattle.cet_syntax.specs.Instructions.{no_fixups, pair_instr, two_operands, shift, register_instr, memory_instr, relative_instr, built}
 use Rattle.cet_syntax.specs.Line.{Code, instruction, begun, line_of}
 use Rattle.cet_syntax.specs.declared.mnemonics.Mnemonic.TheVariants as words
 use Rattle.cet_texts.proofs.PieceTokens.{onto_joined}
@@ -81,5 +81,5 @@ pieces_line (instrs.Wrssq mem reg) fits ok = named_line word.wrssq_word (store_c
 pieces_line (instrs.Wrussq mem reg) fits ok = named_line word.wrussq_word (store_code words.Wrussq mem reg _ fits ok refl refl ok)
 
 pub line_text_of : (i : Instr) → InstrFits i → has_spelling i ≡ true
-    → line_of (text.text_of i) ≡ (record { labels = []; statement = Code i no_uses })
+    → line_of (text.text_of i) ≡ (record { labels = []; statement = Code i no_fixups })
 line_text_of i fits ok = ap line_of (onto_joined [] (text.pieces i)) ∙ (pieces_line i fits ok).same
