@@ -15,7 +15,7 @@ ghost use Rattle.cet_asm.specs.Places.{symbols_view, IsSmall};
 
 use crate::checks::short_distance;
 use crate::filling::filled;
-use crate::labels::{Labels, found_in, symbol_address};
+use crate::labels::{Labels, resolved_in, symbol_address};
 use crate::layout::{address_of, symbol_of};
 use crate::sections::LocationCounter;
 use crate::sizes::spell;
@@ -130,7 +130,7 @@ fn put_code<'a>(
         Some(name) => put_short(alloc, out, labels, here, instr, name),
         None => {
             let next = address_of(labels.text_size, symbol_of(here)) + size as u64;
-            spell(alloc, out, filled(next, found_in(labels, fixups), instr))
+            spell(alloc, out, filled(next, resolved_in(labels, fixups), instr))
         }
     }
 }

@@ -8,7 +8,7 @@ use cet_isa::{Base, Instr, Mem, Operand};
 
 /// The addresses that an instruction uses: as displacement, as immediate, and as target of a relative jump of four bytes.
 #[derive(Clone, Copy)]
-pub(crate) struct Found {
+pub(crate) struct ResolvedFixups {
     pub displacement: Option<u64>,
     pub immediate: Option<u64>,
     pub target: Option<u64>,
@@ -154,11 +154,15 @@ fn on_target(next: u64, address: Option<u64>, instr: Instr) -> Instr
 }
 
 /// The instruction with these addresses, the next one standing at `next`.
-pub(crate) fn filled(next: u64, found: Found, instr: Instr) -> Instr
+pub(crate) fn filled(next: u64, resolved: ResolvedFixups, instr: Instr) -> Instr
     requires next { next < 2 ^ 31 }
-    requires found { AreSmall found }
-    ensures { result ≡ filled_at next found instr }
+    requires resolved { AreSmall resolved }
+    ensures { result ≡ filled_at next resolved instr }
 {
-    let placed = on_displacement(next, found.displacement, instr);
-    on_target(next, found.target, on_immediate(found.immediate, placed))
+    let placed = on_displacement(next, resolved.displacement, instr);
+    on_target(
+        next,
+        resolved.target,
+        on_immediate(resolved.immediate, placed),
+    )
 }

@@ -6,11 +6,11 @@ ghost use Rattle.cet_syntax.specs.Tokens.{tokens};
 ghost use Rattle.cet_syntax.specs.Line.{labels_of, quads_in};
 ghost use Rattle.cet_asm.specs.Program.{label_address, symbol_address, knows, knows_item, knows_fixups};
 ghost use Rattle.cet_syntax.specs.Views.{name_view, fixups_view, item_view};
-ghost use Rattle.cet_asm.specs.Filling.{address_for, found_in, AreSmall};
+ghost use Rattle.cet_asm.specs.Filling.{address_for, resolved_in, AreSmall};
 ghost use Rattle.cet_asm.specs.Passes.{place_in, with_label, with_labels, has_one};
 ghost use Rattle.cet_asm.specs.Places.{symbols_view, IsSmall};
 
-use crate::filling::Found;
+use crate::filling::ResolvedFixups;
 use crate::layout::{TEXT_START, address_of};
 use crate::sections::SymbolValue;
 use cet_syntax::{Fixups, Item, next_label, next_quad};
@@ -93,12 +93,12 @@ fn address_for<'a>(labels: &Labels<'a>, name: Option<&'a [u8]>) -> Option<u64>
 }
 
 /// The addresses of the labels that an instruction uses.
-pub(crate) fn found_in<'a>(labels: &Labels<'a>, fixups: Fixups<'a>) -> Found
+pub(crate) fn resolved_in<'a>(labels: &Labels<'a>, fixups: Fixups<'a>) -> ResolvedFixups
     requires { IsSmall (symbols_view labels.now) }
-    ensures found { result ≡ found_in (symbol_address (symbols_view labels.now)) (fixups_view fixups.entry) }
+    ensures resolved { result ≡ resolved_in (symbol_address (symbols_view labels.now)) (fixups_view fixups.entry) }
     ensures small { AreSmall result }
 {
-    Found {
+    ResolvedFixups {
         displacement: address_for(labels, fixups.displacement),
         immediate: address_for(labels, fixups.immediate),
         target: address_for(labels, fixups.target),

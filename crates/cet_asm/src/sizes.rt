@@ -7,9 +7,9 @@ ghost use Rattle.cet_syntax.specs.Tokens.{tokens};
 ghost use Rattle.cet_syntax.specs.Line.{bytes_in, quads_in};
 ghost use Rattle.cet_asm.specs.Layout.{code_size, size_of, text_start};
 ghost use Rattle.cet_syntax.specs.Views.{name_view, fixups_view, statement_view, IsSpelledStatement};
-ghost use Rattle.cet_asm.specs.Filling.{address_for, found_in, AreSmall};
+ghost use Rattle.cet_asm.specs.Filling.{address_for, resolved_in, AreSmall};
 
-use crate::filling::{Found, filled};
+use crate::filling::{ResolvedFixups, filled};
 use crate::layout::TEXT_START;
 use cet_encode::encode;
 use cet_isa::Instr;
@@ -52,11 +52,11 @@ fn nominal(name: Option<&[u8]>) -> Option<u64>
 }
 
 /// Addresses that have the sizes of all addresses of a program.
-fn nominal_addresses(fixups: Fixups) -> Found
-    ensures found { result ≡ found_in (λ name. text_start) (fixups_view fixups.entry) }
+fn nominal_addresses(fixups: Fixups) -> ResolvedFixups
+    ensures resolved { result ≡ resolved_in (λ name. text_start) (fixups_view fixups.entry) }
     ensures small { AreSmall result }
 {
-    Found {
+    ResolvedFixups {
         displacement: nominal(fixups.displacement),
         immediate: nominal(fixups.immediate),
         target: nominal(fixups.target),
