@@ -13,7 +13,7 @@ use Rattle.cet_isa.specs.declared.instructions.Size.{Size}
 use Rattle.cet_isa.specs.declared.instructions.Size.TheVariants as sizes
 use Rattle.cet_syntax.specs.Tokens.{◌>>=◌}
 use Rattle.cet_syntax.specs.Words.{Place, Number, Label, dword_holds, immediate_field, unsigned_field, quad_field}
-use Rattle.cet_syntax.specs.Operands.{Address, Given, Register, Counter, Value, Memory, Dword, Byte, Relative, Short, Operands, Absent, One, Two}
+use Rattle.cet_syntax.specs.Operands.{Address, ParsedOperand, Register, Counter, Value, Memory, Dword, Byte, Relative, Short, Operands, Absent, One, Two}
 use Rattle.cet_syntax.specs.declared.mnemonics.Mnemonic.{Mnemonic}
 use Rattle.cet_syntax.specs.declared.mnemonics.Mnemonic.TheVariants as words
 
@@ -80,7 +80,7 @@ value_argument size p =
     record { operand = operands.Imm f.value; fits = f.fits; displacement = None; immediate = f.label }
 
 -- a register, memory or a number
-abbrev pub argument : Size → Given → Option Argument
+abbrev pub argument : Size → ParsedOperand → Option Argument
 argument size (Register s r) = Some (register_argument r)
 argument size (Memory a) = Some (memory_argument a)
 argument size (Dword a) = Some (memory_argument a)
@@ -93,7 +93,7 @@ same_size sizes.Qword sizes.Qword = true
 same_size s t = false
 
 -- the size of two operands: that of the registers, else 32 bits after `dword`, else 64 bits
-unfoldable pub common_size : Given → Given → Option Size
+unfoldable pub common_size : ParsedOperand → ParsedOperand → Option Size
 common_size (Register s d) (Register t r) = if same_size s t then Some s else None
 common_size (Register s d) (Memory a) = Some s
 common_size (Register s d) (Value p) = Some s
@@ -136,7 +136,7 @@ pair_instr m size dst src = None
 abbrev pub both : Argument → Argument → Argument
 both x y = record { operand = y.operand; fits = x.fits && y.fits; displacement = option_or x.displacement y.displacement; immediate = y.immediate }
 
-unfoldable pub pair : Mnemonic → Given → Given → Option Built
+unfoldable pub pair : Mnemonic → ParsedOperand → ParsedOperand → Option Built
 pair m g h = do
   size ← common_size g h
   x ← argument size g
@@ -150,23 +150,23 @@ abbrev pub wide_built : Reg → Place → Built
 wide_built r (Label name) = record { instr = instrs.MovWide r 0; fits = true; fixups = record no_fixups { immediate = Some name } }
 wide_built r (Number value) = wide_number r (value >>= quad_field)
 
-unfoldable pub wide_move : Given → Given → Option Built
+unfoldable pub wide_move : ParsedOperand → ParsedOperand → Option Built
 wide_move (Register sizes.Qword r) (Value p) = Some (wide_built r p)
 wide_move g h = None
 
 -- whether a number to a 64-bit register is longer than 32 bits
-abbrev pub is_wide : Given → Given → Bool
+abbrev pub is_wide : ParsedOperand → ParsedOperand → Bool
 is_wide (Register sizes.Qword r) (Value (Number (Some z))) = not (dword_holds z)
 is_wide g h = false
 
-unfoldable pub any_move : Given → Given → Option Built
+unfoldable pub any_move : ParsedOperand → ParsedOperand → Option Built
 any_move g h = if is_wide g h then wide_move g h else pair words.Mov g h
 
-unfoldable pub zero_move : Given → Given → Option Built
+unfoldable pub zero_move : ParsedOperand → ParsedOperand → Option Built
 zero_move (Register s r) (Byte a) = let f = disp_field a.disp in with_argument (memory_argument a) (Some (instrs.MovZero8 r (mem_of a f.value)))
 zero_move g h = None
 
-unfoldable pub sign_move : Given → Given → Option Built
+unfoldable pub sign_move : ParsedOperand → ParsedOperand → Option Built
 sign_move (Register sizes.Qword d) (Register sizes.Dword r) = plain (Some (instrs.MovSign32 d (operands.Reg r)))
 sign_move (Register sizes.Qword d) (Memory a) = let x = memory_argument a in with_argument x (Some (instrs.MovSign32 d x.operand))
 sign_move g h = None
@@ -186,12 +186,12 @@ abbrev pub with_fit : Bool → Option Instr → Option Built
 with_fit fits None = None
 with_fit fits (Some i) = Some (record { instr = i; fits = fits; fixups = no_fixups })
 
-unfoldable pub shift : Mnemonic → Given → Given → Option Built
+unfoldable pub shift : Mnemonic → ParsedOperand → ParsedOperand → Option Built
 shift m (Register s r) Counter = plain (shift_instr m s r counts.Cl)
 shift m (Register s r) (Value p) = let n = small_number (2 ^ 8) p in with_fit (is_some n) (shift_instr m s r (counts.Number (unwrap_or n 0)))
 shift m g h = None
 
-unfoldable pub two_operands : Mnemonic → Given → Given → Option Built
+unfoldable pub two_operands : Mnemonic → ParsedOperand → ParsedOperand → Option Built
 two_operands words.Mov g h = any_move g h
 two_operands words.Movabs g h = wide_move g h
 two_operands words.Movzx g h = zero_move g h
@@ -264,7 +264,7 @@ value_built words.Push p = let f = place_field sizes.Qword p in with_field f (So
 value_built words.Ret p = let n = small_number (2 ^ 16) p in with_fit (is_some n) (Some (instrs.RetImm (unwrap_or n 0)))
 value_built m p = label_target m p
 
-unfoldable pub one_operand : Mnemonic → Given → Option Built
+unfoldable pub one_operand : Mnemonic → ParsedOperand → Option Built
 one_operand m (Register s r) = plain (register_instr m s r)
 one_operand m (Memory a) = let f = disp_field a.disp in with_argument (memory_argument a) (memory_instr m (mem_of a f.value))
 one_operand m (Value p) = value_built m p

@@ -130,95 +130,95 @@ memory ts = do
 -- ---- operands
 
 -- `Dword` and `Byte` are memory after that word, `Relative` a number after `rel`, `Short` a label after `short`.
-pub data Given : Type 0 where
-  Register : Size → Reg → Given
-  Counter : Given
-  Value : Place → Given
-  Memory : Address → Given
-  Dword : Address → Given
-  Byte : Address → Given
-  Relative : (value : Option ℤ) → Given
-  Short : (name : List ℕ) → Given
+pub data ParsedOperand : Type 0 where
+  Register : Size → Reg → ParsedOperand
+  Counter : ParsedOperand
+  Value : Place → ParsedOperand
+  Memory : Address → ParsedOperand
+  Dword : Address → ParsedOperand
+  Byte : Address → ParsedOperand
+  Relative : (value : Option ℤ) → ParsedOperand
+  Short : (name : List ℕ) → ParsedOperand
 
-abbrev pub value_given : Option Place → Option Given
-value_given None = None
-value_given (Some p) = Some (Value p)
+abbrev pub value_parsed : Option Place → Option ParsedOperand
+value_parsed None = None
+value_parsed (Some p) = Some (Value p)
 
 -- a word by itself
-unfoldable pub word_given : List ℕ → Option Given
-word_given w = if is_counter w then Some Counter else go (register_of w)
+unfoldable pub word_parsed : List ℕ → Option ParsedOperand
+word_parsed w = if is_counter w then Some Counter else go (register_of w)
   where
-    go : Option (Size × Reg) → Option Given
+    go : Option (Size × Reg) → Option ParsedOperand
     go (Some x) = Some (Register x.0 x.1)
-    go None = value_given (word_place w)
+    go None = value_parsed (word_place w)
 
-abbrev pub followed : Option Given → List Token → Option (Given × List Token)
+abbrev pub followed : Option ParsedOperand → List Token → Option (ParsedOperand × List Token)
 followed None ts = None
 followed (Some g) ts = Some (g, ts)
 
 -- memory after a word
-unfoldable pub sized_given : List ℕ → List Token → Option (Given × List Token)
-sized_given w ts = do
+unfoldable pub sized_parsed : List ℕ → List Token → Option (ParsedOperand × List Token)
+sized_parsed w ts = do
   m ← memory ts
   if bytes_eq w (codes "dword") then Some (Dword m.0, m.1) else if bytes_eq w (codes "byte") then Some (Byte m.0, m.1) else None
 
-abbrev pub relative_given : Option Place → Option Given
-relative_given (Some (Number value)) = Some (Relative value)
-relative_given p = None
+abbrev pub relative_parsed : Option Place → Option ParsedOperand
+relative_parsed (Some (Number value)) = Some (Relative value)
+relative_parsed p = None
 
 -- a word after another
-unfoldable pub second_given : List ℕ → List ℕ → Option Given
-second_given w v =
-    if bytes_eq w (codes "rel") then relative_given (number_place false v)
+unfoldable pub second_parsed : List ℕ → List ℕ → Option ParsedOperand
+second_parsed w v =
+    if bytes_eq w (codes "rel") then relative_parsed (number_place false v)
     else if bytes_eq w (codes "short") then (if is_label v then Some (Short v) else None)
     else None
 
 -- `-` and a word after a word
-unfoldable pub minus_given : List ℕ → List ℕ → Option Given
-minus_given w v = if bytes_eq w (codes "rel") then relative_given (number_place true v) else None
+unfoldable pub minus_parsed : List ℕ → List ℕ → Option ParsedOperand
+minus_parsed w v = if bytes_eq w (codes "rel") then relative_parsed (number_place true v) else None
 
 -- the same, with what follows it
-abbrev pub minus_worded : List ℕ → List Token → Option (Given × List Token)
-minus_worded w (Word v ∷ ts) = followed (minus_given w v) ts
+abbrev pub minus_worded : List ℕ → List Token → Option (ParsedOperand × List Token)
+minus_worded w (Word v ∷ ts) = followed (minus_parsed w v) ts
 minus_worded w ts = None
 
 -- an operand that begins by the word, with what follows it
-unfoldable pub worded : List ℕ → List Token → Option (Given × List Token)
-worded w [] = followed (word_given w) []
-worded w (Sign s ∷ ts) = if s == 91 then sized_given w ts else followed (word_given w) (Sign s ∷ ts)
-worded w (Word v ∷ ts) = followed (second_given w v) ts
+unfoldable pub worded : List ℕ → List Token → Option (ParsedOperand × List Token)
+worded w [] = followed (word_parsed w) []
+worded w (Sign s ∷ ts) = if s == 91 then sized_parsed w ts else followed (word_parsed w) (Sign s ∷ ts)
+worded w (Word v ∷ ts) = followed (second_parsed w v) ts
 worded w (Minus ∷ ts) = minus_worded w ts
 
-abbrev pub memory_given : Option (Address × List Token) → Option (Given × List Token)
-memory_given None = None
-memory_given (Some m) = Some (Memory m.0, m.1)
+abbrev pub memory_parsed : Option (Address × List Token) → Option (ParsedOperand × List Token)
+memory_parsed None = None
+memory_parsed (Some m) = Some (Memory m.0, m.1)
 
 -- a number after its `-`, with what follows it
-abbrev pub negative_given : List Token → Option (Given × List Token)
-negative_given (Word w ∷ ts) = followed (value_given (number_place true w)) ts
-negative_given ts = None
+abbrev pub negative_parsed : List Token → Option (ParsedOperand × List Token)
+negative_parsed (Word w ∷ ts) = followed (value_parsed (number_place true w)) ts
+negative_parsed ts = None
 
 -- an operand, with what follows it
-unfoldable pub given : List Token → Option (Given × List Token)
-given (Word w ∷ ts) = worded w ts
-given (Sign s ∷ ts) = if s == 91 then memory_given (memory ts) else None
-given (Minus ∷ ts) = negative_given ts
-given [] = None
+unfoldable pub parsed : List Token → Option (ParsedOperand × List Token)
+parsed (Word w ∷ ts) = worded w ts
+parsed (Sign s ∷ ts) = if s == 91 then memory_parsed (memory ts) else None
+parsed (Minus ∷ ts) = negative_parsed ts
+parsed [] = None
 
 pub data Operands : Type 0 where
   Absent : Operands
-  One : Given → Operands
-  Two : Given → Given → Operands
+  One : ParsedOperand → Operands
+  Two : ParsedOperand → ParsedOperand → Operands
 
-abbrev pub ended : Given → Given → List Token → Option Operands
+abbrev pub ended : ParsedOperand → ParsedOperand → List Token → Option Operands
 ended g h [] = Some (Two g h)
 ended g h ts = None
 
 -- the second operand, which ends the line
-unfoldable pub second : Given → List Token → Option Operands
-second g ts = given ts >>= (λ o. ended g o.0 o.1)
+unfoldable pub second : ParsedOperand → List Token → Option Operands
+second g ts = parsed ts >>= (λ o. ended g o.0 o.1)
 
-unfoldable pub after_first : Given → List Token → Option Operands
+unfoldable pub after_first : ParsedOperand → List Token → Option Operands
 after_first g [] = Some (One g)
 after_first g (Sign s ∷ ts) = if s == 44 then second g ts else None
 after_first g ts = None
@@ -226,7 +226,7 @@ after_first g ts = None
 -- at most two, with a comma between them; None is a bad operand
 unfoldable pub operands : List Token → Option Operands
 operands [] = Some Absent
-operands ts = given ts >>= (λ o. after_first o.0 o.1)
+operands ts = parsed ts >>= (λ o. after_first o.0 o.1)
 
 -- ---- lists
 

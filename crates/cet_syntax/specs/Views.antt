@@ -9,8 +9,8 @@ use Rattle.cet_syntax.specs.declared.places.Place.TheVariants as place_variants
 use Rattle.cet_syntax.specs.declared.places.Item as item
 use Rattle.cet_syntax.specs.declared.places.Item.TheVariants as item_variants
 use Rattle.cet_syntax.specs.declared.addresses.Address as address
-use Rattle.cet_syntax.specs.declared.operands.Given as given
-use Rattle.cet_syntax.specs.declared.operands.Given.TheVariants as given_variants
+use Rattle.cet_syntax.specs.declared.operands.ParsedOperand as parsed
+use Rattle.cet_syntax.specs.declared.operands.ParsedOperand.TheVariants as parsed_variants
 use Rattle.cet_syntax.specs.declared.operands.Operands as operands
 use Rattle.cet_syntax.specs.declared.operands.Operands.TheVariants as operands_variants
 use Rattle.cet_syntax.specs.declared.lists.ListKind as kind
@@ -25,7 +25,7 @@ use Rattle.cet_syntax.specs.declared.statements.Statement.TheVariants as stateme
 use Rattle.cet_syntax.specs.declared.lines.Line as line
 use Rattle.cet_syntax.specs.Tokens.{Token, Word, Sign, Minus, tokens, word_first, sign_first}
 use Rattle.cet_syntax.specs.Words.{Place, Number, Label}
-use Rattle.cet_syntax.specs.Operands.{Address, Given, Register, Counter, Value, Memory, Dword, Byte, Relative, Short, Operands, Absent, One, Two}
+use Rattle.cet_syntax.specs.Operands.{Address, ParsedOperand, Register, Counter, Value, Memory, Dword, Byte, Relative, Short, Operands, Absent, One, Two}
 use Rattle.cet_syntax.specs.Mnemonics as mnemonics
 use Rattle.cet_syntax.specs.Instructions.{Fixups, Field, Argument, Built}
 use Rattle.cet_syntax.specs.Line.{Item, Known, Named, Statement, Nothing, Broken, TextSection, DataSection, Mark, Zero, Values, Quads, Code, Line, bytes_in, quads_in, is_byte, is_quad, labels_of}
@@ -62,28 +62,28 @@ abbrev pub part_view : Option (address.Address × Bor (List ℕ)) → Option (Ad
 part_view None = None
 part_view (Some x) = Some (address_view x.0, tokens x.1.now)
 
-abbrev pub given_view : given.Given → Given
-given_view (given_variants.Register size r) = Register size r
-given_view given_variants.Counter = Counter
-given_view (given_variants.Value p) = Value (place_view p)
-given_view (given_variants.Memory a) = Memory (address_view a)
-given_view (given_variants.Dword a) = Dword (address_view a)
-given_view (given_variants.Byte a) = Byte (address_view a)
-given_view (given_variants.Relative value) = Relative value
-given_view (given_variants.Short name) = Short name.now
+abbrev pub parsed_view : parsed.ParsedOperand → ParsedOperand
+parsed_view (parsed_variants.Register size r) = Register size r
+parsed_view parsed_variants.Counter = Counter
+parsed_view (parsed_variants.Value p) = Value (place_view p)
+parsed_view (parsed_variants.Memory a) = Memory (address_view a)
+parsed_view (parsed_variants.Dword a) = Dword (address_view a)
+parsed_view (parsed_variants.Byte a) = Byte (address_view a)
+parsed_view (parsed_variants.Relative value) = Relative value
+parsed_view (parsed_variants.Short name) = Short name.now
 
-abbrev pub given_option_view : Option given.Given → Option Given
-given_option_view None = None
-given_option_view (Some g) = Some (given_view g)
+abbrev pub parsed_option_view : Option parsed.ParsedOperand → Option ParsedOperand
+parsed_option_view None = None
+parsed_option_view (Some g) = Some (parsed_view g)
 
-abbrev pub operand_view : Option (given.Given × Bor (List ℕ)) → Option (Given × List Token)
+abbrev pub operand_view : Option (parsed.ParsedOperand × Bor (List ℕ)) → Option (ParsedOperand × List Token)
 operand_view None = None
-operand_view (Some x) = Some (given_view x.0, tokens x.1.now)
+operand_view (Some x) = Some (parsed_view x.0, tokens x.1.now)
 
 abbrev pub operands_view : operands.Operands → Operands
 operands_view operands_variants.Absent = Absent
-operands_view (operands_variants.One g) = One (given_view g)
-operands_view (operands_variants.Two g h) = Two (given_view g) (given_view h)
+operands_view (operands_variants.One g) = One (parsed_view g)
+operands_view (operands_variants.Two g h) = Two (parsed_view g) (parsed_view h)
 
 abbrev pub named_view : named.Named → mnemonics.Named
 named_view n = record { name = n.name.now; mnemonic = n.mnemonic }

@@ -51,7 +51,7 @@ ghost use Rattle.cet_syntax.specs.Views.{
   place_view,
   disp_view,
   address_view,
-  given_view,
+  parsed_view,
   operands_view,
   fixups_view,
   field_view,
@@ -63,7 +63,7 @@ ghost use Rattle.cet_syntax.specs.Views.{
 
 use crate::addresses::Address;
 use crate::mnemonics::Mnemonic;
-use crate::operands::{Given, Operands};
+use crate::operands::{Operands, ParsedOperand};
 use crate::places::{Place, byte_number, immediate_field, quad_field, word_number};
 use cet_isa::{Count, Instr, Mem, Operand, Reg, Size};
 
@@ -209,14 +209,14 @@ fn value_argument(size: Size, place: Place) -> Argument
 }
 
 /// A register, memory or a number.
-fn make_argument(size: Size, given: Given) -> Option<Argument>
-    ensures { argument_option_view result ≡ argument size (given_view given.entry) }
+fn make_argument(size: Size, parsed: ParsedOperand) -> Option<Argument>
+    ensures { argument_option_view result ≡ argument size (parsed_view parsed.entry) }
 {
-    match given {
-        Given::Register(_, reg) => Some(register_argument(reg)),
-        Given::Memory(address) => Some(memory_argument(address)),
-        Given::Dword(address) => Some(memory_argument(address)),
-        Given::Value(place) => Some(value_argument(size, place)),
+    match parsed {
+        ParsedOperand::Register(_, reg) => Some(register_argument(reg)),
+        ParsedOperand::Memory(address) => Some(memory_argument(address)),
+        ParsedOperand::Dword(address) => Some(memory_argument(address)),
+        ParsedOperand::Value(place) => Some(value_argument(size, place)),
         _ => None,
     }
 }
@@ -232,21 +232,22 @@ fn same_size(first: Size, second: Size) -> bool
 
 /// The size of two operands: that of the registers, else 32 bits after `dword`, else 64 bits.
 #[tactic(auto, unfolding(crate::specs::Instructions::common_size))]
-fn common_size(first: Given, second: Given) -> Option<Size>
-    ensures { result ≡ common_size (given_view first.entry) (given_view second.entry) }
+fn common_size(first: ParsedOperand, second: ParsedOperand) -> Option<Size>
+    ensures { result ≡ common_size (parsed_view first.entry) (parsed_view second.entry) }
 {
     match (first, second) {
-        (Given::Register(size, _), Given::Register(other, _)) => {
+        (ParsedOperand::Register(size, _), ParsedOperand::Register(other, _)) => {
             if same_size(size, other) {
                 Some(size)
             } else {
                 None
             }
         }
-        (Given::Register(size, _), Given::Memory(_) | Given::Value(_)) => Some(size),
-        (Given::Memory(_), Given::Register(size, _)) => Some(size),
-        (Given::Memory(_), Given::Value(_)) => Some(Size::Qword),
-        (Given::Dword(_), Given::Value(_)) => Some(Size::Dword),
+        (ParsedOperand::Register(size, _), ParsedOperand::Memory(_) | ParsedOperand::Value(_)) =>
+            Some(size),
+        (ParsedOperand::Memory(_), ParsedOperand::Register(size, _)) => Some(size),
+        (ParsedOperand::Memory(_), ParsedOperand::Value(_)) => Some(Size::Qword),
+        (ParsedOperand::Dword(_), ParsedOperand::Value(_)) => Some(Size::Dword),
         _ => None,
     }
 }
@@ -321,8 +322,12 @@ fn both<'a>(first: Argument<'a>, second: Argument<'a>) -> Argument<'a>
 }
 
 #[tactic(auto, unfolding(crate::specs::Instructions::pair))]
-fn pair<'a>(mnemonic: Mnemonic, first: Given<'a>, second: Given<'a>) -> Option<Built<'a>>
-    ensures { built_option_view result ≡ pair mnemonic (given_view first.entry) (given_view second.entry) }
+fn pair<'a>(
+    mnemonic: Mnemonic,
+    first: ParsedOperand<'a>,
+    second: ParsedOperand<'a>,
+) -> Option<Built<'a>>
+    ensures { built_option_view result ≡ pair mnemonic (parsed_view first.entry) (parsed_view second.entry) }
 {
     let size = common_size(first, second)?;
     let dst = make_argument(size, first)?;
@@ -363,30 +368,33 @@ fn wide_built(dst: Reg, place: Place) -> Built
 }
 
 #[tactic(auto, unfolding(crate::specs::Instructions::wide_move))]
-fn wide_move<'a>(first: Given<'a>, second: Given<'a>) -> Option<Built<'a>>
-    ensures { built_option_view result ≡ wide_move (given_view first.entry) (given_view second.entry) }
+fn wide_move<'a>(first: ParsedOperand<'a>, second: ParsedOperand<'a>) -> Option<Built<'a>>
+    ensures { built_option_view result ≡ wide_move (parsed_view first.entry) (parsed_view second.entry) }
 {
     match (first, second) {
-        (Given::Register(Size::Qword, reg), Given::Value(place)) => Some(wide_built(reg, place)),
+        (ParsedOperand::Register(Size::Qword, reg), ParsedOperand::Value(place)) => Some(wide_built(
+            reg, place,
+        )),
         _ => None,
     }
 }
 
 /// Whether a number to a 64-bit register is longer than 32 bits.
-fn is_wide(first: Given, second: Given) -> bool
-    ensures { result ≡ is_wide (given_view first.entry) (given_view second.entry) }
+fn is_wide(first: ParsedOperand, second: ParsedOperand) -> bool
+    ensures { result ≡ is_wide (parsed_view first.entry) (parsed_view second.entry) }
 {
     match (first, second) {
-        (Given::Register(Size::Qword, _), Given::Value(Place::Number(Some(value)))) => {
-            i32::try_from(value).is_err()
-        }
+        (
+            ParsedOperand::Register(Size::Qword, _),
+            ParsedOperand::Value(Place::Number(Some(value))),
+        ) => { i32::try_from(value).is_err() }
         _ => false,
     }
 }
 
 #[tactic(auto, unfolding(crate::specs::Instructions::any_move))]
-fn any_move<'a>(first: Given<'a>, second: Given<'a>) -> Option<Built<'a>>
-    ensures { built_option_view result ≡ any_move (given_view first.entry) (given_view second.entry) }
+fn any_move<'a>(first: ParsedOperand<'a>, second: ParsedOperand<'a>) -> Option<Built<'a>>
+    ensures { built_option_view result ≡ any_move (parsed_view first.entry) (parsed_view second.entry) }
 {
     if is_wide(first, second) {
         wide_move(first, second)
@@ -396,11 +404,11 @@ fn any_move<'a>(first: Given<'a>, second: Given<'a>) -> Option<Built<'a>>
 }
 
 #[tactic(auto, unfolding(crate::specs::Instructions::zero_move))]
-fn zero_move<'a>(first: Given<'a>, second: Given<'a>) -> Option<Built<'a>>
-    ensures { built_option_view result ≡ zero_move (given_view first.entry) (given_view second.entry) }
+fn zero_move<'a>(first: ParsedOperand<'a>, second: ParsedOperand<'a>) -> Option<Built<'a>>
+    ensures { built_option_view result ≡ zero_move (parsed_view first.entry) (parsed_view second.entry) }
 {
     match (first, second) {
-        (Given::Register(_, dst), Given::Byte(address)) => {
+        (ParsedOperand::Register(_, dst), ParsedOperand::Byte(address)) => {
             let src = mem_of(address, disp_field(address.disp).value);
             with_argument(memory_argument(address), Some(Instr::MovZero8 { dst, src }))
         }
@@ -409,17 +417,17 @@ fn zero_move<'a>(first: Given<'a>, second: Given<'a>) -> Option<Built<'a>>
 }
 
 #[tactic(auto, unfolding(crate::specs::Instructions::sign_move))]
-fn sign_move<'a>(first: Given<'a>, second: Given<'a>) -> Option<Built<'a>>
-    ensures { built_option_view result ≡ sign_move (given_view first.entry) (given_view second.entry) }
+fn sign_move<'a>(first: ParsedOperand<'a>, second: ParsedOperand<'a>) -> Option<Built<'a>>
+    ensures { built_option_view result ≡ sign_move (parsed_view first.entry) (parsed_view second.entry) }
 {
     match (first, second) {
-        (Given::Register(Size::Qword, dst), Given::Register(Size::Dword, src)) => {
+        (ParsedOperand::Register(Size::Qword, dst), ParsedOperand::Register(Size::Dword, src)) => {
             plain(Some(Instr::MovSign32 {
                 dst,
                 src: Operand::Reg(src),
             }))
         }
-        (Given::Register(Size::Qword, dst), Given::Memory(address)) => {
+        (ParsedOperand::Register(Size::Qword, dst), ParsedOperand::Memory(address)) => {
             let argument = memory_argument(address);
             let src = argument.operand;
             with_argument(argument, Some(Instr::MovSign32 { dst, src }))
@@ -460,14 +468,18 @@ fn with_fit(fits: bool, instr: Option<Instr>) -> Option<Built<'static>>
 }
 
 #[tactic(auto, unfolding(crate::specs::Instructions::shift))]
-fn shift<'a>(mnemonic: Mnemonic, first: Given<'a>, second: Given<'a>) -> Option<Built<'a>>
-    ensures { built_option_view result ≡ shift mnemonic (given_view first.entry) (given_view second.entry) }
+fn shift<'a>(
+    mnemonic: Mnemonic,
+    first: ParsedOperand<'a>,
+    second: ParsedOperand<'a>,
+) -> Option<Built<'a>>
+    ensures { built_option_view result ≡ shift mnemonic (parsed_view first.entry) (parsed_view second.entry) }
 {
     match (first, second) {
-        (Given::Register(size, reg), Given::Counter) => {
+        (ParsedOperand::Register(size, reg), ParsedOperand::Counter) => {
             plain(shift_instr(mnemonic, size, reg, Count::Cl))
         }
-        (Given::Register(size, reg), Given::Value(place)) => {
+        (ParsedOperand::Register(size, reg), ParsedOperand::Value(place)) => {
             let number = shift_number(place);
             let count = Count::Number(number.unwrap_or(0));
             with_fit(number.is_some(), shift_instr(mnemonic, size, reg, count))
@@ -477,8 +489,12 @@ fn shift<'a>(mnemonic: Mnemonic, first: Given<'a>, second: Given<'a>) -> Option<
 }
 
 #[tactic(auto, unfolding(crate::specs::Instructions::two_operands))]
-fn two_operands<'a>(mnemonic: Mnemonic, first: Given<'a>, second: Given<'a>) -> Option<Built<'a>>
-    ensures { built_option_view result ≡ two_operands mnemonic (given_view first.entry) (given_view second.entry) }
+fn two_operands<'a>(
+    mnemonic: Mnemonic,
+    first: ParsedOperand<'a>,
+    second: ParsedOperand<'a>,
+) -> Option<Built<'a>>
+    ensures { built_option_view result ≡ two_operands mnemonic (parsed_view first.entry) (parsed_view second.entry) }
 {
     match mnemonic {
         Mnemonic::Mov => any_move(first, second),
@@ -652,21 +668,21 @@ fn value_built(mnemonic: Mnemonic, place: Place) -> Option<Built>
 }
 
 #[tactic(auto, unfolding(crate::specs::Instructions::one_operand))]
-fn one_operand(mnemonic: Mnemonic, given: Given) -> Option<Built>
-    ensures { built_option_view result ≡ one_operand mnemonic (given_view given.entry) }
+fn one_operand(mnemonic: Mnemonic, parsed: ParsedOperand) -> Option<Built>
+    ensures { built_option_view result ≡ one_operand mnemonic (parsed_view parsed.entry) }
 {
-    match given {
-        Given::Register(size, reg) => plain(register_instr(mnemonic, size, reg)),
-        Given::Memory(address) => {
+    match parsed {
+        ParsedOperand::Register(size, reg) => plain(register_instr(mnemonic, size, reg)),
+        ParsedOperand::Memory(address) => {
             let mem = mem_of(address, disp_field(address.disp).value);
             with_argument(memory_argument(address), memory_instr(mnemonic, mem))
         }
-        Given::Value(place) => value_built(mnemonic, place),
-        Given::Relative(value) => {
+        ParsedOperand::Value(place) => value_built(mnemonic, place),
+        ParsedOperand::Relative(value) => {
             let field = value_field(Size::Qword, value);
             with_field(field, relative_instr(mnemonic, field.value))
         }
-        Given::Short(name) => {
+        ParsedOperand::Short(name) => {
             let fixups = Fixups {
                 short: Some(name),
                 ..no_fixups()
@@ -694,7 +710,7 @@ pub(crate) fn build(mnemonic: Mnemonic, operands: Operands) -> Option<Built>
 {
     match operands {
         Operands::Absent => plain(alone(mnemonic)),
-        Operands::One(given) => one_operand(mnemonic, given),
+        Operands::One(parsed) => one_operand(mnemonic, parsed),
         Operands::Two(first, second) => two_operands(mnemonic, first, second),
     }
 }

@@ -25,7 +25,7 @@ use crate::instructions::{Built, Fixups, build};
 use crate::lists::{ListKind, list_fits};
 use crate::mnemonics::{Mnemonic, locked_mnemonic, mnemonic_of, untracked_mnemonic};
 use crate::names::is_word;
-use crate::operands::{Given, Operands, read_operands};
+use crate::operands::{Operands, ParsedOperand, read_operands};
 use crate::places::{Place, mark_number, unsigned_quad};
 use crate::rules::Rule;
 use crate::tokens::next;
@@ -104,8 +104,8 @@ fn number_alone(text: &[u8]) -> Option<Option<i128>>
     ensures { result ≡ number_alone (operands (tokens text.now)) }
 {
     match read_operands(text) {
-        Some(Operands::One(Given::Value(Place::Number(value)))) => Some(value),
-        Some(Operands::One(Given::Value(Place::Label(_)))) => Some(None),
+        Some(Operands::One(ParsedOperand::Value(Place::Number(value)))) => Some(value),
+        Some(Operands::One(ParsedOperand::Value(Place::Label(_)))) => Some(None),
         _ => None,
     }
 }

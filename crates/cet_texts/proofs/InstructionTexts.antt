@@ -18,7 +18,7 @@ use Rattle.cet_isa.specs.declared.instructions.Size.TheVariants as sizes
 use Rattle.cet_syntax.specs.Tokens.{◌>>=◌}
 use Rattle.cet_syntax.specs.Words.{Number}
 use Rattle.cet_syntax.specs.Operands as asm
-use Rattle.cet_syntax.specs.Operands.{Given, Register, Counter, Value, Memory, Byte, Relative, Operands, Absent, One, Two}
+use Rattle.cet_syntax.specs.Operands.{ParsedOperand, Register, Counter, Value, Memory, Byte, Relative, Operands, Absent, One, Two}
 use Rattle.cet_syntax.specs.Instructions.{no_fixups, Argument, argument, common_size, Built, pair_instr, pair, wide_move, is_wide, any_move, zero_move, sign_move, shift_instr, shift, two_operands, register_instr, memory_instr, relative_instr, value_built, one_operand, built}
 use Rattle.cet_syntax.specs.Line.{Code, judged, stated}
 use Rattle.cet_syntax.specs.declared.mnemonics.Mnemonic.{Mnemonic}
@@ -26,7 +26,7 @@ use Rattle.cet_syntax.specs.declared.mnemonics.Mnemonic.TheVariants as words
 use Rattle.cet_texts.proofs.PieceTokens.{tokens_of, IsPlain}
 use Rattle.cet_texts.proofs.WordTexts.{register_word, hex_word, fits_holds, value_sound}
 use Rattle.cet_texts.proofs.OperandTexts.{address_of, shown_sound}
-use Rattle.cet_texts.proofs.GivenTexts.{value_ok, mem_plain, operand_plain, pair_plain, size_plain, relative_plain, given_of, first_given, operand_last, byte_last, number_last, counter_last, one_read, operand_read, relative_read, after_register, pair_read}
+use Rattle.cet_texts.proofs.ParsedTexts.{value_ok, mem_plain, operand_plain, pair_plain, size_plain, relative_plain, parsed_of, first_parsed, operand_last, byte_last, number_last, counter_last, one_read, operand_read, relative_read, after_register, pair_read}
 
 -- an instruction that is stated as it is
 abbrev pub clean_built : Instr → Built
@@ -51,12 +51,12 @@ code_from m ps o i p e f h =
 abbrev clean : Operand → Argument
 clean o = record { operand = o; fits = true; displacement = None; immediate = None }
 
-argument_read : (size : Size) (o : Operand) → OperandFits o → argument size (given_of size o) ≡ Some (clean o)
+argument_read : (size : Size) (o : Operand) → OperandFits o → argument size (parsed_of size o) ≡ Some (clean o)
 argument_read size (operands.Reg r) h = refl
 argument_read size (operands.Mem m) h = rw (shown_sound (text.is_alone m.base m.index) m.disp h) refl
 argument_read size (operands.Imm z) h = rw (value_sound size z h) refl
 
-argument_first : (size : Size) (dst src : Operand) → OperandFits dst → argument size (first_given size dst src) ≡ Some (clean dst)
+argument_first : (size : Size) (dst src : Operand) → OperandFits dst → argument size (first_parsed size dst src) ≡ Some (clean dst)
 argument_first sizes.Dword (operands.Mem m) (operands.Imm n) h = rw (shown_sound (text.is_alone m.base m.index) m.disp h) refl
 argument_first sizes.Dword (operands.Mem m) (operands.Reg r) h = argument_read sizes.Dword (operands.Mem m) h
 argument_first sizes.Dword (operands.Mem m) (operands.Mem n) h = argument_read sizes.Dword (operands.Mem m) h
@@ -72,7 +72,7 @@ two_ok (operands.Mem m) src = true
 two_ok (operands.Imm n) src = false
 
 agree : (size : Size) (dst src : Operand) → two_ok dst src ≡ true
-    → common_size (first_given size dst src) (given_of size src) ≡ Some size
+    → common_size (first_parsed size dst src) (parsed_of size src) ≡ Some size
 unfolding common_size
 agree sizes.Dword (operands.Reg d) (operands.Reg r) h = refl
 agree sizes.Dword (operands.Reg d) (operands.Mem m) h = refl
@@ -95,17 +95,17 @@ record IsPair (dst src : Operand) : Type 0 where
 
 pair_built : (m : Mnemonic) (size : Size) (dst src : Operand) (i : Instr) → OperandFits dst → OperandFits src
     → two_ok dst src ≡ true
-    → pair_instr m size dst src ≡ Some i → pair m (first_given size dst src) (given_of size src) ≡ Some (clean_built i)
+    → pair_instr m size dst src ≡ Some i → pair m (first_parsed size dst src) (parsed_of size src) ≡ Some (clean_built i)
 unfolding pair
 pair_built m size dst src i h k ok e = rw (agree size dst src ok, argument_first size dst src h, argument_read size src k, e) refl
 
 pair_code : (m : Mnemonic) (size : Size) (dst src : Operand) (i : Instr) → OperandFits dst → OperandFits src → IsPair dst src
-    → built m (Two (first_given size dst src) (given_of size src)) ≡ pair m (first_given size dst src) (given_of size src)
+    → built m (Two (first_parsed size dst src) (parsed_of size src)) ≡ pair m (first_parsed size dst src) (parsed_of size src)
     → pair_instr m size dst src ≡ Some i → has_spelling i ≡ true
     → IsCode m (text.size_word size dst src ++ text.pair (text.operand size dst) (text.operand size src)) i
 pair_code m size dst src i h k ok e f s =
     code_from m (text.size_word size dst src ++ text.pair (text.operand size dst) (text.operand size src))
-    (Two (first_given size dst src) (given_of size src)) i
+    (Two (first_parsed size dst src) (parsed_of size src)) i
     (size_plain size dst src _ (pair_plain (text.operand size dst) (text.operand size src)
     (operand_plain size dst ok.left) (operand_plain size src ok.right)))
     (pair_read size dst src h k ok.left ok.right)
@@ -173,7 +173,7 @@ pub test_code : (size : Size) (dst src : Operand) → OperandFits dst → Operan
 unfolding built two_operands pair_instr
 test_code size dst src h k ok = pair_code words.Test size dst src (instrs.Test size dst src) h k (test_pair dst src ok) refl refl ok
 
-not_wide : (size : Size) (dst src : Operand) → OperandFits src → is_wide (first_given size dst src) (given_of size src) ≡ false
+not_wide : (size : Size) (dst src : Operand) → OperandFits src → is_wide (first_parsed size dst src) (parsed_of size src) ≡ false
 not_wide sizes.Dword (operands.Reg d) src k = refl
 not_wide sizes.Dword (operands.Mem m) (operands.Reg r) k = refl
 not_wide sizes.Dword (operands.Mem m) (operands.Mem n) k = refl
@@ -229,8 +229,8 @@ register_pair_plain : (size : Size) (r : Reg) (ps : List text.Piece) → IsPlain
 register_pair_plain size r ps h = (((register_word size r).word), refl, (refl, h))
 
 -- a register before another operand
-register_code : (m : Mnemonic) (size : Size) (r : Reg) (ps : List text.Piece) (g : Given) (i : Instr) → IsPlain ps
-    → asm.given (tokens_of ps) ≡ Some (g, []) → built m (Two (Register size r) g) ≡ Some (clean_built i) → has_spelling i ≡ true
+register_code : (m : Mnemonic) (size : Size) (r : Reg) (ps : List text.Piece) (g : ParsedOperand) (i : Instr) → IsPlain ps
+    → asm.parsed (tokens_of ps) ≡ Some (g, []) → built m (Two (Register size r) g) ≡ Some (clean_built i) → has_spelling i ≡ true
     → IsCode m (text.pair (text.register size r ∷ []) ps) i
 register_code m size r ps g i p e f h =
     code_from m (text.pair (text.register size r ∷ []) ps) (Two (Register size r) g) i
@@ -259,7 +259,7 @@ zero_code r m h ok =
     (refl, refl, mem_plain m ok) (byte_last m h ok) (zero_built r m h) ok
 
 sign_built : (d : Reg) (src : Operand) → OperandFits src → place_ok src ≡ true
-    → built words.Movsxd (Two (Register sizes.Qword d) (given_of sizes.Dword src)) ≡ Some (clean_built (instrs.MovSign32 d src))
+    → built words.Movsxd (Two (Register sizes.Qword d) (parsed_of sizes.Dword src)) ≡ Some (clean_built (instrs.MovSign32 d src))
 unfolding built two_operands sign_move
 sign_built d (operands.Reg r) h ok = refl
 sign_built d (operands.Mem m) h ok = rw (shown_sound (text.is_alone m.base m.index) m.disp h) refl
@@ -273,44 +273,44 @@ place_value (operands.Imm n) h = refl
 pub sign_code : (d : Reg) (src : Operand) → OperandFits src → place_ok src ≡ true
     → IsCode words.Movsxd (text.pair (text.register sizes.Qword d ∷ []) (text.operand sizes.Dword src)) (instrs.MovSign32 d src)
 sign_code d src h ok =
-    register_code words.Movsxd sizes.Qword d (text.operand sizes.Dword src) (given_of sizes.Dword src) (instrs.MovSign32 d src)
+    register_code words.Movsxd sizes.Qword d (text.operand sizes.Dword src) (parsed_of sizes.Dword src) (instrs.MovSign32 d src)
     (operand_plain sizes.Dword src (place_value src ok)) (operand_last sizes.Dword src h (place_value src ok)) (sign_built d src h ok) ok
 
 amount_plain : (count : Count) → IsPlain (text.amount count ∷ [])
 amount_plain (counts.Number n) = (hex_word n, refl, tt)
 amount_plain counts.Cl = (refl, refl, tt)
 
-abbrev amount_given : Count → Given
-amount_given (counts.Number n) = Value (Number (Some (pos n)))
-amount_given counts.Cl = Counter
+abbrev amount_parsed : Count → ParsedOperand
+amount_parsed (counts.Number n) = Value (Number (Some (pos n)))
+amount_parsed counts.Cl = Counter
 
-amount_last : (count : Count) → CountFits count → asm.given (tokens_of (text.amount count ∷ [])) ≡ Some (amount_given count, [])
+amount_last : (count : Count) → CountFits count → asm.parsed (tokens_of (text.amount count ∷ [])) ≡ Some (amount_parsed count, [])
 amount_last (counts.Number n) h = number_last n (omega (arith, h))
 amount_last counts.Cl h = counter_last
 
 shift_built : (m : Mnemonic) (size : Size) (r : Reg) (count : Count) (i : Instr) → CountFits count
     → shift_instr m size r count ≡ Some i
-    → shift m (Register size r) (amount_given count) ≡ Some (clean_built i)
+    → shift m (Register size r) (amount_parsed count) ≡ Some (clean_built i)
 unfolding shift
 shift_built m size r (counts.Number n) i h e = rw (lt-ltb n 256 h, e) refl
 shift_built m size r counts.Cl i h e = rw e refl
 
 pub shift_code : (m : Mnemonic) (size : Size) (r : Reg) (count : Count) (i : Instr) → CountFits count
     → shift_instr m size r count ≡ Some i
-    → ((g h : Given) → built m (Two g h) ≡ shift m g h) → has_spelling i ≡ true
+    → ((g h : ParsedOperand) → built m (Two g h) ≡ shift m g h) → has_spelling i ≡ true
     → IsCode m (text.pair (text.register size r ∷ []) (text.amount count ∷ [])) i
 shift_code m size r count i h e f s =
-    register_code m size r (text.amount count ∷ []) (amount_given count) i
-    (amount_plain count) (amount_last count h) (f (Register size r) (amount_given count) ∙ shift_built m size r count i h e) s
+    register_code m size r (text.amount count ∷ []) (amount_parsed count) i
+    (amount_plain count) (amount_last count h) (f (Register size r) (amount_parsed count) ∙ shift_built m size r count i h e) s
 
 -- ---- one operand
 
 one_code : (m : Mnemonic) (size : Size) (o : Operand) (i : Instr) → OperandFits o → value_ok o ≡ true
-    → one_operand m (given_of size o) ≡ Some (clean_built i)
+    → one_operand m (parsed_of size o) ≡ Some (clean_built i)
     → has_spelling i ≡ true → IsCode m (text.operand size o) i
 unfolding built
 one_code m size o i h ok e s =
-    code_from m (text.operand size o) (One (given_of size o)) i (operand_plain size o ok) (operand_read size o h ok) e s
+    code_from m (text.operand size o) (One (parsed_of size o)) i (operand_plain size o ok) (operand_read size o h ok) e s
 
 register_built : (m : Mnemonic) (size : Size) (r : Reg) (i : Instr) → register_instr m size r ≡ Some i
     → one_operand m (Register size r) ≡ Some (clean_built i)

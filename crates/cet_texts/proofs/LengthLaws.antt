@@ -130,10 +130,10 @@ mov_short Dword (operands.Reg d) (operands.Imm n) = reg_short row.mov_reg_imm32 
 mov_short Qword dst (operands.Imm n) = rm_short row.mov_qword_rm_imm32 Qword 0xc7 0 dst (four_bytes n) (four n)
 mov_short size dst src = omega arith
 
-shift_short : (given in_cl : Form) (digit : ℕ) (size : Size) (r : Reg) (count : Count)
-    → length (shift_spelling given in_cl digit size r count) ≤ 21
-shift_short given in_cl digit size r (counts.Number n) = rm_short given size 0xc1 digit (operands.Reg r) (n ∷ []) (omega arith)
-shift_short given in_cl digit size r counts.Cl = rm_short in_cl size 0xd3 digit (operands.Reg r) [] none
+shift_short : (parsed in_cl : Form) (digit : ℕ) (size : Size) (r : Reg) (count : Count)
+    → length (shift_spelling parsed in_cl digit size r count) ≤ 21
+shift_short parsed in_cl digit size r (counts.Number n) = rm_short parsed size 0xc1 digit (operands.Reg r) (n ∷ []) (omega arith)
+shift_short parsed in_cl digit size r counts.Cl = rm_short in_cl size 0xd3 digit (operands.Reg r) [] none
 
 push_short : (o : Operand) → length (push_spelling o) ≤ 21
 push_short (operands.Reg r) = reg_short row.push_reg Dword 0x50 r [] none

@@ -1,7 +1,7 @@
 pub mod PieceTokens
 pub mod WordTexts
 pub mod OperandTexts
-pub mod GivenTexts
+pub mod ParsedTexts
 pub mod InstructionTexts
 pub mod LineTexts
 pub mod MnemonicTexts

@@ -13,7 +13,7 @@ use Rattle.cet_isa.specs.declared.instructions.Size.{Size}
 use Rattle.cet_isa.specs.declared.instructions.Size.TheVariants as sizes
 use Rattle.cet_syntax.specs.Tokens.{is_name_byte}
 use Rattle.cet_syntax.specs.Words.{begins_decimal, is_plain, register_of, is_counter, is_pointer, Number, signed, number_place, word_place, dword_holds}
-use Rattle.cet_syntax.specs.Operands.{scale_of, Register, Value, word_given}
+use Rattle.cet_syntax.specs.Operands.{scale_of, Register, Value, word_parsed}
 use Rattle.cet_syntax.specs.Instructions.{Field, value_field}
 use Rattle.cet_texts.proofs.PieceTokens.{is_word, names_pass}
 
@@ -61,9 +61,9 @@ register_word sizes.Dword regs.R13 = record { word = refl; same = refl; counter 
 register_word sizes.Dword regs.R14 = record { word = refl; same = refl; counter = refl; pointer = refl }
 register_word sizes.Dword regs.R15 = record { word = refl; same = refl; counter = refl; pointer = refl }
 
-pub register_given : (size : Size) (r : Reg) → word_given (register_name size r) ≡ Some (Register size r)
-unfolding word_given
-register_given size r = let w = register_word size r in rw (w.counter, w.same) refl
+pub register_parsed : (size : Size) (r : Reg) → word_parsed (register_name size r) ≡ Some (Register size r)
+unfolding word_parsed
+register_parsed size r = let w = register_word size r in rw (w.counter, w.same) refl
 
 -- ---- numbers
 
@@ -116,9 +116,9 @@ pub hex_no_register : (n : ℕ) → register_of (hex n) ≡ None
 unfolding register_of register_named register_name
 hex_no_register n = refl
 
-pub hex_given : (n : ℕ) → n < 2 ^ 64 → word_given (hex n) ≡ Some (Value (Number (Some (pos n))))
-unfolding word_given
-hex_given n h = rw (hex_no_register n, hex_word_place n h) refl
+pub hex_parsed : (n : ℕ) → n < 2 ^ 64 → word_parsed (hex n) ≡ Some (Value (Number (Some (pos n))))
+unfolding word_parsed
+hex_parsed n h = rw (hex_no_register n, hex_word_place n h) refl
 
 -- ---- scales
 
