@@ -18,8 +18,8 @@ pub record Address : Type 0 where
   pub scale : ℕ
   pub disp : Option Place
 
-abbrev pub nowhere : Address
-nowhere = record { base = bases.None; index = None; scale = 1; disp = None }
+abbrev pub empty_address : Address
+empty_address = record { base = bases.None; index = None; scale = 1; disp = None }
 
 abbrev pub with_index : Address → Reg → ℕ → Option Address
 with_index a r scale = go a.index
@@ -121,7 +121,7 @@ more a ts = go (sign_first 93 ts)
 -- what follows `[`: base, index and number are three parts at most
 unfoldable pub memory : List Token → Option (Address × List Token)
 memory ts = do
-  one ← part nowhere ts
+  one ← part empty_address ts
   two ← more one.0 one.1
   three ← more two.0 two.1
   rest ← sign_first 93 three.1

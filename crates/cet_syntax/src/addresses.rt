@@ -2,7 +2,7 @@
 
 ghost use Rattle.std.specs.Prelude.{◌≡◌, None};
 ghost use Rattle.cet_syntax.specs.Operands.{
-  nowhere,
+  empty_address,
   with_index,
   with_pointer,
   with_register,
@@ -37,8 +37,8 @@ pub(crate) struct Address<'a> {
     pub disp: Option<Place<'a>>,
 }
 
-fn nowhere() -> Address<'static>
-    ensures { address_view result ≡ nowhere }
+fn empty_address() -> Address<'static>
+    ensures { address_view result ≡ empty_address }
 {
     Address {
         base: Base::None,
@@ -222,7 +222,7 @@ fn more<'a>(address: Address<'a>, text: &'a [u8]) -> Option<(Address<'a>, &'a [u
 pub(crate) fn memory(text: &[u8]) -> Option<(Address<'_>, &[u8])>
     ensures { part_view result ≡ memory (tokens text.now) }
 {
-    let (address, rest) = part(nowhere(), text)?;
+    let (address, rest) = part(empty_address(), text)?;
     let (address, rest) = more(address, rest)?;
     let (address, rest) = more(address, rest)?;
     let rest = after_sign(b']', rest)?;

@@ -12,7 +12,7 @@ use Rattle.cet_isa.specs.declared.instructions.Reg.{Reg}
 use Rattle.cet_isa.specs.declared.instructions.Size.TheVariants as sizes
 use Rattle.cet_syntax.specs.Tokens.{Token, Word, Sign, Minus, sign_first}
 use Rattle.cet_syntax.specs.Words.{Place, Number}
-use Rattle.cet_syntax.specs.Operands.{Address, nowhere, with_index, with_pointer, with_register, with_place, starred, after, word_part, part, taken_part, joined, more, memory}
+use Rattle.cet_syntax.specs.Operands.{Address, empty_address, with_index, with_pointer, with_register, with_place, starred, after, word_part, part, taken_part, joined, more, memory}
 use Rattle.cet_syntax.specs.Instructions.{disp_field}
 use Rattle.cet_texts.proofs.PieceTokens.{tokens_of}
 use Rattle.cet_texts.proofs.WordTexts.{register_word, IsScale, scale_word, hex, hex_place, hex_word_place, hex_no_register, fits_holds, pos_small, neg_small, sound}
@@ -69,7 +69,7 @@ more_taken a n ts l = rw (hex_place true (suc n) l) refl
 
 -- three parts and the bracket
 memory_parts : (ts : List Token) (x y z : Address × List Token) (rest : List Token)
-    → part nowhere ts ≡ Some x → more x.0 x.1 ≡ Some y → more y.0 y.1 ≡ Some z → sign_first 93 z.1 ≡ Some rest
+    → part empty_address ts ≡ Some x → more x.0 x.1 ≡ Some y → more y.0 y.1 ≡ Some z → sign_first 93 z.1 ≡ Some rest
     → memory ts ≡ Some (z.0, rest)
 unfolding memory
 memory_parts ts x y z rest p q r s = rw (p, q, r, s) refl
