@@ -37,7 +37,7 @@ rule_number rules.NotUtf8 = 9
 
 -- ---- definitions
 
--- a label and its place
+-- a label and its value
 pub record Entry : Type 0 where
   pub name : List ℕ
   pub symbol : SymbolValue
@@ -63,7 +63,7 @@ symbol_in (Some e) = Some e.symbol
 abbrev pub place_of : List Entry → List ℕ → Option SymbolValue
 place_of entries name = symbol_in (find (λ e. bytes_eq e.name name) entries)
 
--- what a line needs to know of the whole text
+-- the symbols of a text, and how many bytes its text section has
 pub record Symbols : Type 0 where
   pub place : List ℕ → Option SymbolValue
   pub text_size : ℕ
@@ -83,7 +83,7 @@ abbrev pub or_start : Option ℕ → ℕ
 or_start None = text_start
 or_start (Some a) = a
 
--- an unknown label counts as the start
+-- the address of a label, where an unknown one counts as the start
 abbrev pub symbol_address : Symbols → List ℕ → ℕ
 symbol_address w name = or_start (label_address w name)
 

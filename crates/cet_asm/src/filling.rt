@@ -1,4 +1,4 @@
-//! Instructions with the addresses of their labels.
+//! Fixups: instructions with the addresses of their labels.
 
 ghost use Rattle.std.specs.Prelude.{◌≡◌, ◌<◌, ◌^◌, IfSome};
 ghost use Rattle.cet_asm.specs.Layout.{operand_memory, operand_immediate, with_memory, with_immediate, with_target, distance, placed_mem};
@@ -6,7 +6,7 @@ ghost use Rattle.cet_asm.specs.Filling.{on_address, AreSmall, filled_at};
 
 use cet_isa::{Base, Instr, Mem, Operand};
 
-/// The addresses that an instruction uses: as displacement, as immediate, and as target of a relative jump of four bytes.
+/// The addresses of an instruction's fixups: as displacement, as immediate, and as target of a relative jump of four bytes.
 #[derive(Clone, Copy)]
 pub(crate) struct ResolvedFixups {
     pub displacement: Option<u64>,

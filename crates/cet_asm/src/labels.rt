@@ -1,4 +1,4 @@
-//! The places of labels.
+//! The symbols of a text: where its labels stand.
 
 ghost use Rattle.std.specs.Prelude.{◌≡◌, ◌<◌, ◌^◌, OnOk, IfOk, IfSome, is_some};
 ghost use Rattle.std.specs.List.{list_all};
