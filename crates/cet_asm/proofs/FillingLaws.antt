@@ -11,10 +11,10 @@ use Rattle.cet_isa.specs.declared.instructions.Operand.TheVariants as operands
 use Rattle.cet_isa.specs.declared.instructions.Reg.{Reg}
 use Rattle.cet_isa.specs.declared.instructions.Size.{Size}
 use Rattle.cet_isa.specs.Spelled.{mem_ok, place_ok, alu_ok, test_ok, mov_ok, push_ok, has_spelling}
-use Rattle.cet_asm.specs.Instructions.{Uses}
+use Rattle.cet_syntax.specs.Instructions.{Fixups}
 use Rattle.cet_asm.specs.Layout.{operand_memory, operand_immediate, with_memory, with_immediate, with_target, placed_mem, distance, filled}
-use Rattle.cet_asm.specs.Filling.{on_address, filled_at, address_for, found_in}
-use Rattle.cet_asm.specs.declared.filling.Found.{Found}
+use Rattle.cet_asm.specs.Filling.{on_address, filled_at, address_for, resolved_in}
+use Rattle.cet_asm.specs.declared.filling.ResolvedFixups.{ResolvedFixups}
 
 mem_same : (next a : ℕ) (m : Mem) → mem_ok (placed_mem next a m) ≡ mem_ok m
 mem_same next a m = go m.base m.index m.scale m.disp
@@ -128,16 +128,16 @@ on_same : (o : Option ℕ) (f : ℕ → Instr → Instr) (i : Instr) → ((a : �
 on_same None f i h = refl
 on_same (Some a) f i h = h a i
 
-pub filled_spelled : (next : ℕ) (x : Found) (i : Instr) → has_spelling (filled_at next x i) ≡ has_spelling i
+pub filled_spelled : (next : ℕ) (x : ResolvedFixups) (i : Instr) → has_spelling (filled_at next x i) ≡ has_spelling i
 filled_spelled next x i =
     on_same x.target (λ a. with_target (distance next a)) _ (λ a j. target_same (distance next a) j)
     ∙ (on_same x.immediate with_immediate _ immediate_same
     ∙ on_same x.displacement (λ a. with_memory (placed_mem next a)) i (λ a j. memory_same next a j))
 
 -- the same filling, by what is found
-pub filled_found : (env : List ℕ → ℕ) (next : ℕ) (u : Uses) (i : Instr) → filled env next u i ≡ filled_at next (found_in env u) i
+pub filled_resolved : (env : List ℕ → ℕ) (next : ℕ) (u : Fixups) (i : Instr) → filled env next u i ≡ filled_at next (resolved_in env u) i
 unfolding filled
-filled_found env next u i = go u.displacement u.immediate u.target
+filled_resolved env next u i = go u.displacement u.immediate u.target
   where
     go : (d m t : Option (List ℕ)) → filled env next (record { displacement = d; immediate = m; target = t; short = u.short }) i ≡ filled_at next (record { displacement = address_for env d; immediate = address_for env m; target = address_for env t }) i
     go None None None = refl
@@ -149,4 +149,4 @@ filled_found env next u i = go u.displacement u.immediate u.target
     go (Some d) (Some m) None = refl
     go (Some d) (Some m) (Some t) = refl
 
-pub ruleset filling_laws = (filled_spelled, filled_found)
+pub ruleset filling_laws = (filled_spelled, filled_resolved)

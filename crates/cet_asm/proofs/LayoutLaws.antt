@@ -1,15 +1,15 @@
 -- How long a program may get.
 use Rattle.std.proofs.Common.{◌≡◌, ℕ, ◌≤◌, ◌<◌, true, false, arith}
-use Rattle.cet_asm.specs.Layout.{round_up, grown, exceeds}
-use Rattle.cet_asm.specs.declared.sections.Here.{Here}
+use Rattle.cet_asm.specs.Layout.{round_up, grown, exceeds, program_limit}
+use Rattle.cet_asm.specs.declared.sections.LocationCounter.{LocationCounter}
 
 pub round_up_least : (n : ℕ) → n ≤ round_up n
 round_up_least n = omega arith
 
-pub long_exceeds : (h : Here) (n : ℕ) → 4190208 < n → exceeds (grown h n) ≡ true
+pub long_exceeds : (h : LocationCounter) (n : ℕ) → program_limit < n → exceeds (grown h n) ≡ true
 long_exceeds h n l = grind (arith, round_up_least)
 
 pub ruleset layout_laws = (long_exceeds)
 
-pub within_size : (h : Here) (n : ℕ) → exceeds (grown h n) ≡ false → n ≤ 4190208
+pub within_size : (h : LocationCounter) (n : ℕ) → exceeds (grown h n) ≡ false → n ≤ program_limit
 within_size h n e = grind (arith, long_exceeds h n)

@@ -1,24 +1,8 @@
-pub mod TokenLaws
-pub mod PieceTokens
-pub mod WordTexts
-pub mod OperandTexts
-pub mod GivenTexts
-pub mod InstructionTexts
-pub mod LineTexts
-pub mod MnemonicTexts
-pub mod LengthLaws
-pub mod TextLaws
-pub mod ProgramTexts
 mod MapLaws
 pub mod LayoutLaws
 pub mod FillingLaws
-pub mod ListLaws
-pub mod LineLaws
-pub mod SizeLaws
 pub mod ZeroLaws
-pub mod PartLaws
 pub mod PassLaws
 pub mod CheckLaws
 pub mod SmallLaws
 pub mod AnswerLaws
-pub mod PartsLeft

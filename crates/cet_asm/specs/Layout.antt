@@ -9,12 +9,12 @@ use Rattle.cet_isa.specs.declared.instructions.Instr.TheVariants as instrs
 use Rattle.cet_isa.specs.declared.instructions.Mem.{Mem}
 use Rattle.cet_isa.specs.declared.instructions.Operand.{Operand}
 use Rattle.cet_isa.specs.declared.instructions.Operand.TheVariants as operands
-use Rattle.cet_asm.specs.Instructions.{Uses}
-use Rattle.cet_asm.specs.Line.{Statement, TextSection, DataSection, Zero, Values, Quads, Code}
+use Rattle.cet_syntax.specs.Instructions.{Fixups}
+use Rattle.cet_syntax.specs.Line.{Statement, TextSection, DataSection, Zero, Values, Quads, Code}
 use Rattle.cet_asm.specs.declared.sections.Section.{Section}
 use Rattle.cet_asm.specs.declared.sections.Section.TheVariants as sections
-use Rattle.cet_asm.specs.declared.sections.Here.{Here}
-use Rattle.cet_asm.specs.declared.sections.Spot.{Spot}
+use Rattle.cet_asm.specs.declared.sections.LocationCounter.{LocationCounter}
+use Rattle.cet_asm.specs.declared.sections.SymbolValue.{SymbolValue}
 
 -- ---- labels in instructions
 
@@ -83,7 +83,7 @@ on_label env None f i = i
 on_label env (Some name) f i = f (env name) i
 
 -- the instruction with the addresses of its labels, the next one standing at `next`
-unfoldable pub filled : (List ℕ → ℕ) → ℕ → Uses → Instr → Instr
+unfoldable pub filled : (List ℕ → ℕ) → ℕ → Fixups → Instr → Instr
 filled env next u i =
     on_label env u.target (λ a. with_target (distance next a))
     (on_label env u.immediate with_immediate
@@ -96,7 +96,7 @@ abbrev pub text_start : ℕ
 text_start = 0x401000
 
 -- the size of an instruction, which is the same wherever its labels are; a short jump has two bytes
-abbrev pub code_size : Instr → Uses → ℕ
+abbrev pub code_size : Instr → Fixups → ℕ
 code_size i u = go u.short
   where
     go : Option (List ℕ) → ℕ
@@ -111,46 +111,50 @@ size_of (Quads items) = 8 * length items
 size_of (Code i u) = code_size i u
 size_of s = 0
 
+-- the most bytes that the text, rounded up to whole pages, and the data may have: they end at 0x800000
+abbrev pub program_limit : ℕ
+program_limit = 4190208
+
 -- up to whole pages
 abbrev pub round_up : ℕ → ℕ
 round_up n = (n + 4095) / 4096 * 4096
 
 -- ---- sections
 
-abbrev pub grown : Here → ℕ → Here
+abbrev pub grown : LocationCounter → ℕ → LocationCounter
 grown h n = go h.section
   where
-    go : Section → Here
+    go : Section → LocationCounter
     go sections.Text = record h { text = h.text + n }
     go sections.Data = record h { static_data = h.static_data + n }
 
 -- whether text, rounded up to whole pages, and data exceed what a program may have
-abbrev pub exceeds : Here → Bool
-exceeds h = not (nat_le (round_up h.text + h.static_data) 4190208)
+abbrev pub exceeds : LocationCounter → Bool
+exceeds h = not (nat_le (round_up h.text + h.static_data) program_limit)
 
-unfoldable pub is_too_long : Here → Statement → Bool
+unfoldable pub is_too_long : LocationCounter → Statement → Bool
 is_too_long h s = exceeds (grown h (size_of s))
 
 -- after a line; one that makes the program too long has no bytes
-unfoldable pub after : Here → Statement → Here
+unfoldable pub after : LocationCounter → Statement → LocationCounter
 after h TextSection = record h { section = sections.Text }
 after h DataSection = record h { section = sections.Data }
 after h s = if is_too_long h s then h else grown h (size_of s)
 
-abbrev pub spot_of : Here → Spot
-spot_of h = go h.section
+abbrev pub symbol_of : LocationCounter → SymbolValue
+symbol_of h = go h.section
   where
-    go : Section → Spot
+    go : Section → SymbolValue
     go sections.Text = record { section = sections.Text; offset = h.text }
     go sections.Data = record { section = sections.Data; offset = h.static_data }
 
-abbrev pub start : Here
+abbrev pub start : LocationCounter
 start = record { section = sections.Text; text = 0; static_data = 0 }
 
 -- the address of a place, where the text has so many bytes
-unfoldable pub address_of : ℕ → Spot → ℕ
-address_of text spot = go spot.section
+unfoldable pub address_of : ℕ → SymbolValue → ℕ
+address_of text symbol = go symbol.section
   where
     go : Section → ℕ
-    go sections.Text = text_start + spot.offset
-    go sections.Data = text_start + round_up text + spot.offset
+    go sections.Text = text_start + symbol.offset
+    go sections.Data = text_start + round_up text + symbol.offset

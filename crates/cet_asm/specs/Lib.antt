@@ -1,15 +1,7 @@
-pub mod Tokens
-pub mod Words
-pub mod Operands
-pub mod Mnemonics
-pub mod Instructions
-pub mod Line
-pub mod Views
 pub mod Layout
 pub mod Program
 pub mod Answer
 pub mod Filling
-pub mod Parts
 pub mod Passes
 pub mod Places
 pub mod Second

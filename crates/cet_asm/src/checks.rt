@@ -1,58 +1,51 @@
 //! The rules that a line breaks.
 
 ghost use Rattle.std.specs.Prelude.{◌≡◌};
-ghost use Rattle.cet_isa.specs.Canonical.{fits_byte};
 ghost use Rattle.cet_asm.specs.Layout.{size_of};
 ghost use Rattle.cet_asm.specs.Program.{knows_all, short_distance, is_in_reach, own_fault, directive_fault, broken_at, rule_number};
-ghost use Rattle.cet_asm.specs.Views.{statement_view};
+ghost use Rattle.cet_syntax.specs.Views.{statement_view};
 ghost use Rattle.cet_asm.specs.Passes.{IsWithin};
-ghost use Rattle.cet_asm.specs.Places.{whole_view, IsSmall};
+ghost use Rattle.cet_asm.specs.Places.{symbols_view, IsSmall};
 
 use crate::filling::distance;
-use crate::labels::{Labels, environment, knows_items, knows_uses};
-use crate::layout::{address_of, is_too_long, spot_of};
-use crate::rules::Rule;
-use crate::sections::Here;
-use crate::statements::Statement;
+use crate::labels::{Labels, knows_fixups, knows_items, symbol_address};
+use crate::layout::{address_of, is_too_long, symbol_of};
+use crate::sections::LocationCounter;
+use cet_isa::fits_byte;
+use cet_syntax::{Rule, Statement};
 
 #[tactic(auto, unfolding(crate::specs::Program::knows_all))]
 fn knows_all<'a>(labels: &Labels<'a>, statement: Statement<'a>) -> bool
-    requires { IsSmall (whole_view labels.now) }
-    ensures { result ≡ knows_all (whole_view labels.now) (statement_view statement.entry) }
+    requires { IsSmall (symbols_view labels.now) }
+    ensures { result ≡ knows_all (symbols_view labels.now) (statement_view statement.entry) }
 {
     match statement {
-        Statement::Code(_, uses) => knows_uses(labels, uses),
+        Statement::Code(_, fixups) => knows_fixups(labels, fixups),
         Statement::Quads(text) => knows_items(labels, text),
         _ => true,
     }
 }
 
 /// From the byte after a short jump that stands here to its label.
-pub(crate) fn short_distance<'a>(labels: &Labels<'a>, here: Here, name: &'a [u8]) -> i32
-    requires small { IsSmall (whole_view labels.now) }
+pub(crate) fn short_distance<'a>(labels: &Labels<'a>, here: LocationCounter, name: &'a [u8]) -> i32
+    requires small { IsSmall (symbols_view labels.now) }
     requires within { IsWithin here }
-    ensures { result ≡ short_distance (whole_view labels.now) here name.now }
+    ensures { result ≡ short_distance (symbols_view labels.now) here name.now }
 {
     distance(
-        address_of(labels.text_size, spot_of(here)) + 2,
-        environment(labels, name),
+        address_of(labels.text_size, symbol_of(here)) + 2,
+        symbol_address(labels, name),
     )
 }
 
-fn fits_byte(distance: i32) -> bool
-    ensures { result ≡ fits_byte distance }
-{
-    distance >= -128 && distance < 128
-}
-
 #[tactic(auto, unfolding(crate::specs::Program::is_in_reach))]
-fn is_in_reach<'a>(labels: &Labels<'a>, here: Here, statement: Statement<'a>) -> bool
-    requires small { IsSmall (whole_view labels.now) }
+fn is_in_reach<'a>(labels: &Labels<'a>, here: LocationCounter, statement: Statement<'a>) -> bool
+    requires small { IsSmall (symbols_view labels.now) }
     requires within { IsWithin here }
-    ensures { result ≡ is_in_reach (whole_view labels.now) here (statement_view statement.entry) }
+    ensures { result ≡ is_in_reach (symbols_view labels.now) here (statement_view statement.entry) }
 {
     match statement {
-        Statement::Code(_, uses) => match uses.short {
+        Statement::Code(_, fixups) => match fixups.short {
             Some(name) => fits_byte(short_distance(labels, here, name)),
             None => true,
         },
@@ -84,14 +77,14 @@ fn directive_fault(statement: Statement) -> Option<Rule>
 pub(crate) fn broken_at<'a>(
     labels: &Labels<'a>,
     twice: bool,
-    here: Here,
+    here: LocationCounter,
     statement: Statement<'a>,
     size: u128,
 ) -> Option<Rule>
-    requires small { IsSmall (whole_view labels.now) }
+    requires small { IsSmall (symbols_view labels.now) }
     requires within { IsWithin here }
     requires size { size ≡ size_of (statement_view statement) }
-    ensures { result ≡ broken_at (whole_view labels.now) twice here (statement_view statement.entry) }
+    ensures { result ≡ broken_at (symbols_view labels.now) twice here (statement_view statement.entry) }
 {
     if let Some(rule) = own_fault(statement) {
         return Some(rule);

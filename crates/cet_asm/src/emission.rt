@@ -5,25 +5,22 @@ ghost use Rattle.std.specs.Int.{w64, to_le_bytes};
 ghost use Rattle.std.specs.List.{flat_map, repeat};
 ghost use Rattle.cet_isa.specs.Canonical.{fits_byte, one_byte};
 ghost use Rattle.cet_isa.specs.Spelled.{has_spelling};
-ghost use Rattle.cet_asm.specs.Tokens.{tokens};
-ghost use Rattle.cet_asm.specs.Line.{Code, bytes_in, quads_in};
-ghost use Rattle.cet_asm.specs.Layout.{size_of};
+ghost use Rattle.cet_syntax.specs.Tokens.{tokens};
+ghost use Rattle.cet_syntax.specs.Line.{Code, bytes_in, quads_in};
+ghost use Rattle.cet_asm.specs.Layout.{size_of, program_limit};
 ghost use Rattle.cet_asm.specs.Program.{item_bytes, short_opcode, short_distance, is_in_reach, code_bytes, bytes_of};
-ghost use Rattle.cet_asm.specs.Views.{uses_view, statement_view, item_view, IsSpelledStatement};
+ghost use Rattle.cet_syntax.specs.Views.{fixups_view, statement_view, item_view, IsSpelledStatement};
 ghost use Rattle.cet_asm.specs.Passes.{IsWithin};
-ghost use Rattle.cet_asm.specs.Places.{whole_view, IsSmall};
+ghost use Rattle.cet_asm.specs.Places.{symbols_view, IsSmall};
 
 use crate::checks::short_distance;
 use crate::filling::filled;
-use crate::instructions::Uses;
-use crate::labels::{Labels, environment, found_in};
-use crate::layout::{address_of, spot_of};
-use crate::lists::{next_byte, next_quad};
-use crate::places::Item;
-use crate::sections::Here;
+use crate::labels::{Labels, resolved_in, symbol_address};
+use crate::layout::{address_of, symbol_of};
+use crate::sections::LocationCounter;
 use crate::sizes::spell;
-use crate::statements::Statement;
 use cet_isa::Instr;
+use cet_syntax::{Fixups, Item, Statement, next_byte, next_quad};
 use cet_words::{Bytes, NoMemory};
 use std::alloc::Global;
 
@@ -48,12 +45,12 @@ fn put_values(alloc: Global, out: &mut Bytes, text: &[u8]) -> Result<(), NoMemor
 }
 
 fn item_word<'a>(labels: &Labels<'a>, item: Item<'a>) -> u64
-    requires { IsSmall (whole_view labels.now) }
-    ensures { to_le_bytes w64 result ≡ item_bytes (whole_view labels.now) (item_view item.entry) }
+    requires { IsSmall (symbols_view labels.now) }
+    ensures { to_le_bytes w64 result ≡ item_bytes (symbols_view labels.now) (item_view item.entry) }
 {
     match item {
         Item::Known(word) => word,
-        Item::Named(name) => environment(labels, name),
+        Item::Named(name) => symbol_address(labels, name),
     }
 }
 
@@ -63,8 +60,8 @@ fn put_quads<'a>(
     labels: &Labels<'a>,
     text: &'a [u8],
 ) -> Result<(), NoMemory>
-    requires { IsSmall (whole_view labels.now) }
-    ensures { OnOk result (out.new ≡ out.old ++ flat_map (item_bytes (whole_view labels.now)) (quads_in (tokens text.now))) }
+    requires { IsSmall (symbols_view labels.now) }
+    ensures { OnOk result (out.new ≡ out.old ++ flat_map (item_bytes (symbols_view labels.now)) (quads_in (tokens text.now))) }
 {
     let mut rest = text;
     while let Some((item, after)) = next_quad(rest) {
@@ -78,7 +75,7 @@ fn short_opcode(instr: Instr) -> u8
     ensures { result ≡ short_opcode instr }
 {
     match instr {
-        Instr::Jcc { cond, .. } => 0x70 + cond as u8,
+        Instr::Jcc { cond, .. } => 0x70 + cond.number(),
         _ => 0xeb,
     }
 }
@@ -96,14 +93,14 @@ fn put_short<'a>(
     alloc: Global,
     out: &mut Bytes,
     labels: &Labels<'a>,
-    here: Here,
+    here: LocationCounter,
     instr: Instr,
     name: &'a [u8],
 ) -> Result<(), NoMemory>
-    requires small { IsSmall (whole_view labels.now) }
+    requires small { IsSmall (symbols_view labels.now) }
     requires within { IsWithin here }
-    requires reach { fits_byte (short_distance (whole_view labels.now) here name.now) ≡ true }
-    ensures { OnOk result (out.new ≡ out.old ++ short_opcode instr ∷ one_byte (short_distance (whole_view labels.now) here name.now)) }
+    requires reach { fits_byte (short_distance (symbols_view labels.now) here name.now) ≡ true }
+    ensures { OnOk result (out.new ≡ out.old ++ short_opcode instr ∷ one_byte (short_distance (symbols_view labels.now) here name.now)) }
 {
     let distance = short_distance(labels, here, name);
     out.push(alloc, short_opcode(instr))?;
@@ -116,24 +113,24 @@ fn put_code<'a>(
     alloc: Global,
     out: &mut Bytes,
     labels: &Labels<'a>,
-    here: Here,
+    here: LocationCounter,
     instr: Instr,
-    uses: Uses<'a>,
+    fixups: Fixups<'a>,
     size: u128,
 ) -> Result<(), NoMemory>
-    requires small { IsSmall (whole_view labels.now) }
+    requires small { IsSmall (symbols_view labels.now) }
     requires within { IsWithin here }
     requires spelled { has_spelling instr ≡ true }
-    requires size { size ≡ size_of (Code instr (uses_view uses)) }
-    requires short { size ≤ 4190208 }
-    requires reach { is_in_reach (whole_view labels.now) here (Code instr (uses_view uses)) ≡ true }
-    ensures { OnOk result (out.new ≡ out.old ++ code_bytes (whole_view labels.now) here instr (uses_view uses.entry)) }
+    requires size { size ≡ size_of (Code instr (fixups_view fixups)) }
+    requires short { size ≤ program_limit }
+    requires reach { is_in_reach (symbols_view labels.now) here (Code instr (fixups_view fixups)) ≡ true }
+    ensures { OnOk result (out.new ≡ out.old ++ code_bytes (symbols_view labels.now) here instr (fixups_view fixups.entry)) }
 {
-    match uses.short {
+    match fixups.short {
         Some(name) => put_short(alloc, out, labels, here, instr, name),
         None => {
-            let next = address_of(labels.text_size, spot_of(here)) + size as u64;
-            spell(alloc, out, filled(next, found_in(labels, uses), instr))
+            let next = address_of(labels.text_size, symbol_of(here)) + size as u64;
+            spell(alloc, out, filled(next, resolved_in(labels, fixups), instr))
         }
     }
 }
@@ -144,23 +141,23 @@ pub(crate) fn put_statement<'a>(
     alloc: Global,
     out: &mut Bytes,
     labels: &Labels<'a>,
-    here: Here,
+    here: LocationCounter,
     statement: Statement<'a>,
     size: u128,
 ) -> Result<(), NoMemory>
-    requires small { IsSmall (whole_view labels.now) }
+    requires small { IsSmall (symbols_view labels.now) }
     requires within { IsWithin here }
     requires spelled { IsSpelledStatement statement }
     requires size { size ≡ size_of (statement_view statement) }
-    requires short { size ≤ 4190208 }
-    requires reach { is_in_reach (whole_view labels.now) here (statement_view statement) ≡ true }
-    ensures { OnOk result (out.new ≡ out.old ++ bytes_of (whole_view labels.now) here (statement_view statement.entry)) }
+    requires short { size ≤ program_limit }
+    requires reach { is_in_reach (symbols_view labels.now) here (statement_view statement) ≡ true }
+    ensures { OnOk result (out.new ≡ out.old ++ bytes_of (symbols_view labels.now) here (statement_view statement.entry)) }
 {
     match statement {
         Statement::Zero(count) => put_zeros(alloc, out, count),
         Statement::Values(text) => put_values(alloc, out, text),
         Statement::Quads(text) => put_quads(alloc, out, labels, text),
-        Statement::Code(instr, uses) => put_code(alloc, out, labels, here, instr, uses, size),
+        Statement::Code(instr, fixups) => put_code(alloc, out, labels, here, instr, fixups, size),
         _ => Ok(()),
     }
 }

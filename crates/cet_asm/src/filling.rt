@@ -1,4 +1,4 @@
-//! Instructions with the addresses of their labels.
+//! Fixups: instructions with the addresses of their labels.
 
 ghost use Rattle.std.specs.Prelude.{◌≡◌, ◌<◌, ◌^◌, IfSome};
 ghost use Rattle.cet_asm.specs.Layout.{operand_memory, operand_immediate, with_memory, with_immediate, with_target, distance, placed_mem};
@@ -6,9 +6,9 @@ ghost use Rattle.cet_asm.specs.Filling.{on_address, AreSmall, filled_at};
 
 use cet_isa::{Base, Instr, Mem, Operand};
 
-/// The addresses that an instruction uses: as displacement, as immediate, and as target of a relative jump of four bytes.
+/// The addresses of an instruction's fixups: as displacement, as immediate, and as target of a relative jump of four bytes.
 #[derive(Clone, Copy)]
-pub(crate) struct Found {
+pub(crate) struct ResolvedFixups {
     pub displacement: Option<u64>,
     pub immediate: Option<u64>,
     pub target: Option<u64>,
@@ -32,157 +32,80 @@ struct Aim {
     ghost address_small: { address < 2 ^ 31 },
 }
 
-fn placed_mem(aim: Aim, mem: Mem) -> Mem
-    ensures { result ≡ placed_mem aim.next aim.address mem }
+fn place_mem(aim: Aim, mem: &mut Mem)
+    ensures { mem.new ≡ placed_mem aim.next aim.address mem.old }
 {
-    let disp = match mem.base {
+    mem.disp = match mem.base {
         Base::Rip => distance(aim.next, aim.address),
         _ => aim.address as i32,
     };
-    Mem { disp, ..mem }
 }
 
-fn placed_operand(aim: Aim, operand: Operand) -> Operand
-    ensures { result ≡ operand_memory (placed_mem aim.next aim.address) operand }
+fn place_operand(aim: Aim, operand: &mut Operand)
+    ensures { operand.new ≡ operand_memory (placed_mem aim.next aim.address) operand.old }
 {
-    match operand {
-        Operand::Mem(mem) => Operand::Mem(placed_mem(aim, mem)),
-        other => other,
+    if let Operand::Mem(mem) = operand {
+        place_mem(aim, mem);
     }
 }
 
 #[tactic(auto, unfolding(crate::specs::Layout::with_memory))]
-fn with_memory(aim: Aim, instr: Instr) -> Instr
+fn with_memory(aim: Aim, mut instr: Instr) -> Instr
     ensures { result ≡ with_memory (placed_mem aim.next aim.address) instr }
 {
-    match instr {
-        Instr::Alu { op, size, dst, src } => Instr::Alu {
-            op,
-            size,
-            dst: placed_operand(aim, dst),
-            src: placed_operand(aim, src),
-        },
-        Instr::Test { size, src, dst } => Instr::Test {
-            size,
-            src,
-            dst: placed_operand(aim, dst),
-        },
-        Instr::Mov { size, dst, src } => Instr::Mov {
-            size,
-            dst: placed_operand(aim, dst),
-            src: placed_operand(aim, src),
-        },
-        Instr::MovSign32 { dst, src } => Instr::MovSign32 {
-            dst,
-            src: placed_operand(aim, src),
-        },
-        Instr::Xchg { reg, dst } => Instr::Xchg {
-            reg,
-            dst: placed_operand(aim, dst),
-        },
-        Instr::Imul { size, dst, src } => Instr::Imul {
-            size,
-            dst,
-            src: placed_operand(aim, src),
-        },
-        Instr::Cmov {
-            cond,
-            size,
-            dst,
-            src,
-        } => Instr::Cmov {
-            cond,
-            size,
-            dst,
-            src: placed_operand(aim, src),
-        },
-        Instr::Push { src } => Instr::Push {
-            src: placed_operand(aim, src),
-        },
-        Instr::CallInd { notrack, target } => Instr::CallInd {
-            notrack,
-            target: placed_operand(aim, target),
-        },
-        Instr::JmpInd { notrack, target } => Instr::JmpInd {
-            notrack,
-            target: placed_operand(aim, target),
-        },
-        Instr::MovZero8 { dst, src } => Instr::MovZero8 {
-            dst,
-            src: placed_mem(aim, src),
-        },
-        Instr::Lea { size, dst, src } => Instr::Lea {
-            size,
-            dst,
-            src: placed_mem(aim, src),
-        },
-        Instr::LockXadd { reg, mem } => Instr::LockXadd {
-            reg,
-            mem: placed_mem(aim, mem),
-        },
-        Instr::LockCmpxchg { reg, mem } => Instr::LockCmpxchg {
-            reg,
-            mem: placed_mem(aim, mem),
-        },
-        Instr::Rstorssp { mem } => Instr::Rstorssp {
-            mem: placed_mem(aim, mem),
-        },
-        Instr::Clrssbsy { mem } => Instr::Clrssbsy {
-            mem: placed_mem(aim, mem),
-        },
-        Instr::Wrssq { reg, mem } => Instr::Wrssq {
-            reg,
-            mem: placed_mem(aim, mem),
-        },
-        Instr::Wrussq { reg, mem } => Instr::Wrussq {
-            reg,
-            mem: placed_mem(aim, mem),
-        },
-        other => other,
+    match &mut instr {
+        Instr::Alu { dst, src, .. } => {
+            place_operand(aim, dst);
+            place_operand(aim, src);
+        }
+        Instr::Mov { dst, src, .. } => {
+            place_operand(aim, dst);
+            place_operand(aim, src);
+        }
+        Instr::Test { dst, .. } => place_operand(aim, dst),
+        Instr::MovSign32 { src, .. } => place_operand(aim, src),
+        Instr::Xchg { dst, .. } => place_operand(aim, dst),
+        Instr::Imul { src, .. } => place_operand(aim, src),
+        Instr::Cmov { src, .. } => place_operand(aim, src),
+        Instr::Push { src } => place_operand(aim, src),
+        Instr::CallInd { target, .. } => place_operand(aim, target),
+        Instr::JmpInd { target, .. } => place_operand(aim, target),
+        Instr::MovZero8 { src, .. } => place_mem(aim, src),
+        Instr::Lea { src, .. } => place_mem(aim, src),
+        Instr::LockXadd { mem, .. } => place_mem(aim, mem),
+        Instr::LockCmpxchg { mem, .. } => place_mem(aim, mem),
+        Instr::Rstorssp { mem } => place_mem(aim, mem),
+        Instr::Clrssbsy { mem } => place_mem(aim, mem),
+        Instr::Wrssq { mem, .. } => place_mem(aim, mem),
+        Instr::Wrussq { mem, .. } => place_mem(aim, mem),
+        _ => {}
     }
+    instr
 }
 
-fn address_operand(address: u64, operand: Operand) -> Operand
+fn place_immediate(address: u64, operand: &mut Operand)
     requires { address < 2 ^ 31 }
-    ensures { result ≡ operand_immediate address operand }
+    ensures { operand.new ≡ operand_immediate address operand.old }
 {
-    match operand {
-        Operand::Imm(_) => Operand::Imm(address as i32),
-        other => other,
+    if let Operand::Imm(number) = operand {
+        *number = address as i32;
     }
 }
 
 #[tactic(auto, unfolding(crate::specs::Layout::with_immediate))]
-fn with_immediate(address: u64, instr: Instr) -> Instr
+fn with_immediate(address: u64, mut instr: Instr) -> Instr
     requires { address < 2 ^ 31 }
     ensures { result ≡ with_immediate address instr }
 {
-    match instr {
-        Instr::Alu { op, size, dst, src } => Instr::Alu {
-            op,
-            size,
-            dst,
-            src: address_operand(address, src),
-        },
-        Instr::Test { size, dst, src } => Instr::Test {
-            size,
-            dst,
-            src: address_operand(address, src),
-        },
-        Instr::Mov { size, dst, src } => Instr::Mov {
-            size,
-            dst,
-            src: address_operand(address, src),
-        },
-        Instr::MovWide { dst, .. } => Instr::MovWide {
-            dst,
-            value: address,
-        },
-        Instr::Push { src } => Instr::Push {
-            src: address_operand(address, src),
-        },
-        other => other,
+    match &mut instr {
+        Instr::Alu { src, .. } => place_immediate(address, src),
+        Instr::Test { src, .. } => place_immediate(address, src),
+        Instr::Mov { src, .. } => place_immediate(address, src),
+        Instr::Push { src } => place_immediate(address, src),
+        Instr::MovWide { value, .. } => *value = address,
+        _ => {}
     }
+    instr
 }
 
 #[tactic(auto, unfolding(crate::specs::Layout::with_target))]
@@ -231,11 +154,15 @@ fn on_target(next: u64, address: Option<u64>, instr: Instr) -> Instr
 }
 
 /// The instruction with these addresses, the next one standing at `next`.
-pub(crate) fn filled(next: u64, found: Found, instr: Instr) -> Instr
+pub(crate) fn filled(next: u64, resolved: ResolvedFixups, instr: Instr) -> Instr
     requires next { next < 2 ^ 31 }
-    requires found { AreSmall found }
-    ensures { result ≡ filled_at next found instr }
+    requires resolved { AreSmall resolved }
+    ensures { result ≡ filled_at next resolved instr }
 {
-    let placed = on_displacement(next, found.displacement, instr);
-    on_target(next, found.target, on_immediate(found.immediate, placed))
+    let placed = on_displacement(next, resolved.displacement, instr);
+    on_target(
+        next,
+        resolved.target,
+        on_immediate(resolved.immediate, placed),
+    )
 }

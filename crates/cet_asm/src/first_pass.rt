@@ -2,16 +2,14 @@
 
 ghost use Rattle.std.specs.Prelude.{◌≡◌, ◌<◌, ◌-◌, ◌^◌, length, IfOk};
 ghost use Rattle.cet_asm.specs.Layout.{start};
-ghost use Rattle.cet_asm.specs.Words.{either};
 ghost use Rattle.cet_asm.specs.Program.{lines_of, end_from};
 ghost use Rattle.cet_asm.specs.Passes.{place_in, places_from, twice_from, number_if, no_places};
 
 use crate::labels::{Labels, define_all};
-use crate::layout::{after, spot_of, start};
-use crate::lines::read_line;
-use crate::sections::Spot;
+use crate::layout::{after, start, symbol_of};
+use crate::sections::SymbolValue;
 use crate::sizes::size_of;
-use crate::splitting::first_line;
+use cet_syntax::{first_line, read_line};
 use cet_words::NoMemory;
 use std::alloc::Global;
 use std::collections::BTreeMap;
@@ -25,14 +23,10 @@ pub(crate) struct Survey<'a> {
     pub twice: Option<u32>,
 }
 
-fn first_of(twice: Option<u32>, again: bool, number: u32) -> Option<u32>
-    ensures { result ≡ either twice (number_if again number) }
+fn number_if(again: bool, number: u32) -> Option<u32>
+    ensures { result ≡ number_if again number }
 {
-    match twice {
-        Some(line) => Some(line),
-        None if again => Some(number),
-        None => None,
-    }
+    if again { Some(number) } else { None }
 }
 
 /// Finds the labels of a text.
@@ -42,7 +36,7 @@ pub(crate) fn first_pass(alloc: Global, source: &[u8]) -> Result<Survey<'_>, NoM
     ensures text_size { IfOk result (λ x. x.labels.text_size ≡ (end_from start (lines_of source.now)).text) }
     ensures twice { IfOk result (λ x. x.twice ≡ twice_from 1 no_places start (lines_of source.now)) }
 {
-    let mut places: BTreeMap<&[u8], Spot> = BTreeMap::new(alloc);
+    let mut places: BTreeMap<&[u8], SymbolValue> = BTreeMap::new(alloc);
     let mut here = start();
     let mut above: u32 = 0;
     let mut twice = None;
@@ -50,8 +44,8 @@ pub(crate) fn first_pass(alloc: Global, source: &[u8]) -> Result<Survey<'_>, NoM
     while let Some(text) = left {
         let (bytes, rest) = first_line(text);
         let line = read_line(bytes);
-        let again = define_all(&mut places, line.labels, spot_of(here))?;
-        twice = first_of(twice, again, above + 1);
+        let again = define_all(&mut places, line.labels, symbol_of(here))?;
+        twice = twice.or(number_if(again, above + 1));
         let size = size_of(alloc, line.statement)?;
         here = after(here, line.statement, size);
         above += 1;

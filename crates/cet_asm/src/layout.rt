@@ -1,24 +1,24 @@
 //! Where the next bytes stand, and how long a program may get.
 
 ghost use Rattle.std.specs.Prelude.{◌≡◌, ◌<◌, ◌≤◌, ◌^◌, if◌then◌else◌};
-ghost use Rattle.cet_asm.specs.Layout.{round_up, grown, exceeds, after, spot_of, start, address_of, size_of};
-ghost use Rattle.cet_asm.specs.Views.{statement_view};
+ghost use Rattle.cet_asm.specs.Layout.{round_up, grown, exceeds, after, symbol_of, start, address_of, size_of, program_limit};
+ghost use Rattle.cet_syntax.specs.Views.{statement_view};
 ghost use Rattle.cet_asm.specs.Passes.{IsWithin};
 
-use crate::sections::{Here, Section, Spot};
-use crate::statements::Statement;
+use crate::sections::{LocationCounter, Section, SymbolValue};
+use cet_syntax::Statement;
 
-/// Where the text starts.
-pub(crate) const TEXT_START: u64 = 0x401000;
+/// The address at which the text of a program starts.
+pub const TEXT_START: u64 = 0x401000;
 
-/// The most bytes that the text, rounded up to whole pages, and the data may have.
-const LIMIT: u64 = 4_190_208;
+/// The most bytes that the text, rounded up to whole pages, and the data may have: they end at 0x800000.
+const PROGRAM_LIMIT: u64 = 4_190_208;
 
-pub(crate) fn start() -> Here
+pub(crate) fn start() -> LocationCounter
     ensures start { result ≡ start }
     ensures within { IsWithin result }
 {
-    Here {
+    LocationCounter {
         section: Section::Text,
         text: 0,
         static_data: 0,
@@ -32,18 +32,18 @@ fn round_up(bytes: u64) -> u64
     (bytes + 4095) / 4096 * 4096
 }
 
-fn grown(here: Here, size: u64) -> Here
+fn grown(here: LocationCounter, size: u64) -> LocationCounter
     requires within { IsWithin here }
-    requires size { size ≤ 4190208 }
+    requires size { size ≤ program_limit }
     ensures { result ≡ grown here size }
 {
     match here.section {
-        Section::Text => Here {
+        Section::Text => LocationCounter {
             section: here.section,
             text: here.text + size,
             static_data: here.static_data,
         },
-        Section::Data => Here {
+        Section::Data => LocationCounter {
             section: here.section,
             text: here.text,
             static_data: here.static_data + size,
@@ -51,27 +51,27 @@ fn grown(here: Here, size: u64) -> Here
     }
 }
 
-fn exceeds(here: Here) -> bool
+fn exceeds(here: LocationCounter) -> bool
     requires text { here.text < 2 ^ 32 }
     requires static_data { here.static_data < 2 ^ 32 }
     ensures { result ≡ exceeds here }
 {
-    round_up(here.text) + here.static_data > LIMIT
+    round_up(here.text) + here.static_data > PROGRAM_LIMIT
 }
 
 /// Whether the program gets too long by so many bytes.
 #[tactic(auto, using(crate::proofs::LayoutLaws::layout_laws))]
-pub(crate) fn is_too_long(here: Here, size: u128) -> bool
+pub(crate) fn is_too_long(here: LocationCounter, size: u128) -> bool
     requires { IsWithin here }
     ensures { result ≡ exceeds (grown here size) }
 {
-    if size > LIMIT as u128 {
+    if size > PROGRAM_LIMIT as u128 {
         return true;
     }
     exceeds(grown(here, size as u64))
 }
 
-fn moved(here: Here, size: u128) -> Here
+fn moved(here: LocationCounter, size: u128) -> LocationCounter
     requires { IsWithin here }
     ensures here { result ≡ (if exceeds (grown here size) then here else grown here size) }
     ensures within { IsWithin result }
@@ -85,19 +85,19 @@ fn moved(here: Here, size: u128) -> Here
 
 /// After a line of so many bytes. One that makes the program too long has none.
 #[tactic(auto, unfolding(crate::specs::Layout::after, crate::specs::Layout::is_too_long))]
-pub(crate) fn after(here: Here, statement: Statement, size: u128) -> Here
+pub(crate) fn after(here: LocationCounter, statement: Statement, size: u128) -> LocationCounter
     requires within { IsWithin here }
     requires size { size ≡ size_of (statement_view statement) }
     ensures here { result ≡ after here (statement_view statement.entry) }
     ensures within { IsWithin result }
 {
     match statement {
-        Statement::TextSection => Here {
+        Statement::TextSection => LocationCounter {
             section: Section::Text,
             text: here.text,
             static_data: here.static_data,
         },
-        Statement::DataSection => Here {
+        Statement::DataSection => LocationCounter {
             section: Section::Data,
             text: here.text,
             static_data: here.static_data,
@@ -106,14 +106,14 @@ pub(crate) fn after(here: Here, statement: Statement, size: u128) -> Here
     }
 }
 
-pub(crate) fn spot_of(here: Here) -> Spot
-    ensures { result ≡ spot_of here }
+pub(crate) fn symbol_of(here: LocationCounter) -> SymbolValue
+    ensures { result ≡ symbol_of here }
 {
     let offset = match here.section {
         Section::Text => here.text,
         Section::Data => here.static_data,
     };
-    Spot {
+    SymbolValue {
         section: here.section,
         offset,
     }
@@ -121,14 +121,14 @@ pub(crate) fn spot_of(here: Here) -> Spot
 
 /// The address of a place, where the text has so many bytes.
 #[tactic(auto, unfolding(crate::specs::Layout::address_of))]
-pub(crate) fn address_of(text: u64, spot: Spot) -> u64
-    requires text { text ≤ 4190208 }
-    requires spot { spot.offset ≤ 4190208 }
-    ensures address { result ≡ address_of text spot }
+pub(crate) fn address_of(text: u64, symbol: SymbolValue) -> u64
+    requires text { text ≤ program_limit }
+    requires symbol { symbol.offset ≤ program_limit }
+    ensures address { result ≡ address_of text symbol }
     ensures small { result < 2 ^ 24 }
 {
-    match spot.section {
-        Section::Text => TEXT_START + spot.offset,
-        Section::Data => TEXT_START + round_up(text) + spot.offset,
+    match symbol.section {
+        Section::Text => TEXT_START + symbol.offset,
+        Section::Data => TEXT_START + round_up(text) + symbol.offset,
     }
 }

@@ -4,7 +4,7 @@ ghost use Rattle.std.specs.Prelude.{◌≡◌};
 
 use cet_words::{Bytes, NoMemory};
 
-/// A program: the bytes of its text, which starts at 0x401000, those of its data, the address at which it starts,
+/// A program: the bytes of its text, which starts at `TEXT_START`, those of its data, the address at which it starts,
 /// and its mark, of which bit 1 asks for shadow stacks and bit 0 for branch tracking.
 #[derive(Debug, Drop)]
 pub struct Program {

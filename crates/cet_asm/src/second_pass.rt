@@ -1,24 +1,22 @@
 //! The second pass: the rules of each line, and the bytes of the program.
 
-ghost use Rattle.std.specs.Prelude.{◌≡◌, ◌<◌, ◌≤◌, ◌-◌, ◌^◌, ◌++◌, length, OnOk, true};
-ghost use Rattle.cet_asm.specs.Layout.{size_of};
-ghost use Rattle.cet_asm.specs.Program.{lines_of, bytes_of, in_section, is_in_reach, mark_after};
-ghost use Rattle.cet_asm.specs.Views.{statement_view, IsSpelledStatement};
+ghost use Rattle.std.specs.Prelude.{◌≡◌, ◌<◌, ◌≤◌, ◌-◌, ◌^◌, ◌++◌, length, OnOk, true, codes};
+ghost use Rattle.cet_asm.specs.Layout.{size_of, program_limit};
+ghost use Rattle.cet_asm.specs.Program.{lines_of, bytes_of, in_section, is_in_reach, mark_after, symbol_address};
+ghost use Rattle.cet_syntax.specs.Views.{statement_view, IsSpelledStatement};
 ghost use Rattle.cet_asm.specs.Passes.{is_number, IsWithin};
-ghost use Rattle.cet_asm.specs.Places.{whole_view, IsSmall};
+ghost use Rattle.cet_asm.specs.Places.{symbols_view, IsSmall};
 ghost use Rattle.cet_asm.specs.Second.{IsSecond, IsLineAnswer};
 ghost use Rattle.cet_asm.specs.declared.sections.Section.TheVariants.{Text, Data};
 
 use crate::checks::{broken_at, rule_number};
 use crate::emission::put_statement;
-use crate::labels::{Labels, environment};
+use crate::labels::{Labels, symbol_address};
 use crate::layout::{after, start};
-use crate::lines::read_line;
 use crate::program::{AsmFault, Program};
-use crate::sections::{Here, Section};
+use crate::sections::{LocationCounter, Section};
 use crate::sizes::size_of;
-use crate::splitting::first_line;
-use crate::statements::Statement;
+use cet_syntax::{Statement, first_line, read_line};
 use cet_words::{Bytes, NoMemory};
 use std::alloc::Global;
 
@@ -52,18 +50,18 @@ fn put_line<'a>(
     alloc: Global,
     out: &mut Output,
     labels: &Labels<'a>,
-    here: Here,
+    here: LocationCounter,
     statement: Statement<'a>,
     size: u128,
 ) -> Result<(), NoMemory>
-    requires small { IsSmall (whole_view labels.now) }
+    requires small { IsSmall (symbols_view labels.now) }
     requires within { IsWithin here }
     requires spelled { IsSpelledStatement statement }
     requires size { size ≡ size_of (statement_view statement) }
-    requires short { size ≤ 4190208 }
-    requires reach { is_in_reach (whole_view labels.now) here (statement_view statement) ≡ true }
-    ensures text { OnOk result (out.new.text ≡ out.old.text ++ in_section Text here.section (bytes_of (whole_view labels.now) here (statement_view statement.entry))) }
-    ensures static_data { OnOk result (out.new.static_data ≡ out.old.static_data ++ in_section Data here.section (bytes_of (whole_view labels.now) here (statement_view statement.entry))) }
+    requires short { size ≤ program_limit }
+    requires reach { is_in_reach (symbols_view labels.now) here (statement_view statement) ≡ true }
+    ensures text { OnOk result (out.new.text ≡ out.old.text ++ in_section Text here.section (bytes_of (symbols_view labels.now) here (statement_view statement.entry))) }
+    ensures static_data { OnOk result (out.new.static_data ≡ out.old.static_data ++ in_section Data here.section (bytes_of (symbols_view labels.now) here (statement_view statement.entry))) }
 {
     match here.section {
         Section::Text => put_statement(alloc, &mut out.text, labels, here, statement, size),
@@ -79,15 +77,15 @@ fn second_line<'a>(
     labels: &Labels<'a>,
     twice: bool,
     number: u32,
-    here: Here,
+    here: LocationCounter,
     statement: Statement<'a>,
-) -> Result<Here, AsmFault>
-    requires small { IsSmall (whole_view labels.now) }
+) -> Result<LocationCounter, AsmFault>
+    requires small { IsSmall (symbols_view labels.now) }
     requires within { IsWithin here }
     requires spelled { IsSpelledStatement statement }
-    ensures answer { IsLineAnswer (whole_view labels.now) twice number here (statement_view statement.entry) result }
-    ensures text { OnOk result (out.new.text ≡ out.old.text ++ in_section Text here.section (bytes_of (whole_view labels.now) here (statement_view statement.entry))) }
-    ensures static_data { OnOk result (out.new.static_data ≡ out.old.static_data ++ in_section Data here.section (bytes_of (whole_view labels.now) here (statement_view statement.entry))) }
+    ensures answer { IsLineAnswer (symbols_view labels.now) twice number here (statement_view statement.entry) result }
+    ensures text { OnOk result (out.new.text ≡ out.old.text ++ in_section Text here.section (bytes_of (symbols_view labels.now) here (statement_view statement.entry))) }
+    ensures static_data { OnOk result (out.new.static_data ≡ out.old.static_data ++ in_section Data here.section (bytes_of (symbols_view labels.now) here (statement_view statement.entry))) }
 {
     let size = size_of(alloc, statement)?;
     if let Some(rule) = broken_at(labels, twice, here, statement, size) {
@@ -100,6 +98,14 @@ fn second_line<'a>(
     Ok(after(here, statement, size))
 }
 
+/// Where the program starts: at `_start`, or else where the text does.
+fn entry(labels: &Labels) -> u64
+    requires { IsSmall (symbols_view labels.now) }
+    ensures { result ≡ symbol_address (symbols_view labels.now) (codes "_start") }
+{
+    symbol_address(labels, b"_start")
+}
+
 /// Tests the lines of a text and writes its program, by the places of its labels and the first line with a label that
 /// is defined before.
 pub(crate) fn second_pass<'a>(
@@ -109,8 +115,8 @@ pub(crate) fn second_pass<'a>(
     twice: Option<u32>,
 ) -> Result<Program, AsmFault>
     requires short { length source.now < 2 ^ 32 - 1 }
-    requires small { IsSmall (whole_view labels.now) }
-    ensures { IsSecond (whole_view labels.now) twice (lines_of source.now) result }
+    requires small { IsSmall (symbols_view labels.now) }
+    ensures { IsSecond (symbols_view labels.now) twice (lines_of source.now) result }
 {
     let mut out = Output {
         text: Bytes::new(alloc),
@@ -140,7 +146,7 @@ pub(crate) fn second_pass<'a>(
     Ok(Program {
         text: out.text,
         static_data: out.static_data,
-        entry: environment(labels, b"_start"),
+        entry: entry(labels),
         mark,
     })
 }

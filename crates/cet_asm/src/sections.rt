@@ -1,4 +1,4 @@
-//! Where the bytes of a text stand.
+//! Sections, the location counter, and the values of symbols.
 
 ghost use Rattle.std.specs.Prelude.{◌≡◌};
 
@@ -9,16 +9,16 @@ pub(crate) enum Section {
     Data,
 }
 
-/// A place in a program: so many bytes after the start of a section.
+/// The value of a symbol: so many bytes after the start of a section.
 #[derive(Clone, Copy)]
-pub(crate) struct Spot {
+pub(crate) struct SymbolValue {
     pub section: Section,
     pub offset: u64,
 }
 
-/// Where the next bytes stand: the section, and how many bytes each of the two has so far.
+/// The location counter, where the next bytes stand: the section, and how many bytes each of the two has so far.
 #[derive(Clone, Copy)]
-pub(crate) struct Here {
+pub(crate) struct LocationCounter {
     pub section: Section,
     pub text: u64,
     pub static_data: u64,

@@ -3,19 +3,17 @@
 ghost use Rattle.std.specs.Prelude.{◌≡◌, ◌≤◌, ◌++◌, true, length, IfOk, OnOk};
 ghost use Rattle.cet_isa.specs.Canonical.{canonical_spelling};
 ghost use Rattle.cet_isa.specs.Spelled.{has_spelling, InstrFits};
-ghost use Rattle.cet_asm.specs.Tokens.{tokens};
-ghost use Rattle.cet_asm.specs.Line.{bytes_in, quads_in};
+ghost use Rattle.cet_syntax.specs.Tokens.{tokens};
+ghost use Rattle.cet_syntax.specs.Line.{bytes_in, quads_in};
 ghost use Rattle.cet_asm.specs.Layout.{code_size, size_of, text_start};
-ghost use Rattle.cet_asm.specs.Views.{name_view, uses_view, statement_view, IsSpelledStatement};
-ghost use Rattle.cet_asm.specs.Filling.{address_for, found_in, AreSmall};
+ghost use Rattle.cet_syntax.specs.Views.{name_view, fixups_view, statement_view, IsSpelledStatement};
+ghost use Rattle.cet_asm.specs.Filling.{address_for, resolved_in, AreSmall};
 
-use crate::filling::{Found, filled};
-use crate::instructions::Uses;
+use crate::filling::{ResolvedFixups, filled};
 use crate::layout::TEXT_START;
-use crate::lists::{next_byte, next_quad};
-use crate::statements::Statement;
 use cet_encode::encode;
 use cet_isa::Instr;
+use cet_syntax::{Fixups, Statement, next_byte, next_quad};
 use cet_words::{Bytes, NoMemory};
 use std::alloc::Global;
 
@@ -54,29 +52,29 @@ fn nominal(name: Option<&[u8]>) -> Option<u64>
 }
 
 /// Addresses that have the sizes of all addresses of a program.
-fn nominal_addresses(uses: Uses) -> Found
-    ensures found { result ≡ found_in (λ name. text_start) (uses_view uses.entry) }
+fn nominal_addresses(fixups: Fixups) -> ResolvedFixups
+    ensures resolved { result ≡ resolved_in (λ name. text_start) (fixups_view fixups.entry) }
     ensures small { AreSmall result }
 {
-    Found {
-        displacement: nominal(uses.displacement),
-        immediate: nominal(uses.immediate),
-        target: nominal(uses.target),
+    ResolvedFixups {
+        displacement: nominal(fixups.displacement),
+        immediate: nominal(fixups.immediate),
+        target: nominal(fixups.target),
     }
 }
 
 #[tactic(auto, using(crate::proofs::FillingLaws::filling_laws))]
-fn code_size(alloc: Global, instr: Instr, uses: Uses) -> Result<usize, NoMemory>
+fn code_size(alloc: Global, instr: Instr, fixups: Fixups) -> Result<usize, NoMemory>
     requires { has_spelling instr ≡ true }
-    ensures { IfOk result (λ n. n ≡ code_size instr (uses_view uses.entry)) }
+    ensures { IfOk result (λ n. n ≡ code_size instr (fixups_view fixups.entry)) }
 {
-    match uses.short {
+    match fixups.short {
         Some(_) => Ok(2),
-        None => spelled_size(alloc, filled(0, nominal_addresses(uses), instr)),
+        None => spelled_size(alloc, filled(0, nominal_addresses(fixups), instr)),
     }
 }
 
-#[tactic(auto, using(crate::proofs::SizeLaws::size_laws))]
+#[tactic(auto, using(cet_syntax::proofs::SizeLaws::size_laws))]
 fn count_values(text: &[u8]) -> usize
     ensures { result ≡ length (bytes_in (tokens text.now)) }
 {
@@ -89,7 +87,7 @@ fn count_values(text: &[u8]) -> usize
     count
 }
 
-#[tactic(auto, using(crate::proofs::SizeLaws::size_laws))]
+#[tactic(auto, using(cet_syntax::proofs::SizeLaws::size_laws))]
 fn count_quads(text: &[u8]) -> usize
     ensures { result ≡ length (quads_in (tokens text.now)) }
 {
@@ -112,7 +110,7 @@ pub(crate) fn size_of(alloc: Global, statement: Statement) -> Result<u128, NoMem
         Statement::Zero(count) => Ok(u128::from(count)),
         Statement::Values(text) => Ok(count_values(text) as u128),
         Statement::Quads(text) => Ok(8 * count_quads(text) as u128),
-        Statement::Code(instr, uses) => Ok(code_size(alloc, instr, uses)? as u128),
+        Statement::Code(instr, fixups) => Ok(code_size(alloc, instr, fixups)? as u128),
         _ => Ok(0),
     }
 }

@@ -3,8 +3,7 @@
 ghost use Rattle.std.specs.Prelude.{◌≡◌, ◌<◌};
 ghost use Rattle.cet_isa.specs.Meaning.{sib_len, base_field, lacks_base, disp_len, base_of, mem_of, operand_of};
 
-use crate::codes::reg_of;
-use cet_isa::{Base, Mem, Operand};
+use cet_isa::{Base, Mem, Operand, Reg};
 
 /// How many bytes of SIB follow this ModRM.
 pub fn sib_count(modrm: u8) -> usize
@@ -47,7 +46,7 @@ fn base(rex: u8, modrm: u8, sib: u8) -> Base
     ensures { result ≡ base_of rex modrm sib }
 {
     if !has_no_base(modrm, sib) {
-        Base::Reg(reg_of(base_bits(modrm, sib) + 8 * (rex % 2)))
+        Base::Reg(Reg::of(base_bits(modrm, sib) + 8 * (rex % 2)))
     } else if modrm % 8 == 4 {
         Base::None
     } else {
@@ -61,7 +60,7 @@ fn mem(rex: u8, modrm: u8, sib: u8, disp: i32) -> Mem
     let base = base(rex, modrm, sib);
     let number = sib / 8 % 8 + 8 * (rex / 2 % 2);
     if modrm % 8 == 4 && number != 4 {
-        let index = Some(reg_of(number));
+        let index = Some(Reg::of(number));
         Mem {
             base,
             index,
@@ -85,6 +84,6 @@ pub fn operand(rex: u8, modrm: u8, sib: u8, disp: i32) -> Operand
     if modrm < 192 {
         Operand::Mem(mem(rex, modrm, sib, disp))
     } else {
-        Operand::Reg(reg_of(modrm % 8 + 8 * (rex % 2)))
+        Operand::Reg(Reg::of(modrm % 8 + 8 * (rex % 2)))
     }
 }

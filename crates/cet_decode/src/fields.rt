@@ -5,7 +5,6 @@ ghost use Rattle.std.specs.Int.{from_le_bytes, w16, w64};
 ghost use Rattle.cet_isa.specs.Meaning.{signed_of, size_in, reg_in, opcode_reg, opcode_op, digit_op, opcode_cond, reg_of, mem_in, count_of};
 ghost use Rattle.cet_decode.specs.Views.{amount_view, fields_view};
 
-use crate::codes::{alu_of, cond_of, reg_of};
 use crate::kinds::Amount;
 use cet_isa::{AluOp, Base, Cond, Count, Mem, Operand, Reg, Size};
 
@@ -74,35 +73,35 @@ pub fn size(x: &Parts) -> Size
 pub fn reg_in_field(x: &Parts) -> Reg
     ensures { result ≡ reg_in (fields_view x.now []) }
 {
-    reg_of(x.modrm / 8 % 8 + 8 * (x.rex / 4 % 2))
+    Reg::of(x.modrm / 8 % 8 + 8 * (x.rex / 4 % 2))
 }
 
 /// The register in the opcode.
 pub fn reg_in_opcode(x: &Parts) -> Reg
     ensures { result ≡ opcode_reg (fields_view x.now []) }
 {
-    reg_of(x.opcode % 8 + 8 * (x.rex % 2))
+    Reg::of(x.opcode % 8 + 8 * (x.rex % 2))
 }
 
 /// The operation in the opcode.
 pub fn op_in_opcode(x: &Parts) -> AluOp
     ensures { result ≡ opcode_op (fields_view x.now []) }
 {
-    alu_of(x.opcode / 8 % 8)
+    AluOp::of(x.opcode / 8 % 8)
 }
 
 /// The operation in ModRM's reg field.
 pub fn op_in_digit(x: &Parts) -> AluOp
     ensures { result ≡ digit_op (fields_view x.now []) }
 {
-    alu_of(x.modrm / 8 % 8)
+    AluOp::of(x.modrm / 8 % 8)
 }
 
 /// The condition in the opcode.
 pub fn cond_in_opcode(x: &Parts) -> Cond
     ensures { result ≡ opcode_cond (fields_view x.now []) }
 {
-    cond_of(x.opcode % 16)
+    Cond::of(x.opcode % 16)
 }
 
 /// The register that an operand is, rax for any other operand.

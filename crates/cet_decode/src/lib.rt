@@ -2,7 +2,6 @@
 #![tactic(auto)]
 
 mod addressing;
-mod codes;
 mod decoder;
 mod fields;
 mod forms;

@@ -13,7 +13,7 @@ use Rattle.cet_isa.specs.declared.instructions.Operand.TheVariants as operands
 use Rattle.cet_isa.specs.declared.instructions.Reg.{Reg}
 use Rattle.cet_isa.specs.declared.instructions.Size.{Size}
 use Rattle.cet_isa.specs.declared.instructions.Size.TheVariants.{Dword, Qword}
-use Rattle.cet_encode.specs.Names.{register_name, condition_name, operation_name}
+use Rattle.cet_isa.specs.Names.{register_name, condition_name, operation_name}
 
 -- a name or a number, one of `,` `[` `]` `+` `-` `*`, or a space
 pub data Piece : Type 0 where

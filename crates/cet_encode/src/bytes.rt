@@ -1,3 +1,5 @@
+//! An encoding round its operand: prefixes, REX, escape bytes and opcode.
+
 ghost use Rattle.std.specs.Prelude.{◌≡◌, ◌++◌, ◌+◌, ◌<◌, OnOk};
 ghost use Rattle.cet_isa.specs.Canonical.{w_bit};
 ghost use Rattle.cet_encode.specs.Bytes.{rex_part, opening, rm_bytes, reg_bytes};

@@ -3,7 +3,6 @@
 ghost use Rattle.std.specs.Prelude.{◌≡◌, ◌++◌, ◌<◌, [], ◌∷◌, OnOk, IsTrue};
 ghost use Rattle.cet_isa.specs.Code.{reg_number, op_number, cond_number};
 ghost use Rattle.cet_isa.specs.Canonical.{
-  fits_byte,
   is_zero,
   low,
   high,
@@ -19,7 +18,7 @@ ghost use Rattle.cet_isa.specs.Canonical.{
 };
 
 use cet_base::put_bytes;
-use cet_isa::{Base, Mem, Operand, Reg};
+use cet_isa::{Base, Mem, Operand, Reg, fits_byte};
 use cet_words::{Bytes, NoMemory};
 use std::alloc::Global;
 
@@ -28,7 +27,7 @@ pub(crate) fn low(reg: Reg) -> u8
     ensures value { result ≡ low reg }
     ensures small { result < 8 }
 {
-    reg as u8 % 8
+    reg.number() % 8
 }
 
 /// The bit of a register that REX has.
@@ -36,13 +35,7 @@ pub(crate) fn high(reg: Reg) -> u8
     ensures value { result ≡ high reg }
     ensures small { result < 2 }
 {
-    reg as u8 / 8
-}
-
-pub(crate) fn fits_byte(value: i32) -> bool
-    ensures { result ≡ fits_byte value }
-{
-    i8::try_from(value).is_ok()
+    reg.number() / 8
 }
 
 /// Whether no displacement is written: it is 0, and mod 0 is free for the base.

@@ -1,3 +1,5 @@
+//! From an instruction to its canonical bytes.
+
 ghost use Rattle.std.specs.Prelude.{◌≡◌, ◌<◌, [], ℕ, List, length, ◌++◌, OnOk, OnErr};
 ghost use Rattle.cet_isa.specs.Canonical.{canonical_spelling};
 ghost use Rattle.cet_isa.specs.Reading.{decoded, Read};
@@ -8,8 +10,8 @@ ghost use Rattle.cet_encode.specs.Groups.{IsFixed, IsMoving, IsShadow};
 
 use crate::bytes::{Opcode, opcode, put_reg, put_rm, put_row};
 use crate::spelling::{
-    cond_number, put_alu, put_indirect, put_mov, put_push, put_relative, put_return, put_shift,
-    put_test, put_wide_move, reg_number,
+    put_alu, put_indirect, put_mov, put_push, put_relative, put_return, put_shift, put_test,
+    put_wide_move,
 };
 use cet_base::put_bytes;
 use cet_isa::{Instr, Operand, Reg, Size};
@@ -48,24 +50,23 @@ fn put_moving(alloc: Global, out: &mut Bytes, instr: Instr) -> Result<(), NoMemo
 
     match instr {
         Instr::MovZero8 { dst, src } =>
-            put_row!(alloc out [] [0x0f] 0xb6; Dword, reg_number(dst), Mem(src)),
-        Instr::MovSign32 { dst, src } =>
-            put_row!(alloc out [] [] 0x63; Qword, reg_number(dst), src),
+            put_row!(alloc out [] [0x0f] 0xb6; Dword, dst.number(), Mem(src)),
+        Instr::MovSign32 { dst, src } => put_row!(alloc out [] [] 0x63; Qword, dst.number(), src),
         Instr::Lea { size, dst, src } =>
-            put_row!(alloc out [] [] 0x8d; size, reg_number(dst), Mem(src)),
-        Instr::Xchg { dst, reg } => put_row!(alloc out [] [] 0x87; Qword, reg_number(reg), dst),
+            put_row!(alloc out [] [] 0x8d; size, dst.number(), Mem(src)),
+        Instr::Xchg { dst, reg } => put_row!(alloc out [] [] 0x87; Qword, reg.number(), dst),
         Instr::LockXadd { mem, reg } =>
-            put_row!(alloc out [0xf0] [0x0f] 0xc1; Qword, reg_number(reg), Mem(mem)),
+            put_row!(alloc out [0xf0] [0x0f] 0xc1; Qword, reg.number(), Mem(mem)),
         Instr::LockCmpxchg { mem, reg } =>
-            put_row!(alloc out [0xf0] [0x0f] 0xb1; Qword, reg_number(reg), Mem(mem)),
+            put_row!(alloc out [0xf0] [0x0f] 0xb1; Qword, reg.number(), Mem(mem)),
         Instr::Imul { size, dst, src } =>
-            put_row!(alloc out [] [0x0f] 0xaf; size, reg_number(dst), src),
+            put_row!(alloc out [] [0x0f] 0xaf; size, dst.number(), src),
         Instr::Cmov {
             cond,
             size,
             dst,
             src,
-        } => { put_row!(alloc out [] [0x0f] 0x40 + cond_number(cond); size, reg_number(dst), src) }
+        } => { put_row!(alloc out [] [0x0f] 0x40 + cond.number(); size, dst.number(), src) }
         _ => unreachable!(),
     }
 }
@@ -84,9 +85,9 @@ fn put_shadow(alloc: Global, out: &mut Bytes, instr: Instr) -> Result<(), NoMemo
         Instr::Rstorssp { mem } => put_row!(alloc out [0xf3] [0x0f] 0x01; Dword, 5, Mem(mem)),
         Instr::Clrssbsy { mem } => put_row!(alloc out [0xf3] [0x0f] 0xae; Dword, 6, Mem(mem)),
         Instr::Wrssq { mem, reg } =>
-            put_row!(alloc out [] [0x0f 0x38] 0xf6; Qword, reg_number(reg), Mem(mem)),
+            put_row!(alloc out [] [0x0f 0x38] 0xf6; Qword, reg.number(), Mem(mem)),
         Instr::Wrussq { mem, reg } =>
-            put_row!(alloc out [0x66] [0x0f 0x38] 0xf5; Qword, reg_number(reg), Mem(mem)),
+            put_row!(alloc out [0x66] [0x0f 0x38] 0xf5; Qword, reg.number(), Mem(mem)),
         _ => unreachable!(),
     }
 }
@@ -130,7 +131,7 @@ fn put_spelling(alloc: Global, out: &mut Bytes, instr: Instr) -> Result<(), NoMe
         Instr::JmpRel { disp } => put_relative(alloc, out, &[0xe9], disp),
         Instr::JmpInd { target, notrack } => put_indirect(alloc, out, 4, target, notrack),
         Instr::Jcc { cond, disp } => {
-            put_relative(alloc, out, &[0x0f, 0x80 + cond_number(cond)], disp)
+            put_relative(alloc, out, &[0x0f, 0x80 + cond.number()], disp)
         }
         Instr::RetImm { bytes } => put_return(alloc, out, bytes),
         Instr::MovZero8 { .. }

@@ -4,12 +4,9 @@
 mod bytes;
 mod coding;
 mod encoder;
-mod names;
 mod operands;
 mod spelling;
 mod syntax;
-#[cfg(test)]
-mod tests;
 
 pub use encoder::encode;
 pub use syntax::text;

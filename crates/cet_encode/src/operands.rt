@@ -1,7 +1,8 @@
+//! The text of operands.
+
 ghost use Rattle.std.specs.Prelude.{◌≡◌, [], ◌∷◌, OnOk};
 ghost use Rattle.cet_encode.specs.Text.{onto, number, signed, register, base_part, scaled, front, is_alone, displacement, memory, operand};
 
-use crate::names::register_name;
 use cet_base::{put_bytes, put_decimal, put_hex};
 use cet_isa::{Base, Mem, Operand, Reg, Size};
 use cet_words::{Bytes, NoMemory};
@@ -31,7 +32,7 @@ pub(crate) fn put_register(
 ) -> Result<(), NoMemory>
     ensures { OnOk result (out.new ≡ onto out.old (register size reg ∷ [])) }
 {
-    put_bytes(alloc, out, register_name(size, reg))
+    put_bytes(alloc, out, reg.name(size))
 }
 
 fn put_base(alloc: Global, out: &mut Bytes, base: Base) -> Result<(), NoMemory>

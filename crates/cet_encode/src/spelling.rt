@@ -1,3 +1,5 @@
+//! The bytes of instructions with several forms: by their operands, or by the size of a number.
+
 ghost use Rattle.std.specs.Prelude.{◌≡◌, ◌++◌, ◌<◌, [], ◌∷◌, OnOk, OnErr, if◌then◌else◌};
 ghost use Rattle.cet_isa.specs.Canonical.{four_bytes, alu_spelling, test_spelling, mov_spelling, shift_spelling, push_spelling, canonical_spelling};
 ghost use Rattle.cet_encode.specs.Bytes.{rm_bytes, alu_number_bytes, shift_bytes};
@@ -9,27 +11,6 @@ use cet_base::put_bytes;
 use cet_isa::{AluOp, Cond, Count, Instr, Mem, Operand, Reg, Size};
 use cet_words::{Bytes, NoMemory};
 use std::alloc::Global;
-
-pub(crate) fn reg_number(reg: Reg) -> u8
-    ensures value { result ≡ reg_number reg }
-    ensures small { result < 16 }
-{
-    reg as u8
-}
-
-fn op_number(op: AluOp) -> u8
-    ensures value { result ≡ op_number op }
-    ensures small { result < 8 }
-{
-    op as u8
-}
-
-pub(crate) fn cond_number(cond: Cond) -> u8
-    ensures value { result ≡ cond_number cond }
-    ensures small { result < 16 }
-{
-    cond as u8
-}
 
 /// Appends a row with an immediate, of one byte where that holds it. `digit` stands in the reg field.
 fn put_alu_number(
@@ -82,13 +63,11 @@ pub(crate) fn put_alu(
 {
     use Operand::{Imm, Mem, Reg};
 
-    let number = op_number(op);
+    let number = op.number();
     match (dst, src) {
-        (Reg(_), Reg(reg)) =>
-            put_row!(alloc out [] [] 0x01 + 8 * number; size, reg_number(reg), dst),
-        (Mem(_), Reg(reg)) => put_row!(alloc out [] [] 0x39; size, reg_number(reg), dst),
-        (Reg(reg), Mem(_)) =>
-            put_row!(alloc out [] [] 0x03 + 8 * number; size, reg_number(reg), src),
+        (Reg(_), Reg(reg)) => put_row!(alloc out [] [] 0x01 + 8 * number; size, reg.number(), dst),
+        (Mem(_), Reg(reg)) => put_row!(alloc out [] [] 0x39; size, reg.number(), dst),
+        (Reg(reg), Mem(_)) => put_row!(alloc out [] [] 0x03 + 8 * number; size, reg.number(), src),
         (Reg(_), Imm(value)) => put_alu_number(alloc, out, number, size, dst, value),
         (Mem(mem), Imm(value)) => put_cmp_number(alloc, out, op, size, mem, value),
         (Mem(_), Mem(_)) | (Imm(_), _) => Ok(()),
@@ -105,7 +84,7 @@ pub(crate) fn put_test(
     ensures { OnOk result (out.new ≡ out.old ++ test_spelling size dst src) }
 {
     match src {
-        Operand::Reg(reg) => put_rm(alloc, out, opcode!([] [] 0x85), size, reg_number(reg), dst),
+        Operand::Reg(reg) => put_rm(alloc, out, opcode!([] [] 0x85), size, reg.number(), dst),
         Operand::Imm(value) => {
             put_rm(alloc, out, opcode!([] [] 0xf7), size, 0, dst)?;
             put_four(alloc, out, value)
@@ -174,7 +153,7 @@ pub(crate) fn put_mov(
     match (dst, src) {
         (_, Operand::Imm(value)) => put_mov_number(alloc, out, size, dst, value),
         (Operand::Reg(_), Operand::Reg(reg)) => {
-            put_rm(alloc, out, opcode!([] [] 0x89), size, reg_number(reg), dst)
+            put_rm(alloc, out, opcode!([] [] 0x89), size, reg.number(), dst)
         }
         (Operand::Mem(_), Operand::Reg(reg)) => {
             put_rm(
@@ -182,12 +161,12 @@ pub(crate) fn put_mov(
                 out,
                 opcode!([] [] 0x89),
                 Size::Qword,
-                reg_number(reg),
+                reg.number(),
                 dst,
             )
         }
         (Operand::Reg(reg), Operand::Mem(_)) => {
-            put_rm(alloc, out, opcode!([] [] 0x8b), size, reg_number(reg), src)
+            put_rm(alloc, out, opcode!([] [] 0x8b), size, reg.number(), src)
         }
         (Operand::Mem(_), Operand::Mem(_)) | (Operand::Imm(_), _) => Ok(()),
     }

@@ -1,9 +1,10 @@
+//! From an instruction to its text.
+
 ghost use Rattle.std.specs.Prelude.{◌≡◌, ℕ, [], ◌∷◌, ◌++◌, OnOk, OnErr, codes};
 ghost use Rattle.cet_encode.specs.Groups.{IsFixed, IsMoving, IsShadow};
-ghost use Rattle.cet_encode.specs.Names.{condition_name, operation_name};
+ghost use Rattle.cet_isa.specs.Names.{condition_name, operation_name};
 ghost use Rattle.cet_encode.specs.Text.{Word, Sign, Space, onto, named, pair, register, operand, size_word, amount, one, two, locked, shift, relative, indirect, pieces, text_of};
 
-use crate::names::{condition_name, operation_name};
 use crate::operands::{put_memory, put_number, put_operand, put_register, put_signed};
 use cet_base::put_bytes;
 use cet_isa::{Cond, Count, Instr, Mem, Operand, Reg, Size};
@@ -181,14 +182,7 @@ fn put_conditional_move(
     ensures { OnOk result (out.new ≡ onto out.old (two (codes "cmov" ++ condition_name cond) size (Operand.Reg dst) src)) }
 {
     put_bytes(alloc, out, b"cmov")?;
-    put_two(
-        alloc,
-        out,
-        condition_name(cond),
-        size,
-        Operand::Reg(dst),
-        src,
-    )
+    put_two(alloc, out, cond.name(), size, Operand::Reg(dst), src)
 }
 
 fn put_relative(alloc: Global, out: &mut Bytes, name: &[u8], disp: i32) -> Result<(), NoMemory>
@@ -208,7 +202,7 @@ fn put_conditional_jump(
     ensures { OnOk result (out.new ≡ onto out.old (relative (codes "j" ++ condition_name cond) disp)) }
 {
     put_bytes(alloc, out, b"j")?;
-    put_relative(alloc, out, condition_name(cond), disp)
+    put_relative(alloc, out, cond.name(), disp)
 }
 
 fn put_indirect(
@@ -314,9 +308,7 @@ fn put_instr(alloc: Global, out: &mut Bytes, instr: Instr) -> Result<(), NoMemor
     use Size::Qword;
 
     match instr {
-        Instr::Alu { op, size, dst, src } => {
-            put_two(alloc, out, operation_name(op), size, dst, src)
-        }
+        Instr::Alu { op, size, dst, src } => { put_two(alloc, out, op.name(), size, dst, src) }
         Instr::Test { size, dst, src } => put_two(alloc, out, b"test", size, dst, src),
         Instr::Mov { size, dst, src } => put_two(alloc, out, b"mov", size, dst, src),
         Instr::MovWide { dst, value } => put_wide_move(alloc, out, dst, value),

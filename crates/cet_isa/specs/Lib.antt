@@ -1,5 +1,6 @@
 pub mod Address
 pub mod Code
+pub mod Names
 pub mod Form
 pub mod Forms
 pub mod Meaning

@@ -24,31 +24,42 @@ pub enum Reg {
 }
 
 impl Reg {
-    ghost use Rattle.cet_isa.specs.Code.{reg_number};
+    ghost use Rattle.cet_isa.specs.Code.{reg_number, reg_at};
+
+    /// All registers by their numbers.
+    pub(crate) const ALL: [Reg; 16] = [
+        Reg::Rax,
+        Reg::Rcx,
+        Reg::Rdx,
+        Reg::Rbx,
+        Reg::Rsp,
+        Reg::Rbp,
+        Reg::Rsi,
+        Reg::Rdi,
+        Reg::R8,
+        Reg::R9,
+        Reg::R10,
+        Reg::R11,
+        Reg::R12,
+        Reg::R13,
+        Reg::R14,
+        Reg::R15,
+    ];
 
     /// The number by which an encoding names the register.
     pub fn number(self) -> u8
         ensures value { result ≡ reg_number self }
         ensures small { result < 16 }
     {
-        match self {
-            Reg::Rax => 0,
-            Reg::Rcx => 1,
-            Reg::Rdx => 2,
-            Reg::Rbx => 3,
-            Reg::Rsp => 4,
-            Reg::Rbp => 5,
-            Reg::Rsi => 6,
-            Reg::Rdi => 7,
-            Reg::R8 => 8,
-            Reg::R9 => 9,
-            Reg::R10 => 10,
-            Reg::R11 => 11,
-            Reg::R12 => 12,
-            Reg::R13 => 13,
-            Reg::R14 => 14,
-            Reg::R15 => 15,
-        }
+        self as u8
+    }
+
+    /// The register of this number.
+    pub fn of(number: u8) -> Reg
+        requires { number < 16 }
+        ensures { result ≡ reg_at number }
+    {
+        Reg::ALL[number as usize]
     }
 }
 
@@ -71,6 +82,46 @@ pub enum Cond {
     Ge,
     Le,
     G,
+}
+
+impl Cond {
+    ghost use Rattle.cet_isa.specs.Code.{cond_number, cond_at};
+
+    /// All conditions by their numbers.
+    pub(crate) const ALL: [Cond; 16] = [
+        Cond::O,
+        Cond::No,
+        Cond::B,
+        Cond::Ae,
+        Cond::E,
+        Cond::Ne,
+        Cond::Be,
+        Cond::A,
+        Cond::S,
+        Cond::Ns,
+        Cond::P,
+        Cond::Np,
+        Cond::L,
+        Cond::Ge,
+        Cond::Le,
+        Cond::G,
+    ];
+
+    /// The number by which an encoding names the condition.
+    pub fn number(self) -> u8
+        ensures value { result ≡ cond_number self }
+        ensures small { result < 16 }
+    {
+        self as u8
+    }
+
+    /// The condition of this number.
+    pub fn of(number: u8) -> Cond
+        requires { number < 16 }
+        ensures { result ≡ cond_at number }
+    {
+        Cond::ALL[number as usize]
+    }
 }
 
 /// The operand size, of 32 or 64 bits.
@@ -117,6 +168,38 @@ pub enum AluOp {
     Sub,
     Xor,
     Cmp,
+}
+
+impl AluOp {
+    ghost use Rattle.cet_isa.specs.Code.{op_number, alu_at};
+
+    /// All operations by their numbers.
+    pub(crate) const ALL: [AluOp; 8] = [
+        AluOp::Add,
+        AluOp::Or,
+        AluOp::Adc,
+        AluOp::Sbb,
+        AluOp::And,
+        AluOp::Sub,
+        AluOp::Xor,
+        AluOp::Cmp,
+    ];
+
+    /// The number by which an encoding names the operation.
+    pub fn number(self) -> u8
+        ensures value { result ≡ op_number self }
+        ensures small { result < 8 }
+    {
+        self as u8
+    }
+
+    /// The operation of this number.
+    pub fn of(number: u8) -> AluOp
+        requires { number < 8 }
+        ensures { result ≡ alu_at number }
+    {
+        AluOp::ALL[number as usize]
+    }
 }
 
 /// By how many places a shift goes: a number of the instruction, or CL.

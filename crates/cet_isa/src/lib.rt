@@ -3,7 +3,9 @@
 
 mod addresses;
 mod bits;
+mod fields;
 mod instructions;
+mod names;
 mod spelled;
 #[cfg(test)]
 mod tests;
@@ -11,6 +13,7 @@ mod threads;
 
 pub use addresses::is_canonical;
 pub use bits::{PageEntry, Rflags};
+pub use fields::fits_byte;
 pub use instructions::{AluOp, Base, Cond, Count, Instr, Mem, Operand, Reg, Size};
 pub use spelled::is_spelled;
 pub use threads::{Arch, End, Fault, FaultName, Record, What};

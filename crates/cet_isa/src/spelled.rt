@@ -98,7 +98,11 @@ fn passes_by_value(instr: Instr) -> bool
 
 /// Whether some bytes spell the instruction.
 pub fn is_spelled(instr: &Instr) -> bool
-    ensures { IsTrue result ↔ ((bytes : List ℕ) × Spells bytes instr.now) }
+    ensures spelled { IsTrue result ↔ ((bytes : List ℕ) × Spells bytes instr.now) }
+    ensures test { result ≡ has_spelling instr.now }
+
+    // The numbers of the instruction are those of its fields' types.
+    ensures fits { InstrFits instr.now }
 {
     passes_by_value(*instr)
 }

@@ -1,3 +1,5 @@
+//! Canonical addresses, operands that have a spelling, and named bits.
+
 use super::{
     Arch, Base, End, Fault, FaultName, Instr, Mem, Operand, PageEntry, Record, Reg, Rflags, Size,
     What, is_canonical, is_spelled,

@@ -1,6 +1,6 @@
 use Rattle.std.proofs.Common.{◌≡◌, ◌++◌, length}
-use Rattle.cet_asm.specs.Tokens.{tokens}
-use Rattle.cet_asm.specs.Line.{bytes_in}
+use Rattle.cet_syntax.specs.Tokens.{tokens}
+use Rattle.cet_syntax.specs.Line.{bytes_in}
 use Rattle.cet_asm.proofs.emission.put_values.Given as goal
 
 abbrev pub invariant-loop-byte : goal.invariant-loop-byte

@@ -1,5 +1,5 @@
 use Rattle.std.proofs.Common.{arith}
-use Rattle.cet_asm.proofs.PartLaws.{one_more_line}
+use Rattle.cet_syntax.proofs.PartLaws.{one_more_line}
 use Rattle.cet_asm.proofs.second_pass.second_pass.Goals as goal
 
 pub overflow_add-number : goal.overflow_add-number

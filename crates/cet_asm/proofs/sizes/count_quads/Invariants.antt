@@ -1,6 +1,6 @@
 use Rattle.std.proofs.Common.{◌≡◌, ◌+◌, length}
-use Rattle.cet_asm.specs.Tokens.{tokens}
-use Rattle.cet_asm.specs.Line.{quads_in}
+use Rattle.cet_syntax.specs.Tokens.{tokens}
+use Rattle.cet_syntax.specs.Line.{quads_in}
 use Rattle.cet_asm.proofs.sizes.count_quads.Given as goal
 
 abbrev pub invariant-loop-item : goal.invariant-loop-item

@@ -1,6 +1,6 @@
 use Rattle.std.proofs.Common.{◌≡◌, ◌+◌, length}
-use Rattle.cet_asm.specs.Tokens.{tokens}
-use Rattle.cet_asm.specs.Line.{bytes_in}
+use Rattle.cet_syntax.specs.Tokens.{tokens}
+use Rattle.cet_syntax.specs.Line.{bytes_in}
 use Rattle.cet_asm.proofs.sizes.count_values.Given as goal
 
 abbrev pub invariant-loop-value : goal.invariant-loop-value

@@ -1,9 +1,0 @@
-use Rattle.std.proofs.Common.{◌≡◌, drop, map}
-use Rattle.std.specs.List.{find}
-use Rattle.std.specs.Str.{bytes_eq}
-use Rattle.cet_asm.specs.Mnemonics.{Named}
-use Rattle.cet_asm.specs.Views.{named_view}
-use Rattle.cet_asm.proofs.mnemonics.find_mnemonic.Given as goal
-
-abbrev pub invariant-loop-row : goal.invariant-loop-row
-invariant-loop-row l = find (λ (n : Named). bytes_eq l.word n.name) (map named_view l.rows) ≡ find (λ (n : Named). bytes_eq l.word n.name) (map named_view (drop l.row-index l.rows))

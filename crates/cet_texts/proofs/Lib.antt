@@ -1,0 +1,10 @@
+pub mod PieceTokens
+pub mod WordTexts
+pub mod OperandTexts
+pub mod ParsedTexts
+pub mod InstructionTexts
+pub mod LineTexts
+pub mod MnemonicTexts
+pub mod TextLaws
+pub mod ProgramTexts
+pub mod LengthLaws
