@@ -1,7 +1,6 @@
 mod MapLaws
 pub mod LayoutLaws
 pub mod FillingLaws
-pub mod ZeroLaws
 pub mod PassLaws
 pub mod CheckLaws
 pub mod SmallLaws

@@ -12,11 +12,11 @@ use Rattle.cet_asm.specs.declared.sections.Section.{Section}
 use Rattle.cet_asm.specs.declared.sections.Section.TheVariants as sections
 use Rattle.cet_asm.specs.declared.sections.LocationCounter.{LocationCounter}
 use Rattle.cet_asm.specs.declared.sections.SymbolValue.{SymbolValue}
-use Rattle.cet_asm.proofs.LayoutLaws.{round_up_least}
+use Rattle.cet_asm.proofs.LayoutLaws.{page_up_least}
 use Rattle.cet_asm.proofs.PassLaws.{place_append}
 
 short_within : (h : LocationCounter) → exceeds h ≡ false → IsWithin h
-short_within h e = (grind (arith, round_up_least h.text), grind (arith, round_up_least h.text))
+short_within h e = (grind (arith, page_up_least h.text), grind (arith, page_up_least h.text))
 
 moved_within : (h : LocationCounter) (n : ℕ) → IsWithin h → IsWithin (cond (exceeds (grown h n)) h (grown h n))
 moved_within h n k = go (exceeds (grown h n)) refl

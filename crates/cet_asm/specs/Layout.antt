@@ -1,6 +1,6 @@
 -- Where the bytes of a text stand, and how labels get into instructions. Source: own; relative displacements count from
 -- the next instruction (Intel SDM volume 2, chapter 2).
-use Rattle.std.specs.Prelude.{ℕ, ℤ, pos, ◌-ℤ◌, ◌+◌, ◌*◌, ◌/◌, Bool, not, nat_le, if◌then◌else◌, List, length, Option, Some, None}
+use Rattle.std.specs.Prelude.{ℕ, ℤ, pos, ◌-ℤ◌, ◌+◌, ◌*◌, Bool, not, nat_le, if◌then◌else◌, List, length, Option, Some, None}
 use Rattle.cet_isa.specs.Canonical.{canonical_spelling}
 use Rattle.cet_isa.specs.declared.instructions.Base.{Base}
 use Rattle.cet_isa.specs.declared.instructions.Base.TheVariants as bases
@@ -9,6 +9,7 @@ use Rattle.cet_isa.specs.declared.instructions.Instr.TheVariants as instrs
 use Rattle.cet_isa.specs.declared.instructions.Mem.{Mem}
 use Rattle.cet_isa.specs.declared.instructions.Operand.{Operand}
 use Rattle.cet_isa.specs.declared.instructions.Operand.TheVariants as operands
+use Rattle.cet_words.specs.Layout.{page_up}
 use Rattle.cet_syntax.specs.Instructions.{Fixups}
 use Rattle.cet_syntax.specs.Line.{Statement, TextSection, DataSection, Zero, Values, Quads, Code}
 use Rattle.cet_asm.specs.declared.sections.Section.{Section}
@@ -115,10 +116,6 @@ size_of s = 0
 abbrev pub program_limit : ℕ
 program_limit = 4190208
 
--- up to whole pages
-abbrev pub round_up : ℕ → ℕ
-round_up n = (n + 4095) / 4096 * 4096
-
 -- ---- sections
 
 abbrev pub grown : LocationCounter → ℕ → LocationCounter
@@ -130,7 +127,7 @@ grown h n = go h.section
 
 -- whether text, rounded up to whole pages, and data exceed what a program may have
 abbrev pub exceeds : LocationCounter → Bool
-exceeds h = not (nat_le (round_up h.text + h.static_data) program_limit)
+exceeds h = not (nat_le (page_up h.text + h.static_data) program_limit)
 
 unfoldable pub is_too_long : LocationCounter → Statement → Bool
 is_too_long h s = exceeds (grown h (size_of s))
@@ -157,4 +154,4 @@ address_of text symbol = go symbol.section
   where
     go : Section → ℕ
     go sections.Text = text_start + symbol.offset
-    go sections.Data = text_start + round_up text + symbol.offset
+    go sections.Data = text_start + page_up text + symbol.offset

@@ -1,7 +1,6 @@
 -- What a text assembles to: its definitions, the rules that each line breaks, and its bytes. Source: own.
-use Rattle.std.specs.Prelude.{◌≡◌, ℕ, ℤ, ◌+◌, Bool, true, false, not, ◌&&◌, ◌||◌, ◌==◌, List, [], ◌∷◌, ◌++◌, map, Option, Some, None, is_some, codes}
+use Rattle.std.specs.Prelude.{◌≡◌, ℕ, ℤ, ◌+◌, Bool, true, false, not, ◌&&◌, ◌||◌, ◌==◌, List, [], ◌∷◌, ◌++◌, map, Option, Some, None, is_some, codes, replicate}
 use Rattle.std.specs.List.{find, list_all, list_any, flat_map, slice_split}
-use Rattle.std.specs.List.{repeat}
 use Rattle.std.specs.Int.{w64, to_le_bytes}
 use Rattle.std.specs.Option.{option_or}
 use Rattle.std.specs.Str.{bytes_eq}
@@ -183,7 +182,7 @@ code_bytes w h i u = go u.short
     go (Some name) = short_opcode i ∷ one_byte (short_distance w h name)
 
 unfoldable pub bytes_of : Symbols → LocationCounter → Statement → List ℕ
-bytes_of w h (Zero n) = repeat n (0 ∷ [])
+bytes_of w h (Zero n) = replicate n 0
 bytes_of w h (Values bytes) = bytes
 bytes_of w h (Quads items) = flat_map (item_bytes w) items
 bytes_of w h (Code i u) = code_bytes w h i u

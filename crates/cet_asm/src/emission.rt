@@ -2,7 +2,7 @@
 
 ghost use Rattle.std.specs.Prelude.{◌≡◌, ◌++◌, ◌<◌, ◌≤◌, OnOk, [], ◌∷◌, true};
 ghost use Rattle.std.specs.Int.{w64, to_le_bytes};
-ghost use Rattle.std.specs.List.{flat_map, repeat};
+ghost use Rattle.std.specs.List.{flat_map};
 ghost use Rattle.cet_isa.specs.Canonical.{fits_byte, one_byte};
 ghost use Rattle.cet_isa.specs.Spelled.{has_spelling};
 ghost use Rattle.cet_syntax.specs.Tokens.{tokens};
@@ -23,15 +23,6 @@ use cet_isa::Instr;
 use cet_syntax::{Fixups, Item, Statement, next_byte, next_quad};
 use cet_words::{Bytes, NoMemory};
 use std::alloc::Global;
-
-fn put_zeros(alloc: Global, out: &mut Bytes, count: u64) -> Result<(), NoMemory>
-    ensures { OnOk result (out.new ≡ out.old ++ repeat count (0 ∷ [])) }
-{
-    for _place in 0..count {
-        out.push(alloc, 0)?;
-    }
-    Ok(())
-}
 
 fn put_values(alloc: Global, out: &mut Bytes, text: &[u8]) -> Result<(), NoMemory>
     ensures { OnOk result (out.new ≡ out.old ++ bytes_in (tokens text.now)) }
@@ -154,7 +145,7 @@ pub(crate) fn put_statement<'a>(
     ensures { OnOk result (out.new ≡ out.old ++ bytes_of (symbols_view labels.now) here (statement_view statement.entry)) }
 {
     match statement {
-        Statement::Zero(count) => put_zeros(alloc, out, count),
+        Statement::Zero(count) => out.extend_with(alloc, 0, count as usize),
         Statement::Values(text) => put_values(alloc, out, text),
         Statement::Quads(text) => put_quads(alloc, out, labels, text),
         Statement::Code(instr, fixups) => put_code(alloc, out, labels, here, instr, fixups, size),

@@ -1,12 +1,14 @@
 //! Where the next bytes stand, and how long a program may get.
 
 ghost use Rattle.std.specs.Prelude.{◌≡◌, ◌<◌, ◌≤◌, ◌^◌, if◌then◌else◌};
-ghost use Rattle.cet_asm.specs.Layout.{round_up, grown, exceeds, after, symbol_of, start, address_of, size_of, program_limit};
+ghost use Rattle.cet_words.specs.Layout.{page_up};
+ghost use Rattle.cet_asm.specs.Layout.{grown, exceeds, after, symbol_of, start, address_of, size_of, program_limit};
 ghost use Rattle.cet_syntax.specs.Views.{statement_view};
 ghost use Rattle.cet_asm.specs.Passes.{IsWithin};
 
 use crate::sections::{LocationCounter, Section, SymbolValue};
 use cet_syntax::Statement;
+use cet_words::page_up;
 
 /// The address at which the text of a program starts.
 pub const TEXT_START: u64 = 0x401000;
@@ -23,13 +25,6 @@ pub(crate) fn start() -> LocationCounter
         text: 0,
         static_data: 0,
     }
-}
-
-fn round_up(bytes: u64) -> u64
-    requires { bytes < 2 ^ 32 }
-    ensures { result ≡ round_up bytes }
-{
-    (bytes + 4095) / 4096 * 4096
 }
 
 fn grown(here: LocationCounter, size: u64) -> LocationCounter
@@ -56,7 +51,7 @@ fn exceeds(here: LocationCounter) -> bool
     requires static_data { here.static_data < 2 ^ 32 }
     ensures { result ≡ exceeds here }
 {
-    round_up(here.text) + here.static_data > PROGRAM_LIMIT
+    page_up(here.text) + here.static_data > PROGRAM_LIMIT
 }
 
 /// Whether the program gets too long by so many bytes.
@@ -129,6 +124,6 @@ pub(crate) fn address_of(text: u64, symbol: SymbolValue) -> u64
 {
     match symbol.section {
         Section::Text => TEXT_START + symbol.offset,
-        Section::Data => TEXT_START + round_up(text) + symbol.offset,
+        Section::Data => TEXT_START + page_up(text) + symbol.offset,
     }
 }

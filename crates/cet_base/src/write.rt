@@ -45,14 +45,6 @@ pub fn hex16(value: u64) -> [u8; 16]
     digits
 }
 
-/// Appends the bytes of a slice. Where no memory is left `out` stays as it is.
-pub fn put_bytes(alloc: Global, out: &mut Bytes, piece: &[u8]) -> Result<(), NoMemory>
-    ensures ok { OnOk result (out.new ≡ out.old ++ piece.now) }
-    ensures err { OnErr result (out.new ≡ out.old) }
-{
-    out.extend(alloc, piece)
-}
-
 /// Writes a number's fewest digits at the end of `out`, and answers where the first stands.
 fn write_digits(out: &mut [u8; 20], value: u64, radix: u64) -> usize
     requires low { 10 ≤ radix }
@@ -80,7 +72,7 @@ pub fn put_decimal(alloc: Global, out: &mut Bytes, value: u64) -> Result<(), NoM
 {
     let mut digits = [0; 20];
     let start = write_digits(&mut digits, value, 10);
-    put_bytes(alloc, out, &digits[start..])
+    out.extend(alloc, &digits[start..])
 }
 
 /// Appends a number's lower-case hexadecimal digits, without leading zeros. Where no memory is left
@@ -91,5 +83,5 @@ pub fn put_hex(alloc: Global, out: &mut Bytes, value: u64) -> Result<(), NoMemor
 {
     let mut digits = [0; 20];
     let start = write_digits(&mut digits, value, 16);
-    put_bytes(alloc, out, &digits[start..])
+    out.extend(alloc, &digits[start..])
 }

@@ -5,20 +5,21 @@ use Rattle.std.proofs.Math.Seq.{drop-append-add}
 use Rattle.std.proofs.lemmas.Bool.{le-leb}
 use Rattle.std.proofs.lemmas.Nat.{from_le_bytes-to_le_bytes_4}
 use Rattle.cet_words.specs.Layout.{page_up}
+use Rattle.cet_asm.specs.Layout.{text_start}
 use Rattle.cet_elf.specs.Headers.{half, word, xword, header_at, headers_from, headers}
 use Rattle.cet_elf.specs.Notes.{feature, is_note, description, note_feature}
 use Rattle.cet_elf.specs.Rules.{magic_breach, class_breach}
-use Rattle.cet_elf.specs.Written.{text_address, file_header, text_header, data_header, note_header, property_note}
+use Rattle.cet_elf.specs.Written.{file_header, text_header, data_header, note_header, property_note}
 use Rattle.cet_elf.specs.declared.headers.ProgramHeader.{ProgramHeader}
 use Rattle.cet_elf.proofs.FieldLemmas.{field_here, half_here, word_here, xword_here, word_behind, header_behind}
 use Rattle.cet_elf.proofs.NoteLemmas.{found_here}
 
 -- the header of the text, that of the data and that of the note, as they are read
 abbrev pub text_read : ℕ → ProgramHeader
-text_read size = record { place = 64; kind = 1; flags = 5; offset = 4096; address = text_address; file_size = size; memory_size = size }
+text_read size = record { place = 64; kind = 1; flags = 5; offset = 4096; address = text_start; file_size = size; memory_size = size }
 
 abbrev pub data_read : ℕ → ℕ → ProgramHeader
-data_read behind size = record { place = 120; kind = 1; flags = 6; offset = 4096 + behind; address = text_address + behind; file_size = size; memory_size = size }
+data_read behind size = record { place = 120; kind = 1; flags = 6; offset = 4096 + behind; address = text_start + behind; file_size = size; memory_size = size }
 
 abbrev pub note_read : ℕ → ProgramHeader
 note_read place = record { place = place; kind = 0x6474e553; flags = 4; offset = 232; address = 0; file_size = 32; memory_size = 32 }
@@ -68,12 +69,12 @@ heads entry count back a b =
 
 pub text_behind : (front back : List ℕ) (size : ℕ) → length front ≡ 64 → size < 2 ^ 64 → header_at (front ++ (text_header size ++ back)) 64 ≡ text_read size
 unfolding text_header
-text_behind front back size place small = header_behind front back 64 1 5 4096 text_address size 4096 place (lit< tt) (lit< tt) (lit< tt) (lit< tt) small
+text_behind front back size place small = header_behind front back 64 1 5 4096 text_start size 4096 place (lit< tt) (lit< tt) (lit< tt) (lit< tt) small
 
 pub data_behind : (front back : List ℕ) (text size : ℕ) → length front ≡ 120 → page_up text < 2 ^ 63 → size < 2 ^ 64 → header_at (front ++ (data_header text size ++ back)) 120 ≡ data_read (page_up text) size
 unfolding data_header
 data_behind front back text size place room small =
-    header_behind front back 120 1 6 (4096 + page_up text) (text_address + page_up text) size 4096 place (lit< tt) (lit< tt) (omega arith) (omega arith) small
+    header_behind front back 120 1 6 (4096 + page_up text) (text_start + page_up text) size 4096 place (lit< tt) (lit< tt) (omega arith) (omega arith) small
 
 pub note_behind : (front back : List ℕ) (at : ℕ) → length front ≡ at → header_at (front ++ (note_header ++ back)) at ≡ note_read at
 unfolding note_header

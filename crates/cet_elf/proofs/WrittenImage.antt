@@ -5,10 +5,11 @@ use Rattle.std.proofs.Math.Seq.{take-append_seam}
 use Rattle.std.proofs.lemmas.List.{append-nil}
 use Rattle.cet_words.specs.Layout.{page_up}
 use Rattle.cet_words.specs.declared.images.Segment.{Segment}
+use Rattle.cet_asm.specs.Layout.{text_start}
 use Rattle.cet_elf.specs.Headers.{headers, xword}
 use Rattle.cet_elf.specs.Notes.{has_stacks, has_tracking, features}
 use Rattle.cet_elf.specs.Accepts.{segments_of, image_from, image_of}
-use Rattle.cet_elf.specs.Written.{text_address, text_segment, program_image}
+use Rattle.cet_elf.specs.Written.{text_segment, program_image}
 use Rattle.cet_elf.specs.declared.headers.ProgramHeader.{ProgramHeader}
 use Rattle.cet_elf.proofs.FieldLemmas.{behind}
 use Rattle.cet_elf.proofs.WrittenHeaders.{text_read, data_read, note_read}
@@ -29,7 +30,7 @@ image_read bytes hs entry mark segments enter marked table is =
 pub one_segment : (bytes text : List ℕ) (place : ℕ) → slice_range bytes 4096 (4096 + length text) ≡ text → segments_of bytes (text_read (length text) ∷ note_read place ∷ []) ≡ text_segment text ∷ []
 one_segment bytes text place is = rw is refl
 
-pub two_segments : (bytes text static_data : List ℕ) (r place : ℕ) → slice_range bytes 4096 (4096 + length text) ≡ text → slice_range bytes (4096 + r) (4096 + r + length static_data) ≡ static_data → segments_of bytes (text_read (length text) ∷ data_read r (length static_data) ∷ note_read place ∷ []) ≡ text_segment text ∷ record { start = text_address + r; bytes = static_data; size = length static_data; write = true; exec = false } ∷ []
+pub two_segments : (bytes text static_data : List ℕ) (r place : ℕ) → slice_range bytes 4096 (4096 + length text) ≡ text → slice_range bytes (4096 + r) (4096 + r + length static_data) ≡ static_data → segments_of bytes (text_read (length text) ∷ data_read r (length static_data) ∷ note_read place ∷ []) ≡ text_segment text ∷ record { start = text_start + r; bytes = static_data; size = length static_data; write = true; exec = false } ∷ []
 two_segments bytes text static_data r place is other = rw (is, other) refl
 
 -- the parts of a file by what stands before them
@@ -52,6 +53,6 @@ pub program_none : (text static_data : List ℕ) (entry mark : ℕ) → eqb (len
 unfolding program_image
 program_none text static_data entry mark e = rw e refl
 
-pub program_some : (text static_data : List ℕ) (entry mark : ℕ) → eqb (length static_data) 0 ≡ false → record { entry = entry; marked = has_stacks mark; tracked = has_tracking mark; segments = text_segment text ∷ record { start = text_address + page_up (length text); bytes = static_data; size = length static_data; write = true; exec = false } ∷ [] } ≡ program_image text static_data entry mark
+pub program_some : (text static_data : List ℕ) (entry mark : ℕ) → eqb (length static_data) 0 ≡ false → record { entry = entry; marked = has_stacks mark; tracked = has_tracking mark; segments = text_segment text ∷ record { start = text_start + page_up (length text); bytes = static_data; size = length static_data; write = true; exec = false } ∷ [] } ≡ program_image text static_data entry mark
 unfolding program_image
 program_some text static_data entry mark e = rw e refl

@@ -5,10 +5,11 @@ use Rattle.std.specs.Prelude.{Result, IfOk}
 use Rattle.std.proofs.lemmas.Result.{IfOk-weaker}
 use Rattle.cet_words.specs.Layout.{image_end, page_up}
 use Rattle.cet_words.specs.declared.lists.NoMemory.{NoMemory}
+use Rattle.cet_asm.specs.Layout.{text_start}
 use Rattle.cet_elf.specs.Headers.{xword, headers, header_at}
 use Rattle.cet_elf.specs.Notes.{has_stacks, note_feature, features}
 use Rattle.cet_elf.specs.Accepts.{Accepts}
-use Rattle.cet_elf.specs.Written.{text_address, file_header, text_header, data_header, note_header, property_note, front, data_part, written_of, IsLoadable, LoadsAs, text_segment}
+use Rattle.cet_elf.specs.Written.{file_header, text_header, data_header, note_header, property_note, front, data_part, written_of, IsLoadable, LoadsAs, text_segment}
 use Rattle.cet_elf.specs.declared.headers.ProgramHeader.{ProgramHeader}
 use Rattle.cet_elf.proofs.FieldLemmas.{header_size}
 use Rattle.cet_elf.proofs.WrittenHeaders.{heads, file_size, note_size, text_read, data_read, note_read, text_behind, data_behind, note_behind, two_headers, three_headers, note_feature_read}
@@ -17,11 +18,11 @@ use Rattle.cet_elf.proofs.WrittenImage.{seventh, ninth, image_read, one_segment,
 
 text_size : (size : ℕ) → length (text_header size) ≡ 56
 unfolding text_header
-text_size size = header_size 1 5 4096 text_address size 4096
+text_size size = header_size 1 5 4096 text_start size 4096
 
 data_size : (text size : ℕ) → length (data_header text size) ≡ 56
 unfolding data_header
-data_size text size = header_size 1 6 (4096 + page_up text) (text_address + page_up text) size 4096
+data_size text size = header_size 1 6 (4096 + page_up text) (text_start + page_up text) size 4096
 
 note_header_size : length note_header ≡ 56
 unfolding note_header
@@ -35,7 +36,7 @@ record Reads (count entry mark : ℕ) (hs : List ProgramHeader) (bytes : List �
   pub features : features bytes ≡ mark
 
 -- without data: file header, text header, note header, 56 bytes, note, tail
-one_file : (entry s mark : ℕ) (pad tail : List ℕ) → length pad ≡ 56 → mark < 2 ^ 32 → 3832 + s ≤ length tail → text_address + s ≤ image_end → text_address ≤ entry → entry < text_address + s → has_stacks mark ≡ true → Reads 2 entry mark (text_read s ∷ note_read 120 ∷ []) (file_header entry 2 ++ (text_header s ++ (note_header ++ (pad ++ (property_note mark ++ tail)))))
+one_file : (entry s mark : ℕ) (pad tail : List ℕ) → length pad ≡ 56 → mark < 2 ^ 32 → 3832 + s ≤ length tail → text_start + s ≤ image_end → text_start ≤ entry → entry < text_start + s → has_stacks mark ≡ true → Reads 2 entry mark (text_read s ∷ note_read 120 ∷ []) (file_header entry 2 ++ (text_header s ++ (note_header ++ (pad ++ (property_note mark ++ tail)))))
 one_file entry s mark pad tail size small room fits low high marked =
     let file = file_header entry 2 in
     let noted = property_note mark ++ tail in
@@ -69,7 +70,7 @@ one_file entry s mark pad tail size small room fits low high marked =
     }
 
 -- with data: file header, text header, data header, note header, note, tail
-two_file : (entry s d mark : ℕ) (tail : List ℕ) → mark < 2 ^ 32 → 1 ≤ s → 3832 + page_up s + d ≤ length tail → text_address + page_up s + d ≤ image_end → text_address ≤ entry → entry < text_address + s → has_stacks mark ≡ true → Reads 3 entry mark (text_read s ∷ data_read (page_up s) d ∷ note_read 176 ∷ []) (file_header entry 3 ++ (text_header s ++ (data_header s d ++ (note_header ++ (property_note mark ++ tail)))))
+two_file : (entry s d mark : ℕ) (tail : List ℕ) → mark < 2 ^ 32 → 1 ≤ s → 3832 + page_up s + d ≤ length tail → text_start + page_up s + d ≤ image_end → text_start ≤ entry → entry < text_start + s → has_stacks mark ≡ true → Reads 3 entry mark (text_read s ∷ data_read (page_up s) d ∷ note_read 176 ∷ []) (file_header entry 3 ++ (text_header s ++ (data_header s d ++ (note_header ++ (property_note mark ++ tail)))))
 two_file entry s d mark tail small some room fits low high marked =
     let file = file_header entry 3 in
     let noted = property_note mark ++ tail in

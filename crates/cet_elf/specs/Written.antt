@@ -7,6 +7,7 @@ use Rattle.cet_asm.specs.declared.program.Program.{Program}
 use Rattle.cet_words.specs.Layout.{page_up}
 use Rattle.cet_words.specs.Job.{ImageData}
 use Rattle.cet_words.specs.declared.images.Segment.{Segment}
+use Rattle.cet_asm.specs.Layout.{text_start, program_limit}
 use Rattle.cet_elf.specs.Accepts.{Accepts, image_of}
 use Rattle.cet_elf.specs.Notes.{has_stacks, has_tracking}
 use Rattle.cet_elf.specs.declared.written.Field.{Field}
@@ -18,10 +19,6 @@ field_bytes (Byte value) = value ∷ []
 field_bytes (Half value) = to_le_bytes w16 value
 field_bytes (Word value) = to_le_bytes w32 value
 field_bytes (Xword value) = to_le_bytes w64 value
-
--- the address of the text's first byte
-abbrev pub text_address : ℕ
-text_address = 0x401000
 
 -- Elf64_Ehdr of an executable for x86-64 with so many program headers
 unfoldable pub file_header : ℕ → ℕ → List ℕ
@@ -46,11 +43,11 @@ property_note mark =
 
 -- PT_LOAD of a text of this size, readable and executable
 unfoldable pub text_header : ℕ → List ℕ
-text_header size = program_header 1 5 4096 text_address size 4096
+text_header size = program_header 1 5 4096 text_start size 4096
 
 -- PT_LOAD of data of this size, readable and writable, behind the pages of the text
 unfoldable pub data_header : ℕ → ℕ → List ℕ
-data_header text size = program_header 1 6 (4096 + page_up text) (text_address + page_up text) size 4096
+data_header text size = program_header 1 6 (4096 + page_up text) (text_start + page_up text) size 4096
 
 -- PT_GNU_PROPERTY of the note, readable
 unfoldable pub note_header : List ℕ
@@ -80,17 +77,17 @@ written p = written_of p.text p.static_data p.entry p.mark
 -- image range.
 pub record IsLoadable (text static_data : List ℕ) (entry mark : ℕ) : Type 0 where
   pub some : 1 ≤ length text
-  pub low : text_address ≤ entry
-  pub high : entry < text_address + length text
+  pub low : text_start ≤ entry
+  pub high : entry < text_start + length text
   pub marked : IsTrue (has_stacks mark)
-  pub fits : page_up (length text) + length static_data ≤ 4190208
+  pub fits : page_up (length text) + length static_data ≤ program_limit
 
 -- the segments of data of this size behind a text of that size: one, or none for no data
 abbrev pub data_segments : ℕ → List ℕ → List Segment
 data_segments text static_data =
     if length static_data == 0 then []
     else record {
-      start = text_address + page_up text;
+      start = text_start + page_up text;
       bytes = static_data;
       size = length static_data;
       write = true;
@@ -98,7 +95,7 @@ data_segments text static_data =
     } ∷ []
 
 abbrev pub text_segment : List ℕ → Segment
-text_segment text = record { start = text_address; bytes = text; size = length text; write = false; exec = true }
+text_segment text = record { start = text_start; bytes = text; size = length text; write = false; exec = true }
 
 -- the image of a program: its text, executable, and its data, writable
 unfoldable pub program_image : List ℕ → List ℕ → ℕ → ℕ → ImageData

@@ -4,15 +4,12 @@ ghost use Rattle.std.specs.Prelude.{◌≡◌, ◌++◌, ◌^◌, ◌<◌, OnOk,
 ghost use Rattle.std.specs.List.{flat_map};
 ghost use Rattle.cet_elf.specs.Written.{field_bytes, file_header, program_header, property_note, text_header, data_header, note_header, front, data_part, written_of, written, IsLoadable, LoadsAs};
 
-use cet_asm::Program;
+use cet_asm::{Program, TEXT_START};
 use cet_words::{Bytes, NoMemory, page_up};
 use std::alloc::Global;
 
 /// Where the text stands in a written file.
 const TEXT_OFFSET: u64 = 4096;
-
-/// The address of the text's first byte.
-const TEXT_ADDRESS: u64 = 0x401000;
 
 /// A little-endian field of an ELF file, by the names of the System V ABI.
 #[derive(Clone, Copy, Debug, PartialEq, Eq)]
@@ -111,7 +108,7 @@ fn put_text_header(alloc: Global, out: &mut Bytes, size: u64) -> Result<(), NoMe
         kind: 1,
         flags: 5,
         offset: TEXT_OFFSET,
-        address: TEXT_ADDRESS,
+        address: TEXT_START,
         size,
         align: 4096,
     };
@@ -133,7 +130,7 @@ fn put_data_header(
         kind: 1,
         flags: 6,
         offset: TEXT_OFFSET + behind,
-        address: TEXT_ADDRESS + behind,
+        address: TEXT_START + behind,
         size,
         align: 4096,
     };

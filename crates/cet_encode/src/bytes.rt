@@ -5,7 +5,6 @@ ghost use Rattle.cet_isa.specs.Canonical.{w_bit};
 ghost use Rattle.cet_encode.specs.Bytes.{rex_part, opening, rm_bytes, reg_bytes};
 
 use crate::coding::{extend, high, low, mode, put_address};
-use cet_base::put_bytes;
 use cet_isa::{Operand, Reg, Size};
 use cet_words::{Bytes, NoMemory};
 use std::alloc::Global;
@@ -53,7 +52,7 @@ fn put_rex(alloc: Global, out: &mut Bytes, bits: u8) -> Result<(), NoMemory>
     if bits == 0 {
         Ok(())
     } else {
-        put_bytes(alloc, out, &[0x40 + bits])
+        out.extend(alloc, &[0x40 + bits])
     }
 }
 
@@ -61,10 +60,10 @@ fn put_opening(alloc: Global, out: &mut Bytes, opcode: Opcode, rex: u8) -> Resul
     requires { rex < 16 }
     ensures { OnOk result (out.new ≡ out.old ++ opening opcode.prefixes.now rex opcode.escapes.now opcode.byte) }
 {
-    put_bytes(alloc, out, opcode.prefixes)?;
+    out.extend(alloc, opcode.prefixes)?;
     put_rex(alloc, out, rex)?;
-    put_bytes(alloc, out, opcode.escapes)?;
-    put_bytes(alloc, out, &[opcode.byte])
+    out.extend(alloc, opcode.escapes)?;
+    out.extend(alloc, &[opcode.byte])
 }
 
 /// Appends an encoding with ModRM: the number in the reg field, and the operand that mod and rm name.
@@ -80,7 +79,7 @@ pub(crate) fn put_rm(
     ensures { OnOk result (out.new ≡ out.old ++ rm_bytes opcode.prefixes.now opcode.escapes.now size opcode.byte reg rm) }
 {
     put_opening(alloc, out, opcode, w_bit(size) + 4 * (reg / 8) + extend(rm))?;
-    put_bytes(alloc, out, &[mode(rm) + 8 * (reg % 8)])?;
+    out.extend(alloc, &[mode(rm) + 8 * (reg % 8)])?;
     put_address(alloc, out, rm)
 }
 
@@ -96,5 +95,5 @@ pub(crate) fn put_reg(
     ensures { OnOk result (out.new ≡ out.old ++ reg_bytes size opcode reg) }
 {
     put_rex(alloc, out, w_bit(size) + high(reg))?;
-    put_bytes(alloc, out, &[opcode + low(reg)])
+    out.extend(alloc, &[opcode + low(reg)])
 }

@@ -17,7 +17,6 @@ ghost use Rattle.cet_isa.specs.Canonical.{
   four_bytes,
 };
 
-use cet_base::put_bytes;
 use cet_isa::{Base, Mem, Operand, Reg, fits_byte};
 use cet_words::{Bytes, NoMemory};
 use std::alloc::Global;
@@ -130,12 +129,12 @@ fn put_sib(alloc: Global, out: &mut Bytes, mem: Mem) -> Result<(), NoMemory>
 {
     match (mem.base, mem.index) {
         (Base::Rip, _) => Ok(()),
-        (Base::None, None) => put_bytes(alloc, out, &[0x25]),
-        (Base::None, Some(index)) => put_bytes(alloc, out, &[sib_of(index, mem.scale, 5)]),
-        (Base::Reg(base), None) if low(base) == 4 => put_bytes(alloc, out, &[0x24]),
+        (Base::None, None) => out.extend(alloc, &[0x25]),
+        (Base::None, Some(index)) => out.extend(alloc, &[sib_of(index, mem.scale, 5)]),
+        (Base::Reg(base), None) if low(base) == 4 => out.extend(alloc, &[0x24]),
         (Base::Reg(_), None) => Ok(()),
         (Base::Reg(base), Some(index)) => {
-            put_bytes(alloc, out, &[sib_of(index, mem.scale, low(base))])
+            out.extend(alloc, &[sib_of(index, mem.scale, low(base))])
         }
     }
 }
@@ -143,7 +142,7 @@ fn put_sib(alloc: Global, out: &mut Bytes, mem: Mem) -> Result<(), NoMemory>
 pub(crate) fn put_four(alloc: Global, out: &mut Bytes, value: i32) -> Result<(), NoMemory>
     ensures { OnOk result (out.new ≡ out.old ++ four_bytes value) }
 {
-    put_bytes(alloc, out, &value.to_le_bytes())
+    out.extend(alloc, &value.to_le_bytes())
 }
 
 fn put_base_disp(alloc: Global, out: &mut Bytes, base: Reg, disp: i32) -> Result<(), NoMemory>
@@ -153,7 +152,7 @@ fn put_base_disp(alloc: Global, out: &mut Bytes, base: Reg, disp: i32) -> Result
         return Ok(());
     }
     match i8::try_from(disp) {
-        Ok(byte) => put_bytes(alloc, out, &byte.to_le_bytes()),
+        Ok(byte) => out.extend(alloc, &byte.to_le_bytes()),
         Err(_) => put_four(alloc, out, disp),
     }
 }

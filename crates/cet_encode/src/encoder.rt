@@ -13,7 +13,6 @@ use crate::spelling::{
     put_alu, put_indirect, put_mov, put_push, put_relative, put_return, put_shift, put_test,
     put_wide_move,
 };
-use cet_base::put_bytes;
 use cet_isa::{Instr, Operand, Reg, Size};
 use cet_words::{Bytes, NoMemory};
 use std::alloc::Global;
@@ -148,7 +147,7 @@ fn put_spelling(alloc: Global, out: &mut Bytes, instr: Instr) -> Result<(), NoMe
         | Instr::Clrssbsy { .. }
         | Instr::Wrssq { .. }
         | Instr::Wrussq { .. } => put_shadow(alloc, out, instr),
-        _ => put_bytes(alloc, out, fixed_bytes(instr)),
+        _ => out.extend(alloc, fixed_bytes(instr)),
     }
 }
 
@@ -165,5 +164,5 @@ pub fn encode(alloc: Global, instr: &Instr, out: &mut Bytes) -> Result<(), NoMem
 {
     let mut spelling = Bytes::new(alloc);
     put_spelling(alloc, &mut spelling, *instr)?;
-    put_bytes(alloc, out, spelling.as_slice())
+    out.extend(alloc, spelling.as_slice())
 }

@@ -3,7 +3,7 @@
 ghost use Rattle.std.specs.Prelude.{◌≡◌, [], ◌∷◌, OnOk};
 ghost use Rattle.cet_encode.specs.Text.{onto, number, signed, register, base_part, scaled, front, is_alone, displacement, memory, operand};
 
-use cet_base::{put_bytes, put_decimal, put_hex};
+use cet_base::{put_decimal, put_hex};
 use cet_isa::{Base, Mem, Operand, Reg, Size};
 use cet_words::{Bytes, NoMemory};
 use std::alloc::Global;
@@ -11,7 +11,7 @@ use std::alloc::Global;
 pub(crate) fn put_number(alloc: Global, out: &mut Bytes, value: u64) -> Result<(), NoMemory>
     ensures { OnOk result (out.new ≡ onto out.old (number value ∷ [])) }
 {
-    put_bytes(alloc, out, b"0x")?;
+    out.extend(alloc, b"0x")?;
     put_hex(alloc, out, value)
 }
 
@@ -19,7 +19,7 @@ pub(crate) fn put_signed(alloc: Global, out: &mut Bytes, value: i32) -> Result<(
     ensures { OnOk result (out.new ≡ onto out.old (signed value)) }
 {
     if value < 0 {
-        put_bytes(alloc, out, b"-")?;
+        out.extend(alloc, b"-")?;
     }
     put_number(alloc, out, u64::from(value.unsigned_abs()))
 }
@@ -32,7 +32,7 @@ pub(crate) fn put_register(
 ) -> Result<(), NoMemory>
     ensures { OnOk result (out.new ≡ onto out.old (register size reg ∷ [])) }
 {
-    put_bytes(alloc, out, reg.name(size))
+    out.extend(alloc, reg.name(size))
 }
 
 fn put_base(alloc: Global, out: &mut Bytes, base: Base) -> Result<(), NoMemory>
@@ -40,7 +40,7 @@ fn put_base(alloc: Global, out: &mut Bytes, base: Base) -> Result<(), NoMemory>
 {
     match base {
         Base::None => Ok(()),
-        Base::Rip => put_bytes(alloc, out, b"rip"),
+        Base::Rip => out.extend(alloc, b"rip"),
         Base::Reg(reg) => put_register(alloc, out, Size::Qword, reg),
     }
 }
@@ -50,7 +50,7 @@ fn put_scaled(alloc: Global, out: &mut Bytes, index: Reg, scale: u8) -> Result<(
     ensures { OnOk result (out.new ≡ onto out.old (scaled index scale)) }
 {
     put_register(alloc, out, Size::Qword, index)?;
-    put_bytes(alloc, out, b"*")?;
+    out.extend(alloc, b"*")?;
     put_decimal(alloc, out, u64::from(scale))
 }
 
@@ -63,7 +63,7 @@ fn put_front(alloc: Global, out: &mut Bytes, mem: Mem) -> Result<(), NoMemory>
         (Base::None, Some(index)) => put_scaled(alloc, out, index, mem.scale),
         (base, Some(index)) => {
             put_base(alloc, out, base)?;
-            put_bytes(alloc, out, b"+")?;
+            out.extend(alloc, b"+")?;
             put_scaled(alloc, out, index, mem.scale)
         }
     }
@@ -84,7 +84,7 @@ fn put_displacement(alloc: Global, out: &mut Bytes, alone: bool, disp: i32) -> R
     } else if disp == 0 {
         Ok(())
     } else {
-        put_bytes(alloc, out, b"+")?;
+        out.extend(alloc, b"+")?;
         put_number(alloc, out, u64::from(disp.unsigned_abs()))
     }
 }
@@ -94,10 +94,10 @@ fn put_displacement(alloc: Global, out: &mut Bytes, alone: bool, disp: i32) -> R
 pub(crate) fn put_memory(alloc: Global, out: &mut Bytes, mem: Mem) -> Result<(), NoMemory>
     ensures { OnOk result (out.new ≡ onto out.old (memory mem)) }
 {
-    put_bytes(alloc, out, b"[")?;
+    out.extend(alloc, b"[")?;
     put_front(alloc, out, mem)?;
     put_displacement(alloc, out, is_alone(mem), mem.disp)?;
-    put_bytes(alloc, out, b"]")
+    out.extend(alloc, b"]")
 }
 
 pub(crate) fn put_operand(

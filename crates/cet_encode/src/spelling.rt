@@ -7,7 +7,6 @@ ghost use Rattle.cet_isa.specs.Code.{reg_number, op_number, cond_number};
 
 use crate::bytes::{Opcode, opcode, put_reg, put_rm, put_row};
 use crate::coding::put_four;
-use cet_base::put_bytes;
 use cet_isa::{AluOp, Cond, Count, Instr, Mem, Operand, Reg, Size};
 use cet_words::{Bytes, NoMemory};
 use std::alloc::Global;
@@ -27,7 +26,7 @@ fn put_alu_number(
     match i8::try_from(value) {
         Ok(byte) => {
             put_rm(alloc, out, opcode!([] [] 0x83), size, digit, dst)?;
-            put_bytes(alloc, out, &byte.to_le_bytes())
+            out.extend(alloc, &byte.to_le_bytes())
         }
         Err(_) => {
             put_rm(alloc, out, opcode!([] [] 0x81), size, digit, dst)?;
@@ -193,7 +192,7 @@ pub(crate) fn put_shift(
                 digit,
                 Operand::Reg(reg),
             )?;
-            put_bytes(alloc, out, &[places])
+            out.extend(alloc, &[places])
         }
         Count::Cl => put_rm(
             alloc,
@@ -221,11 +220,11 @@ fn put_push_number(alloc: Global, out: &mut Bytes, value: i32) -> Result<(), NoM
 {
     match i8::try_from(value) {
         Ok(byte) => {
-            put_bytes(alloc, out, &[0x6a])?;
-            put_bytes(alloc, out, &byte.to_le_bytes())
+            out.extend(alloc, &[0x6a])?;
+            out.extend(alloc, &byte.to_le_bytes())
         }
         Err(_) => {
-            put_bytes(alloc, out, &[0x68])?;
+            out.extend(alloc, &[0x68])?;
             put_four(alloc, out, value)
         }
     }
@@ -240,7 +239,7 @@ pub(crate) fn put_relative(
 ) -> Result<(), NoMemory>
     ensures { OnOk result (out.new ≡ out.old ++ (opcode.now ++ four_bytes disp)) }
 {
-    put_bytes(alloc, out, opcode)?;
+    out.extend(alloc, opcode)?;
     put_four(alloc, out, disp)
 }
 
@@ -277,12 +276,12 @@ pub(crate) fn put_wide_move(
     ensures { OnOk result (out.new ≡ out.old ++ canonical_spelling (Instr.MovWide dst value)) }
 {
     put_reg(alloc, out, 0xb8, Size::Qword, dst)?;
-    put_bytes(alloc, out, &value.to_le_bytes())
+    out.extend(alloc, &value.to_le_bytes())
 }
 
 pub(crate) fn put_return(alloc: Global, out: &mut Bytes, bytes: u16) -> Result<(), NoMemory>
     ensures { OnOk result (out.new ≡ out.old ++ canonical_spelling (Instr.RetImm bytes)) }
 {
-    put_bytes(alloc, out, &[0xc2])?;
-    put_bytes(alloc, out, &bytes.to_le_bytes())
+    out.extend(alloc, &[0xc2])?;
+    out.extend(alloc, &bytes.to_le_bytes())
 }

@@ -6,7 +6,6 @@ ghost use Rattle.cet_isa.specs.Names.{condition_name, operation_name};
 ghost use Rattle.cet_encode.specs.Text.{Word, Sign, Space, onto, named, pair, register, operand, size_word, amount, one, two, locked, shift, relative, indirect, pieces, text_of};
 
 use crate::operands::{put_memory, put_number, put_operand, put_register, put_signed};
-use cet_base::put_bytes;
 use cet_isa::{Cond, Count, Instr, Mem, Operand, Reg, Size};
 use cet_words::{Bytes, NoMemory};
 use std::alloc::Global;
@@ -15,15 +14,15 @@ use std::alloc::Global;
 fn put_name(alloc: Global, out: &mut Bytes, name: &[u8]) -> Result<(), NoMemory>
     ensures { OnOk result (out.new ≡ onto out.old (Word name.now ∷ Space ∷ [])) }
 {
-    put_bytes(alloc, out, name)?;
-    put_bytes(alloc, out, b" ")
+    out.extend(alloc, name)?;
+    out.extend(alloc, b" ")
 }
 
 fn put_comma(alloc: Global, out: &mut Bytes) -> Result<(), NoMemory>
     ensures { OnOk result (out.new ≡ onto out.old (Sign 44 ∷ Space ∷ [])) }
 {
-    put_bytes(alloc, out, b",")?;
-    put_bytes(alloc, out, b" ")
+    out.extend(alloc, b",")?;
+    out.extend(alloc, b" ")
 }
 
 /// Appends an instruction of one operand.
@@ -108,7 +107,7 @@ fn put_amount(alloc: Global, out: &mut Bytes, count: Count) -> Result<(), NoMemo
 {
     match count {
         Count::Number(places) => put_number(alloc, out, u64::from(places)),
-        Count::Cl => put_bytes(alloc, out, b"cl"),
+        Count::Cl => out.extend(alloc, b"cl"),
     }
 }
 
@@ -181,7 +180,7 @@ fn put_conditional_move(
 ) -> Result<(), NoMemory>
     ensures { OnOk result (out.new ≡ onto out.old (two (codes "cmov" ++ condition_name cond) size (Operand.Reg dst) src)) }
 {
-    put_bytes(alloc, out, b"cmov")?;
+    out.extend(alloc, b"cmov")?;
     put_two(alloc, out, cond.name(), size, Operand::Reg(dst), src)
 }
 
@@ -201,7 +200,7 @@ fn put_conditional_jump(
 ) -> Result<(), NoMemory>
     ensures { OnOk result (out.new ≡ onto out.old (relative (codes "j" ++ condition_name cond) disp)) }
 {
-    put_bytes(alloc, out, b"j")?;
+    out.extend(alloc, b"j")?;
     put_relative(alloc, out, cond.name(), disp)
 }
 
@@ -341,7 +340,7 @@ fn put_instr(alloc: Global, out: &mut Bytes, instr: Instr) -> Result<(), NoMemor
         | Instr::Clrssbsy { .. }
         | Instr::Wrssq { .. }
         | Instr::Wrussq { .. } => put_shadow(alloc, out, instr),
-        _ => put_bytes(alloc, out, fixed_name(instr)),
+        _ => out.extend(alloc, fixed_name(instr)),
     }
 }
 
@@ -352,5 +351,5 @@ pub fn text(alloc: Global, instr: &Instr, out: &mut Bytes) -> Result<(), NoMemor
 {
     let mut line = Bytes::new(alloc);
     put_instr(alloc, &mut line, *instr)?;
-    put_bytes(alloc, out, line.as_slice())
+    out.extend(alloc, line.as_slice())
 }

@@ -13,7 +13,8 @@ use Rattle.cet_asm.specs.declared.sections.Section.TheVariants as sections
 use Rattle.cet_syntax.specs.Tokens.{in_class}
 use Rattle.cet_syntax.specs.Instructions.{no_fixups}
 use Rattle.cet_syntax.specs.Line.{Line, Code, line_of}
-use Rattle.cet_asm.specs.Layout.{filled, size_of, round_up, is_too_long, start, program_limit, text_start}
+use Rattle.cet_words.specs.Layout.{page_up}
+use Rattle.cet_asm.specs.Layout.{filled, size_of, is_too_long, start, program_limit, text_start}
 use Rattle.cet_asm.specs.Program.{lines_of, symbols_of, label_address, symbol_address, knows_all, is_in_reach, broken_at, fault_from, bytes_of, section_from, mark_from, IsProgram}
 use Rattle.cet_texts.proofs.LengthLaws.{canonical_short}
 use Rattle.cet_texts.proofs.PieceTokens.{is_text_byte, joined, onto_joined, joined_text}
@@ -24,13 +25,13 @@ use Rattle.cet_texts.proofs.TextLaws.{pieces_line}
 abbrev line : Instr → Line
 line i = record { labels = []; statement = Code i no_fixups }
 
-small : (n : ℕ) → n ≤ 21 → round_up (0 + n) + 0 ≤ program_limit
+small : (n : ℕ) → n ≤ 21 → page_up (0 + n) + 0 ≤ program_limit
 small n h = omega (arith, h)
 
 fits_program : (i : Instr) → is_too_long start (Code i no_fixups) ≡ false
 unfolding is_too_long size_of filled
 fits_program i =
-    ap not (le-leb (round_up (0 + length (canonical_spelling i)) + 0) program_limit (small (length (canonical_spelling i)) (canonical_short i)))
+    ap not (le-leb (page_up (0 + length (canonical_spelling i)) + 0) program_limit (small (length (canonical_spelling i)) (canonical_short i)))
 
 no_fault : (i : Instr) → fault_from (symbols_of (line i ∷ [])) 1 [] start (line i ∷ []) ≡ None
 unfolding broken_at knows_all is_in_reach
