@@ -18,3 +18,4 @@ mod tests;
 pub use assembler::assemble;
 pub use layout::TEXT_START;
 pub use program::{AsmFault, Program};
+pub use sections::Section;

@@ -4,7 +4,7 @@ ghost use Rattle.std.specs.Prelude.{◌≡◌};
 
 /// A part of a program.
 #[derive(Clone, Copy)]
-pub(crate) enum Section {
+pub enum Section {
     Text,
     Data,
 }

@@ -5,7 +5,7 @@ ghost use Rattle.cet_syntax.specs.Tokens.{is_blank, is_sign, is_decimal, is_name
 
 /// A class of bytes.
 #[derive(Clone, Copy)]
-pub(crate) enum Class {
+pub enum Class {
     /// Space and tab.
     Blank,
     /// All but blanks.

@@ -15,9 +15,11 @@ mod splitting;
 mod statements;
 mod tokens;
 
+pub use classes::Class;
 pub use instructions::Fixups;
 pub use lines::{Line, next_label, read_line};
 pub use lists::{next_byte, next_quad};
+pub use mnemonics::Mnemonic;
 pub use places::Item;
 pub use rules::Rule;
 pub use splitting::first_line;

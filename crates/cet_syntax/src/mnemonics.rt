@@ -19,7 +19,7 @@ use cet_isa::{AluOp, Cond, Instr};
 /// What the word at the front of an instruction names. `Alone` takes no operands. `Xadd` and `Cmpxchg` stand
 /// after `lock`, `UntrackedCall` and `UntrackedJmp` after `notrack`.
 #[derive(Clone, Copy)]
-pub(crate) enum Mnemonic {
+pub enum Mnemonic {
     Alone(Instr),
     Alu(AluOp),
     Test,
