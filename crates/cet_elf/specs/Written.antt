@@ -1,7 +1,7 @@
 -- The file of a program: a file header, the program headers, a property note, and at multiples of 4096 the text and the
 -- data. Source: System V ABI, ELF-64 object files; for the property note the x86-64 supplement. The choice of fields and
 -- places is own.
-use Rattle.std.specs.Prelude.{ℕ, ◌≡◌, true, false, ◌+◌, ◌≤◌, ◌<◌, IsTrue, ◌-◌, ◌*◌, ◌/◌, ◌==◌, if◌then◌else◌, List, [], ◌∷◌, ◌++◌, length, replicate}
+use Rattle.std.specs.Prelude.{ℕ, ◌≡◌, true, false, ◌+◌, ◌≤◌, ◌<◌, IsTrue, ◌-◌, ◌==◌, if◌then◌else◌, List, [], ◌∷◌, ◌++◌, length, replicate}
 use Rattle.std.specs.Int.{w16, w32, w64, to_le_bytes}
 use Rattle.cet_asm.specs.declared.program.Program.{Program}
 use Rattle.cet_words.specs.Layout.{page_up}
