@@ -1,4 +1,4 @@
-ghost use Rattle.std.specs.Prelude.{◌≡◌, ◌<◌, ◌+◌, ◌^◌, find, All, IfSome};
+ghost use Rattle.std.specs.Prelude.{◌≡◌, ◌<◌, ◌+◌, ◌*◌, ◌^◌, find, All, IfSome};
 ghost use Rattle.std.specs.Option.{option_copied};
 ghost use Rattle.cet_words.specs.Job.{covers, IsSegment};
 ghost use Rattle.cet_words.specs.Layout.{entry_of, entry_with, segment_entry, no_execute};
@@ -26,8 +26,10 @@ pub(crate) fn segment_of(segments: &[Segment], number: u64) -> Option<&Segment>
 }
 
 /// The segment of an image that has a byte in the page that begins at 4096 * `number`.
-pub(crate) fn segment_at(image: &Image, number: u64) -> Option<&Segment>
-    ensures { option_copied result ≡ find (covers number) image.now.segments }
+#[tactic(auto, using(crate::proofs::ByteLaws::found_page))]
+pub fn segment_at(image: &Image, number: u64) -> Option<&Segment>
+    ensures found { option_copied result ≡ find (covers number) image.now.segments }
+    ensures range { IfSome result (λ segment. 4096 * number < 0x800000) }
 {
     segment_of(image.segments.as_slice(), number)
 }

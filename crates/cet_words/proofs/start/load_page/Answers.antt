@@ -6,9 +6,9 @@ use Rattle.cet_words.proofs.start.load_page.Goals as goal
 pub returns-in-Some : goal.returns-in-Some
 returns-in-Some c =
     page_loaded c.args.image.now.segments c.args.page c.in-Some.segment.now c.args.words.now c.write_page.new.words
-    (sym c.segment_at.ensures ∙ ap option_copied c.in-Some.is) c.write_page.ensures
+    (sym c.segment_at.ensures.found ∙ ap option_copied c.in-Some.is) c.write_page.ensures
 
 pub returns-in_default : goal.returns-in_default
 returns-in_default c =
     page_absent c.args.image.now.segments c.args.page c.args.words.now
-    (sym c.segment_at.ensures ∙ ap option_copied c.in_default.is) c.requires.zero
+    (sym c.segment_at.ensures.found ∙ ap option_copied c.in_default.is) c.requires.zero
