@@ -13,4 +13,4 @@ mod reading;
 #[cfg(test)]
 mod tests;
 
-pub use decoder::{Decoded, decode};
+pub use decoder::{Decoded, decode, instruction_length};
