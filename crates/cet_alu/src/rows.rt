@@ -14,6 +14,7 @@ use crate::operations::{
     alu, decrement, increment, invert, multiply, negate, set_carry, shift_arithmetic, shift_left,
     shift_right, test,
 };
+use cet_decode::instruction_length;
 use cet_isa::{Arch, Instr, Record};
 use cet_page::{Cursor, Next, Stop, Vals, assigned, invalid_opcode, next_address, stepped};
 use cet_words::Job;
@@ -76,5 +77,10 @@ pub fn next(job: &Job, arch: &Arch, vals: &Vals, instr: &Instr) -> Next
     // An instruction that faults has changed no word.
     ensures fault { (e : Fault) → result ≡ Next.Fault e → written false (arithmetic arch.now instr.now (next_address job.now arch.now)) vals.now.count vals.now.kept ≡ false }
 {
-    Next::of(follow(arch, instr, next_address(job, arch), &mut vals.start()))
+    Next::of(follow(
+        arch,
+        instr,
+        next_address(job, arch, |bytes| instruction_length(bytes)),
+        &mut vals.start(),
+    ))
 }

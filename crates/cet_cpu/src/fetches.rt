@@ -2,8 +2,8 @@
 
 ghost use Rattle.cet_cpu.specs.Code.{IsCode};
 
-use cet_decode::Decoded;
-use cet_page::{fetch, read};
+use cet_decode::{Decoded, decode};
+use cet_page::fetch;
 use cet_words::Image;
 
 /// The code at an address, as it was read.
@@ -22,7 +22,7 @@ pub fn code_at(image: &Image, addr: u64) -> Code
     let mut buffer = [0u8; 15];
     let fetched = fetch(image, addr, &mut buffer);
     Code {
-        decoded: read(&buffer[..fetched]),
+        decoded: decode(&buffer[..fetched]),
         fetched: fetched as u8,
     }
 }

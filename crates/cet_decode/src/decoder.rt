@@ -3,7 +3,7 @@
 ghost use Rattle.std.specs.Prelude.{◌≡◌, ℕ, ◌<◌, ◌≤◌, List, length};
 ghost use Rattle.cet_isa.specs.declared.instructions.Instr.{Instr};
 ghost use Rattle.cet_isa.specs.Spells.{Spells};
-ghost use Rattle.cet_isa.specs.Reading.{decoded, IsAnswer};
+ghost use Rattle.cet_isa.specs.Reading.{decoded, read_length, IsAnswer};
 ghost use Rattle.cet_decode.specs.Decoded.{decoding, LenAtMost};
 
 use crate::index::read_indexed;
@@ -48,4 +48,14 @@ pub fn decode(bytes: &[u8]) -> Decoded
     ensures longest { (spelling : List ℕ) (instr : Instr) → Spells spelling instr → length spelling ≤ 12 }
 {
     answer(bytes)
+}
+
+/// The length of the instruction at the front of the bytes, 0 where there is none.
+pub fn instruction_length(bytes: &[u8]) -> u8
+    ensures { result ≡ read_length (decoded bytes.now) }
+{
+    match decode(bytes) {
+        Decoded::Ok { len, .. } => len,
+        Decoded::Short | Decoded::Unknown => 0,
+    }
 }

@@ -12,4 +12,4 @@ mod reading;
 #[cfg(test)]
 mod tests;
 
-pub use decoder::{Decoded, decode};
+pub use decoder::{Decoded, decode, instruction_length};

@@ -10,6 +10,7 @@ use crate::calls::{call_indirect, call_relative};
 use crate::jumps::{jump_if, jump_indirect, jumped, relative};
 use crate::returns::ret;
 use crate::stacks::{leave, pop, push};
+use cet_decode::instruction_length;
 use cet_isa::{Arch, Instr, Record};
 use cet_page::{Cursor, Next, Stop, Vals, invalid_opcode, next_address};
 use cet_words::Job;
@@ -52,5 +53,10 @@ pub fn next(job: &Job, arch: &Arch, vals: &Vals, instr: &Instr) -> Next
     // An instruction that faults has changed no word.
     ensures fault { (e : Fault) → result ≡ Next.Fault e → written false (flow arch.now instr.now (next_address job.now arch.now)) vals.now.count vals.now.kept ≡ false }
 {
-    Next::of(follow(arch, instr, next_address(job, arch), &mut vals.start()))
+    Next::of(follow(
+        arch,
+        instr,
+        next_address(job, arch, |bytes| instruction_length(bytes)),
+        &mut vals.start(),
+    ))
 }

@@ -70,6 +70,12 @@ decoding_of n (Err Differs) = Unknown
 unfoldable pub decoded : List ℕ → Decoding
 decoded bytes = decoding_of (length bytes) (any_at forms bytes)
 
+-- how many bytes the instruction has, 0 where there is none
+abbrev pub read_length : Decoding → ℕ
+read_length (Read i len) = len
+read_length Short = 0
+read_length Unknown = 0
+
 -- Each answer comes exactly where its cause holds.
 pub record IsAnswer (bytes : List ℕ) (answer : Decoding) : Type 0 where
   pub read : (i : Instr) (len : ℕ) → (answer ≡ Read i len) ↔ Begins bytes i len

@@ -1,9 +1,12 @@
--- One more byte that can be fetched, or none.
-use Rattle.std.proofs.Common.{◌≡◌, ℕ, suc, ◌+◌, ◌-◌, ◌<◌, ◌≤◌, arith, refl, ap, sym, ◌∙◌, List, [], ◌∷◌, ◌++◌, Some, None, take, length, set, length-set, append_assoc, append-nil}
+-- One more byte that can be fetched, or none; the address behind an instruction.
+use Rattle.std.proofs.Common.{◌≡◌, ℕ, suc, ◌+◌, ◌-◌, ◌%◌, ◌^◌, ◌<◌, ◌≤◌, arith, refl, ap, sym, ◌∙◌, List, [], ◌∷◌, ◌++◌, Some, None, take, length, set, length-set, append_assoc, append-nil}
 use Rattle.std.proofs.lemmas.List.{take_more_set}
 use Rattle.cet_words.specs.declared.images.Segment.{Segment}
 use Rattle.cet_words.specs.Bytes.{code_byte}
+use Rattle.cet_isa.specs.Reading.{Decoding, Read, Short, Unknown, read_length}
+use Rattle.cet_isa.specs.declared.threads.Arch.{Arch}
 use Rattle.cet_page.specs.Fetch.{fetchable}
+use Rattle.cet_page.specs.Row.{address_after}
 
 next_byte : (segments : List Segment) (addr left most next b : ℕ) → left ≡ suc most → next ≡ addr + 1 → code_byte segments addr ≡ Some b → fetchable segments addr left ≡ b ∷ fetchable segments next most
 unfolding fetchable
@@ -34,3 +37,9 @@ fetch_full segments addr at buffer l m e =
     let none = no_room segments (addr + at) (length buffer - at) (omega arith) in
     let same : length buffer ≡ at = omega arith in
     ap (λ n. take n buffer) same ∙ sym (append-nil (take at buffer)) ∙ ap (λ rest. take at buffer ++ rest) (sym none) ∙ e
+
+-- the address after an instruction, by its length
+pub address_is : (arch : Arch) (d : Decoding) → arch.rip < 2 ^ 64 → (arch.rip + read_length d) % 2 ^ 64 ≡ address_after arch d
+address_is arch (Read i len) fits = refl
+address_is arch Short fits = omega arith
+address_is arch Unknown fits = omega arith

@@ -1,48 +1,19 @@
 //! The fetch of an instruction.
 
-ghost use Rattle.std.specs.Prelude.{◌≡◌, ◌+◌, ◌-◌, ◌/◌, ◌^◌, ◌<◌, ◌≤◌, take, length, find, option_copied, All, IfSome};
+ghost use Rattle.std.specs.Prelude.{◌≡◌, ℕ, ◌+◌, ◌^◌, ◌<◌, ◌≤◌, List, take, length, IfSome};
 ghost use Rattle.cet_words.specs.Layout.{image_end};
-ghost use Rattle.cet_words.specs.Job.{covers, IsSegment};
+ghost use Rattle.std.specs.Fn.{FnOnceReturnsAt};
 ghost use Rattle.cet_page.specs.Script.{play};
 ghost use Rattle.cet_page.specs.Plays.{Comes};
 ghost use Rattle.cet_page.specs.Fetch.{fetchable, missing};
 ghost use Rattle.cet_page.specs.Row.{next_address};
-ghost use Rattle.cet_decode.specs.Decoded.{decoding};
-ghost use Rattle.cet_isa.specs.Reading.{decoded};
+ghost use Rattle.cet_isa.specs.Reading.{decoded, read_length};
 
 use crate::checks::{Kind, Who, page_fault};
 use crate::cursors::{Cursor, Stop};
 use crate::finishes::Finish;
-use cet_decode::{Decoded, decode};
 use cet_isa::Arch;
-use cet_words::{Access, Image, Job, Segment, code_byte, page_of};
-
-/// Whether the segment has a byte in the page that begins at 4096 * `number`.
-fn covers(segment: &Segment, number: u64) -> bool
-    requires { IsSegment segment.now }
-    ensures { result ≡ covers number segment.now }
-{
-    segment.size > 0
-        && segment.start / 4096 <= number
-        && number <= (segment.start + segment.size - 1) / 4096
-}
-
-/// The segment that has a byte in the page that begins at 4096 * `number`.
-fn segment_of(segments: &[Segment], number: u64) -> Option<&Segment>
-    requires { All IsSegment segments.now }
-    ensures { option_copied result ≡ find (covers number) segments.now }
-{
-    segments.iter().find(|segment| covers(segment, number))
-}
-
-/// The segment that has a byte in the page of an address.
-#[tactic(auto, using(cet_words::proofs::ByteLaws::found_place))]
-fn segment_at(image: &Image, addr: u64) -> Option<&Segment>
-    ensures found { option_copied result ≡ find (covers (addr / 4096)) image.now.segments }
-    ensures range { IfSome result (λ segment. addr < image_end) }
-{
-    segment_of(image.segments.as_slice(), addr / 4096)
-}
+use cet_words::{Access, Image, Job, code_byte, page_of, segment_at};
 
 /// So many bytes of code from an address on, where they are file bytes of one page.
 #[tactic(auto, using(crate::proofs::Runs::run_is))]
@@ -52,7 +23,7 @@ fn code_run(image: &Image, addr: u64, count: usize) -> Option<&[u8]>
     ensures length { IfSome result (λ bytes. length bytes.now ≡ count) }
     ensures range { IfSome result (λ bytes. addr + count ≤ image_end) }
 {
-    let segment = segment_at(image, addr)?;
+    let segment = segment_at(image, addr / 4096)?;
     if !segment.exec || addr < segment.start || addr % 4096 + count as u64 > 4096 {
         return None;
     }
@@ -106,21 +77,14 @@ pub fn missing(addr: u64, at: &mut Cursor) -> Result<Finish, Stop>
     Err(Stop::Fault(page_fault(entry, Kind::Fetch, Who::User, addr)))
 }
 
-/// What bytes are. Only what a row depends on of the decoder's contract.
-pub fn read(bytes: &[u8]) -> Decoded
-    ensures { decoding result ≡ decoded bytes.now }
-{
-    decode(bytes)
-}
-
-/// The address after the instruction at RIP; RIP itself where no instruction is there.
-pub fn next_address(job: &Job, arch: &Arch) -> u64
+/// The address after the instruction at RIP; RIP itself where no instruction is there. The decoder stands
+/// beside this crate: `length` tells how many of the bytes at RIP are the instruction, 0 for none.
+pub fn next_address<F: FnOnce(&[u8]) -> u8>(job: &Job, arch: &Arch, length: F) -> u64
+    requires callable { (bytes : _) → F.pre length bytes }
+    requires tells { (bytes : List ℕ) (count : ℕ) → FnOnceReturnsAt F.FnOnce length bytes count → count ≡ read_length (decoded bytes) }
     ensures { result ≡ next_address job.now arch.now }
 {
     let mut buffer = [0u8; 15];
     let fetched = fetch(job.image, arch.rip, &mut buffer);
-    match read(&buffer[..fetched]) {
-        Decoded::Ok { len, .. } => arch.rip.wrapping_add(u64::from(len)),
-        Decoded::Short | Decoded::Unknown => arch.rip,
-    }
+    arch.rip.wrapping_add(u64::from(length(&buffer[..fetched])))
 }

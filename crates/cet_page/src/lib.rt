@@ -21,7 +21,7 @@ mod vals;
 pub use checks::{Kind, Who, check, index_of, page_fault};
 pub use cursors::{Cursor, Stop, general_protection, invalid_opcode, word_in};
 pub use families::{Family, family_of};
-pub use fetches::{fetch, missing, next_address, read};
+pub use fetches::{fetch, missing, next_address};
 pub use finishes::Finish;
 pub use flags::{Computed, StatusFlags};
 pub use nexts::Next;

@@ -3,7 +3,7 @@ use Rattle.std.proofs.Common.{arith, cond, subst}
 use Rattle.std.proofs.lemmas.Bool.Decides.{nat_tests}
 use Rattle.std.proofs.lemmas.List.Elements.{recursion_from_All}
 use Rattle.std.specs.List.{AllByRecursion}
-use Rattle.std.specs.Prelude.{◌≡◌, ℕ, ◌/◌, ◌<◌, ◌≤◌, Bool, true, false, List, [], ◌∷◌, Option, Some, None, find, All, refl}
+use Rattle.std.specs.Prelude.{◌≡◌, ℕ, ◌*◌, ◌/◌, ◌<◌, ◌≤◌, Bool, true, false, List, [], ◌∷◌, Option, Some, None, find, All, refl}
 use Rattle.cet_words.specs.declared.images.Segment.{Segment}
 use Rattle.cet_words.specs.Layout.{image_start, image_end}
 use Rattle.cet_words.specs.Job.{covers, IsSegment}
@@ -36,3 +36,11 @@ code_place segments addr b h e = byte_place segments addr b (find (covers (addr 
 -- an address whose page a segment covers lies in the image range
 pub found_place : (segments : List Segment) (addr : ℕ) (s : Segment) → All IsSegment segments → find (covers (addr / 4096)) segments ≡ Some s → (image_start ≤ addr) × (addr < image_end)
 found_place segments addr s h f = let g = found IsSegment (covers (addr / 4096)) s segments (recursion_from_All IsSegment segments h) f in covered s addr g.0 g.1
+
+-- a page that a segment covers lies in the image range
+pub found_page : (segments : List Segment) (number : ℕ) (s : Segment) → All IsSegment segments → find (covers number) segments ≡ Some s → 4096 * number < 0x800000
+found_page segments number s h f =
+    let g = found IsSegment (covers number) s segments (recursion_from_All IsSegment segments h) f in
+    let high = g.0.high in
+    let inside = g.1 in
+    grind (arith, nat_tests)

@@ -1,9 +1,9 @@
 //! The one present entry of each page.
 
-ghost use Rattle.std.specs.Prelude.{◌≡◌, ◌<◌, ◌+◌, ◌^◌, find, All, IfSome};
+ghost use Rattle.std.specs.Prelude.{◌≡◌, ◌<◌, ◌+◌, ◌*◌, ◌^◌, find, All, IfSome};
 ghost use Rattle.std.specs.Option.{option_copied};
 ghost use Rattle.cet_words.specs.Job.{covers, IsSegment};
-ghost use Rattle.cet_words.specs.Layout.{page_count, first_stack_page};
+ghost use Rattle.cet_words.specs.Layout.{image_end, page_count, first_stack_page};
 ghost use Rattle.cet_words.specs.Entries.{entry_of, entry_with, segment_entry, no_execute};
 
 use crate::images::{Image, Segment};
@@ -30,8 +30,10 @@ pub(crate) fn segment_of(segments: &[Segment], number: u64) -> Option<&Segment>
 }
 
 /// The segment of an image that has a byte in the page that begins at 4096 * `number`.
-pub(crate) fn segment_at(image: &Image, number: u64) -> Option<&Segment>
-    ensures { option_copied result ≡ find (covers number) image.now.segments }
+#[tactic(auto, using(crate::proofs::ByteLaws::found_page))]
+pub fn segment_at(image: &Image, number: u64) -> Option<&Segment>
+    ensures found { option_copied result ≡ find (covers number) image.now.segments }
+    ensures range { IfSome result (λ segment. 4096 * number < image_end) }
 {
     segment_of(image.segments.as_slice(), number)
 }

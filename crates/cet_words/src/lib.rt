@@ -16,7 +16,7 @@ mod start;
 
 pub use accesses::{Access, Perform};
 pub use bytes::code_byte;
-pub use entries::present;
+pub use entries::{present, segment_at};
 pub use images::{Image, Job, Segment, Segments, Signal, Signals};
 pub use lists::{Bytes, Items, NoMemory, Words};
 pub use memory::Plain;
