@@ -10,24 +10,7 @@ use Rattle.cet_book.proofs.Hand.{hand, Hands, hand_all}
 use Rattle.cet_book.proofs.Append.{append, Appends, append_all}
 use Rattle.cet_book.proofs.Removes.{Removal, plain, linked, raised_all}
 use Rattle.cet_book.proofs.First.{first_empty}
-
-abbrev pub IsReturn : ℕ → Type 0
-IsReturn x = (0x400000 ≤ x) × (x ≤ 0x800000)
-
-abbrev pub EntryReturns : Entry → Type 0
-EntryReturns (Call x) = IsReturn x
-EntryReturns (Restorer x) = IsReturn x
-EntryReturns Frame = Unit {0}
-EntryReturns (Previous s) = Unit {0}
-EntryReturns Blank = Unit {0}
-
-abbrev pub AllReturn : List Entry → Type 0
-AllReturn [] = Unit {0}
-AllReturn (e ∷ es) = EntryReturns e × AllReturn es
-
--- of all entries of a book
-abbrev pub Returns : Book → Type 0
-Returns b = (i : ℕ) → AllReturn (region b i).entries
+use Rattle.cet_book.specs.Facts.{AllReturn, IsReturn, Returns}
 
 -- of what a change adds
 abbrev pub ChangeReturns : Change → Type 0

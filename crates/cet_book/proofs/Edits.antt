@@ -6,7 +6,8 @@ use Rattle.std.proofs.lemmas.List.Sums.{position_or_len_is, passes_at_first}
 use Rattle.std.proofs.lemmas.Bool.{cases_lt, false≢true}
 use Rattle.std.proofs.lemmas.Bool.Decides.{eqb_tells, nat_tests}
 use Rattle.cet_book.specs.Book.{Holder, Maker, Current, Parked, Left, Lost, Region, Book, nowhere, region, put, is_current, current_of}
-use Rattle.cet_book.proofs.Shape.{Bounds, Shape}
+use Rattle.cet_book.specs.Facts.{Bounds}
+use Rattle.cet_book.proofs.Shape.{Shape}
 
 pub region-put : (b : Book) (k i : ℕ) (r : Region) → k < length b.regions → region (put b k r) i ≡ cond (eqb i k) r (region b i)
 region-put b k i r inside = elim (eqb_tells i k) [

@@ -37,7 +37,7 @@ taken_held t k b inside free j =
       | inr u ↦ (λ e. absurd (u.1 (let v = e in cc)), λ e. absurd (free j (sym (rw u.0 at at) ∙ e)))
     ]
 
-given_held : (t k : ℕ) (b : Book) → k < length b.stacks → StackShape b.stacks → stack_of b k ≡ Some t → Held t (put_stack b k None) None
+pub given_held : (t k : ℕ) (b : Book) → k < length b.stacks → StackShape b.stacks → stack_of b k ≡ Some t → Held t (put_stack b k None) None
 given_held t k b inside shape held j =
     let at = stack_of-put_stack b k j None inside in (
       λ e. cc,

@@ -20,4 +20,3 @@ pub mod Held
 pub mod EventLaws
 pub mod Ways
 pub mod Top
-pub mod StackLaws

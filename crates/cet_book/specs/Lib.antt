@@ -1,3 +1,4 @@
 pub mod Book
 pub mod Stack
+pub mod Facts
 pub mod Events

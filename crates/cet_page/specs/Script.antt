@@ -16,9 +16,9 @@ pub data Script (A : Type 0) : Type 0 where
   ask : Access → (ℕ → List Change) → (ℕ → Script A) → Script A
   -- a store, its changes, and what follows
   tell : (word value : ℕ) → List Change → Script A → Script A
+
 -- one script after another
 infixl 10 ◌>>=◌
-
 unfoldable pub ◌>>=◌ : {A B : Type 0} → Script A → (A → Script B) → Script B
 (done x) >>= f = f x
 (fault e) >>= f = fault e

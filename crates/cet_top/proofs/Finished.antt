@@ -7,7 +7,7 @@ use Rattle.cet_isa.specs.declared.threads.End.{End}
 use Rattle.cet_isa.specs.declared.threads.End.TheVariants as ending
 use Rattle.cet_book.specs.Book.{Entry, Holder, Current, Lost, Region, Book, first_book, nowhere, region, top, starting_at}
 use Rattle.cet_book.specs.Stack.{tops, word_of, words_of}
-use Rattle.cet_book.proofs.StackLaws.{Stack}
+use Rattle.cet_book.specs.Facts.{Stack}
 use Rattle.cet_page.specs.Gate.{exit_word}
 use Rattle.cet_page.specs.Machine.{Machine, Thread, Starts, machine, run}
 use Rattle.cet_own.proofs.Report.{LastBook}
