@@ -1,7 +1,7 @@
 -- A script: which accesses are made one after another, what each means for the book, and what is done with the answers.
 -- Source: own. It is the form in which each instruction and each kernel call is written.
 use Rattle.std.proofs.Common.{zero, suc}
-use Rattle.std.specs.Prelude.{◌≡◌, ℕ, List, [], ◌∷◌, Option, Some, None, refl}
+use Rattle.std.specs.Prelude.{ℕ, List, [], ◌∷◌, Option, Some, None}
 use Rattle.cet_words.specs.declared.accesses.Access.{Access}
 use Rattle.cet_words.specs.declared.accesses.Access.TheVariants as access
 use Rattle.cet_isa.specs.declared.threads.Fault.{Fault}
