@@ -1,4 +1,4 @@
--- What a class with one change owes, and a class that writes into a region that no other thread has. Source: own.
+-- How a class with one change pays what it owes. Source: own.
 use Rattle.std.proofs.Common.{◌≡◌, ◌≢◌, ℕ, ◌+◌, ◌-◌, ◌<◌, inl, List, [], ◌∷◌, Some, refl, sym, ◌∙◌, ap, subst, arith}
 use Rattle.std.specs.Prelude.{slice_index, slice_set}
 use Rattle.cet_words.specs.Access.{answer, after}
@@ -20,7 +20,7 @@ use Rattle.cet_own.proofs.Owed.{Owed}
 use Rattle.cet_own.proofs.ClassLaws.{one_book, sound_after}
 use Rattle.cet_own.proofs.Classes.{word_other, keeps_restorers}
 
--- a word of a region that isn't the thread's is none of its own
+-- a write in a region that isn't the thread's leaves its own words
 pub place_spares : (words : List ℕ) (b : Book) (k p x y : ℕ) → Place p → In (region b k) p → (Owns y (region b k).holder → ⊥) → (w : ℕ) → OwnWord y b w → slice_index (slice_set words (slot p) x) w ≡ slice_index words w
 place_spares words b k p x y place inn not_own w (own_slot addr at own e) =
     let low = place.low in
@@ -37,7 +37,7 @@ place_spares words b k p x y place inn not_own w (below_token j l h e) =
 pub place_restorers : (words : List ℕ) (p x : ℕ) → Place p → KeepsRestorers words (slice_set words (slot p) x)
 place_restorers words p x place = let high = place.high in keeps_restorers words (slot p) x (inl (omega arith))
 
--- the words are as they were but for those of no thread
+-- words of other threads' own, and restorers, are as they were
 pub record Spares (t : ℕ) (b : Book) (words now : List ℕ) : Type 0 where
   pub own : (y : ℕ) → t ≢ y → (w : ℕ) → OwnWord y b w → slice_index now w ≡ slice_index words w
   pub restorers : KeepsRestorers words now
@@ -45,11 +45,11 @@ pub record Spares (t : ℕ) (b : Book) (words now : List ℕ) : Type 0 where
 pub spares_none : (t : ℕ) (b : Book) (words : List ℕ) → Spares t b words words
 spares_none t b words = record { own = λ y n w own. refl; restorers = λ s l n. n }
 
--- the change leads to a known book
+-- it is enough to say to which book the change leads, that words and book are in step there, and which words were spared
 pub changed : {image : ImageData} {t k : ℕ} {past : List Visit} {b : Book} {a : Access} {v : ℕ} {changes : List Change} → (c : Change) (to : Book) → changes ≡ c ∷ [] → ChangeReturns c → ((words : List ℕ) → v ≡ answer words a → Holds image words b → CountsBy t past b a v changes) → ((words : List ℕ) → v ≡ answer words a → Holds image words b → LeavesCounters a) → ((words : List ℕ) → v ≡ answer words a → Holds image words b → book_after t b c ≡ Some to) → ((words : List ℕ) → v ≡ answer words a → Holds image words b → Sound to → Holds image (after words a) to × Spares t b words (after words a)) → Owed image t k past b a v changes
-changed {image = image} {t = t} {b = b} {a = a} {v = v} {changes = changes} c to ev returns counts settled way does = record {
+changed {image = image} {t = t} {b = b} {a = a} {v = v} {changes = changes} c to ev returns counts uncounted way does = record {
   counts = counts;
-  settled = settled;
+  uncounted = uncounted;
   keeps = λ words next is h still q.
       let w = way words is h in
       let r : book_after t b c ≡ Some next = one_book t b next c changes ev q in

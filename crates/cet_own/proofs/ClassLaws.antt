@@ -90,7 +90,7 @@ holds_gate image words b k x o l e sound h = record {
   stacks = lists_out words b (token_word k) x h.sound.book.shape (inr (omega arith)) h.stacks;
   pages = (let p = pages_out image words b (token_word k) x (omega arith) h.pages in record { entries = p.entries; fixed = p.fixed; shadow = p.shadow });
   gates = gates_set words b k x o h.size h.sound.book.stacks.eight l e h.gates;
-  restorers = restorers_out words (token_word k) x (inr (omega arith)) h.restorers;
+  restorers = restorers_out image words (token_word k) x (inr (omega arith)) h.restorers;
   marks = (let m = marks_out words b (token_word k) x (inr (omega arith)) (omega arith) h.sound.book.shape h.marks in record { parked = m.parked; token = m.token; zeros = m.zeros; drawn = m.drawn });
 }
 

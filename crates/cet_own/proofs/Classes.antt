@@ -1,5 +1,4 @@
--- The classes of accesses: each keeps words and book in step, sets the thread's field held as the book has it, bears no
--- thread, and lets regions keep their holders or be lost. Source: own.
+-- The classes of accesses that rows make: each pays what is owed. Source: own.
 use Rattle.std.proofs.Common.{◌≡◌, ◌≢◌, ℕ, ◌+◌, ◌-◌, ◌%◌, ◌^◌, ◌<◌, ◌≤◌, inl, inr, ◌⊎◌, Bool, true, false, List, [], ◌∷◌, length, Option, Some, None, refl, sym, ◌∙◌, ap, subst, arith, get_or-set_other}
 use Rattle.std.specs.Prelude.{slice_index, slice_set, ◌==◌, if◌then◌else◌}
 use Rattle.cet_words.specs.Access.{answer, after}
@@ -97,7 +96,7 @@ gave t m k b next changes o held ev q =
 
 -- ---- an access without changes
 
--- no word that is a thread's own differs
+-- no thread's own words differ
 pub record Spared (b : Book) (words now : List ℕ) : Type 0 where
   pub own : (y w : ℕ) → OwnWord y b w → slice_index now w ≡ slice_index words w
   pub restorers : KeepsRestorers words now
@@ -142,7 +141,7 @@ token_spares words b j expected x l = record {
   restorers = exchange_restorers words (token_word j) x (slice_index words (token_word j) == expected) (inr (omega arith));
 }
 
--- a word of its own region is stored, which is none of another thread's
+-- a word of the thread's own region is no other thread's own
 pub own_spares : (words : List ℕ) {t m : ℕ} {b : Book} (o : Owned t m b) (y p x : ℕ) → t ≢ y → Place p → In (region b m) p → (w : ℕ) → OwnWord y b w → slice_index (slice_set words (slot p) x) w ≡ slice_index words w
 own_spares words {m = m} {b = b} o y p x n place inn w (own_slot addr at own e) =
     let low = place.low in
@@ -156,7 +155,7 @@ own_spares words o y p x n place inn w (below_token k l h e) =
     let high = place.high in
     word_other words (slot p) x w (λ z. omega arith)
 
--- the access changes another word than the counters
+-- the access changes neither counter, as its kind tells
 pub leaves_by : {a c : Access} → a ≡ c → alters c draw_word ≡ false → alters c next_word ≡ false → LeavesCounters a
 leaves_by e n m = record { draws = ap (λ x. alters x draw_word) e ∙ n; births = ap (λ x. alters x next_word) e ∙ m }
 
@@ -172,7 +171,7 @@ next_other w n = grind (arith, nat_tests)
 pub quiet : {image : ImageData} {t k : ℕ} {past : List Visit} {b : Book} {a : Access} {v : ℕ} {changes : List Change} → changes ≡ [] → LeavesCounters a → ((words : List ℕ) → v ≡ answer words a → Holds image words b → Holds image (after words a) b × Spared b words (after words a)) → Owed image t k past b a v changes
 quiet {image = image} {t = t} {b = b} {a = a} {changes = changes} ev leaves h = record {
   counts = λ words is holds. no_count_by leaves (ap birth ev);
-  settled = λ words is holds. leaves;
+  uncounted = λ words is holds. leaves;
   keeps = λ words next is holds still q. subst (Holds image (after words a)) (same_book t b next changes ev q) (h words is holds).0;
   spares = λ words is holds y n w own. (h words is holds).1.own y w own;
   restorers = λ words is holds. (h words is holds).1.restorers;
@@ -208,7 +207,7 @@ module _ {image : ImageData} {t k : ℕ} {past : List Visit} {b : Book} {a : Acc
         out_spared words b word ((slice_index words word + value) % 2 ^ 64) out,
       ))
 
-  -- the entry of a page of the own_slot area is cleared
+  -- the entry of a page of the shadow area is cleared
   pub clears : (page : ℕ) → a ≡ access.Store (entry_word page) 0 → 2112 ≤ page → page < 3136 → changes ≡ [] → Owed image t k past b a v changes
   clears page e lo hi ev = quiet ev (leaves_by e (other_word (entry_word page) (omega arith)) (next_other (entry_word page) (omega arith))) (λ words is h. subst (λ c. Holds image (after words c) b × Spared b words (after words c)) (sym e) (
     holds_clear image words b page lo hi h,
@@ -228,15 +227,15 @@ module _ {image : ImageData} {t k : ℕ} {past : List Visit} {b : Book} {a : Acc
         token_spares words b k (token k) value l,
       ))
 
-  -- the way out finds it again
+  -- the way out reads it again
   pub reloads : k < 8 → a ≡ access.Load (token_word k - 1) → v ≡ kernel_return → changes ≡ [] → Owed image t k past b a v changes
   reloads l e found ev = loads (token_word k - 1) e ev
 
-  -- the way in leaves the kernel's return address below its token
+  -- the way in stores the kernel's return address below its token
   pub settles : k < 8 → a ≡ access.Store (token_word k - 1) kernel_return → stack_of b k ≡ Some t → changes ≡ [] → Owed image t k past b a v changes
   settles l e held ev = record {
     counts = λ words is h. no_count_by (leaves_by e (other_word (token_word k - 1) (omega arith)) (next_other (token_word k - 1) (omega arith))) (ap birth ev);
-    settled = λ words is h. leaves_by e (other_word (token_word k - 1) (omega arith)) (next_other (token_word k - 1) (omega arith));
+    uncounted = λ words is h. leaves_by e (other_word (token_word k - 1) (omega arith)) (next_other (token_word k - 1) (omega arith));
     keeps = λ words next is h still q.
         subst (λ c. Holds image (after words c) next) (sym e)
         (subst (Holds image (slice_set words (token_word k - 1) kernel_return)) (same_book t b next changes ev q) (holds_below_token image words b k kernel_return l h));
@@ -257,7 +256,7 @@ module _ {image : ImageData} {t k : ℕ} {past : List Visit} {b : Book} {a : Acc
   pub pushes : (m back : ℕ) → (region b m).holder ≡ Current t → a ≡ access.Store (slot (top (region b m) - 8)) back → (region b m).start + 8 ≤ top (region b m) → IsReturn back → changes ≡ Called back ∷ [] → Owed image t k past b a v changes
   pushes m back current e room is_return ev = record {
     counts = λ words is h. no_count_by (leaves_by e (other_word (slot (top (region b m) - 8)) (let p = (below_top (own_region t m h current) room).place.high in omega arith)) (next_other (slot (top (region b m) - 8)) (let p = (below_top (own_region t m h current) room).place.high in omega arith))) (ap birth ev);
-    settled = λ words is h. leaves_by e (other_word (slot (top (region b m) - 8)) (let p = (below_top (own_region t m h current) room).place.high in omega arith)) (next_other (slot (top (region b m) - 8)) (let p = (below_top (own_region t m h current) room).place.high in omega arith));
+    uncounted = λ words is h. leaves_by e (other_word (slot (top (region b m) - 8)) (let p = (below_top (own_region t m h current) room).place.high in omega arith)) (next_other (slot (top (region b m) - 8)) (let p = (below_top (own_region t m h current) room).place.high in omega arith));
     keeps = λ words next is h still q.
         let o = own_region t m h current in
         let d = called_is t m back b next changes o room ev q in
@@ -275,7 +274,7 @@ module _ {image : ImageData} {t k : ℕ} {past : List Visit} {b : Book} {a : Acc
   pub pops : (m word : ℕ) → (region b m).holder ≡ Current t → a ≡ access.Load word → changes ≡ Returned ∷ [] → Owed image t k past b a v changes
   pops m word current e ev = record {
     counts = λ words is h. no_count_by (leaves_by e refl refl) (ap birth ev);
-    settled = λ words is h. leaves_by e refl refl;
+    uncounted = λ words is h. leaves_by e refl refl;
     keeps = λ words next is h still q.
         let o = own_region t m h current in
         let removal = removed_is t m b next changes o ev q in
@@ -289,7 +288,7 @@ module _ {image : ImageData} {t k : ℕ} {past : List Visit} {b : Book} {a : Acc
   pub enters : k < 8 → a ≡ access.CompareExchange (token_word k) (token k) (token k + 1) → v ≡ token k → Free t b → changes ≡ Busied k ∷ [] → Owed image t k past b a v changes
   enters l e found free ev = record {
     counts = λ words is h. no_count_by (leaves_by e (other_word (token_word k) (omega arith)) (next_other (token_word k) (omega arith))) (ap birth ev);
-    settled = λ words is h. leaves_by e (other_word (token_word k) (omega arith)) (next_other (token_word k) (omega arith));
+    uncounted = λ words is h. leaves_by e (other_word (token_word k) (omega arith)) (next_other (token_word k) (omega arith));
     keeps = λ words next is h still q.
         let at : slice_index words (token_word k) ≡ token k = sym (is ∙ ap (answer words) e) ∙ found in
         let d = busied_is t k b next changes l (stack_free k h l at) free ev q in
@@ -306,7 +305,7 @@ module _ {image : ImageData} {t k : ℕ} {past : List Visit} {b : Book} {a : Acc
   pub leaves : k < 8 → a ≡ access.CompareExchange (token_word k) (token k + 1) (token k) → stack_of b k ≡ Some t → changes ≡ Freed k ∷ [] → Owed image t k past b a v changes
   leaves l e held ev = record {
     counts = λ words is h. no_count_by (leaves_by e (other_word (token_word k) (omega arith)) (next_other (token_word k) (omega arith))) (ap birth ev);
-    settled = λ words is h. leaves_by e (other_word (token_word k) (omega arith)) (next_other (token_word k) (omega arith));
+    uncounted = λ words is h. leaves_by e (other_word (token_word k) (omega arith)) (next_other (token_word k) (omega arith));
     keeps = λ words next is h still q.
         let at = token_held t k h l held in
         let d = freed_is t k b next changes held ev q in
@@ -323,7 +322,7 @@ module _ {image : ImageData} {t k : ℕ} {past : List Visit} {b : Book} {a : Acc
   pub exits : (m : ℕ) → k < 8 → a ≡ access.CompareExchange (token_word k) (token k + 1) (token k) → stack_of b k ≡ Some t → (region b m).holder ≡ Current t → changes ≡ Ended ∷ Freed k ∷ [] → Owed image t k past b a v changes
   exits m l e held current ev = record {
     counts = λ words is h. no_count_by (leaves_by e (other_word (token_word k) (omega arith)) (next_other (token_word k) (omega arith))) (ap birth ev);
-    settled = λ words is h. leaves_by e (other_word (token_word k) (omega arith)) (next_other (token_word k) (omega arith));
+    uncounted = λ words is h. leaves_by e (other_word (token_word k) (omega arith)) (next_other (token_word k) (omega arith));
     keeps = λ words next is h still q.
         let o = own_region t m h current in
         let at = token_held t k h l held in

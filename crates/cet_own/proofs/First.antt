@@ -17,9 +17,9 @@ use Rattle.cet_page.specs.Core.{first_core, unheld}
 use Rattle.cet_page.specs.Gate.{handler_word, token, token_word}
 use Rattle.cet_page.specs.Machine.{Machine, Thread, Starts}
 use Rattle.cet_page.proofs.WithinLaws.{first_waits}
-use Rattle.cet_own.specs.Past.{next_word, draw_word}
-use Rattle.cet_own.proofs.Holds.{Marks, Restorers, Pages, Gates, Holds}
-use Rattle.cet_own.specs.Stands.{IsEntry, busy}
+use Rattle.cet_own.specs.Past.{restorer_word, next_word, draw_word}
+use Rattle.cet_own.proofs.Holds.{Marks, Pages, Gates, Holds}
+use Rattle.cet_own.specs.Stands.{Restorers, IsEntry, busy}
 use Rattle.cet_book.proofs.Held.{Free}
 use Rattle.cet_own.proofs.Standing.{AtRest, HasNone}
 use Rattle.cet_own.specs.Stands.{HasMade}
@@ -114,25 +114,25 @@ first_gates image words s k l =
     let none : busy (stack_of first_book k) ≡ 0 = ap busy (no_stack k) in
     s.each (token_word k) (omega arith) ∙ is ∙ omega arith
 
-handler_start : (k : ℕ) → k < 64 → kernel_word (64 + 4 * k) ≡ 0
-unfolding kernel_word
-handler_start k l =
-    let a : (64 + 4 * k == 1) ≡ false = grind (arith, nat_tests) in
-    let b : (64 + 4 * k == 2) ≡ false = grind (arith, nat_tests) in
-    let c : nat_lt 511 (64 + 4 * k) ≡ false = grind (arith, nat_tests) in
-    rw (a, b, c) refl
+-- the words of signals are 0
+action_start : (image : ImageData) (words : List ℕ) (n : ℕ) → IsStart image words → n < 256 → slice_index words (1605696 + n) ≡ 0
+unfolding start_word kernel_word
+action_start image words n s l =
+    let a : nat_lt (1605696 + n) 524288 ≡ false = grind (arith, nat_tests) in
+    let b : nat_lt (1605696 + n) 1605632 ≡ false = grind (arith, nat_tests) in
+    let c : nat_lt (1605696 + n) 1614848 ≡ true = grind (arith, nat_tests) in
+    let at : 1605696 + n - 1605632 ≡ 64 + n = omega arith in
+    let d : (64 + n == 1) ≡ false = grind (arith, nat_tests) in
+    let e : (64 + n == 2) ≡ false = grind (arith, nat_tests) in
+    let f : nat_lt 511 (64 + n) ≡ false = grind (arith, nat_tests) in
+    let zero : kernel_word (64 + n) ≡ 0 = rw (d, e, f) refl in
+    s.each (1605696 + n) (omega arith) ∙ rw (a, b, c) (ap kernel_word at ∙ zero)
 
--- no handler is set
-first_restorers : (image : ImageData) (words : List ℕ) → IsStart image words → Restorers words
-unfolding start_word
-first_restorers image words s k l above =
-    let a : nat_lt (1605696 + 4 * k) 524288 ≡ false = grind (arith, nat_tests) in
-    let b : nat_lt (1605696 + 4 * k) 1605632 ≡ false = grind (arith, nat_tests) in
-    let c : nat_lt (1605696 + 4 * k) 1614848 ≡ true = grind (arith, nat_tests) in
-    let n : 1605696 + 4 * k - 1605632 ≡ 64 + 4 * k = omega arith in
-    let is : start_word image (handler_word k) ≡ 0 = rw (a, b, c) (ap kernel_word n ∙ handler_start k l) in
-    let each = s.each (handler_word k) (omega arith) in
-    absurd (omega arith)
+first_restorers : (image : ImageData) (words : List ℕ) → IsStart image words → Restorers image words
+first_restorers image words s = record {
+  executable = λ k l. inl (let at : restorer_word k ≡ 1605696 + (4 * k + 2) = omega arith in ap (slice_index words) at ∙ action_start image words (4 * k + 2) s (omega arith));
+  shown = λ k l above. (let none = action_start image words (4 * k) s (omega arith) in absurd (omega arith));
+}
 
 shadow_start : (image : ImageData) (words : List ℕ) (p : ℕ) → IsStart image words → Place p → slot_word words p ≡ 0
 unfolding start_word

@@ -14,20 +14,21 @@ use Rattle.cet_page.proofs.OrderlyLaws.{Orderly}
 use Rattle.cet_page.specs.Trail.{Visit, visit}
 use Rattle.cet_page.specs.Trail.{trail}
 
--- a thread's view of a kind of book
+-- What one thread sees of the others, and what it owes them. Everything is about the past of its present row, too: its trail.
 pub record Rules (B : Type 0) : Type 1 where
-  -- what the others may have done to it in between
+  -- what the others may have made of the book since the last access
   pub Rely : B → B → Type 0
   pub same : (b : B) → Rely b b
   pub again : (a b c : B) → Rely a b → Rely b c → Rely a c
-  -- what is known at an access, and of its answer
+  -- what the thread knows of an access and its answer
   pub Known : List Visit → B → Access → (answer : ℕ) → Type 0
-  -- what is owed at an access with this answer and these changes
+  -- what it owes there, with these changes
   pub Owed : List Visit → B → Access → (answer : ℕ) → List Change → Type 0
   pub after : B → List Change → Option B
 
--- During holds before each access, each access is as it is owed, and at the end Q holds of the book before the last
--- access, of the book after it and of the result, or F of the book and the fault.
+-- The claim of a thread on the rest of its row. Before each access During holds. At the access, whatever the others did and
+-- whatever is answered, the thread pays what it owes, the book has its changes, and it claims what follows with one visit
+-- more in the trail. At the end Q holds of the books before and after the last access and of the result, or F of the fault.
 abbrev pub Steady : {A B : Type 0} → Rules B → (During : List Visit → B → Type 0) → (Q : List Visit → B → B → A → Type 0) → (F : List Visit → B → Fault → Type 0) → (past : List Visit) → (before b : B) → Script A → Type 0
 Steady rules During Q F past before b (done x) = Q past before b x
 Steady rules During Q F past before b (fault e) = F past b e
@@ -86,7 +87,7 @@ module _ {A B : Type 0} (rules : Rules B) (During : List Visit → B → Type 0)
   others_at past before b now (ask b' changes f) (suc n) (v ∷ vs) a r d g w = others_at (visit b' v (changes v) ∷ past) before b now (f v) n vs a r d g w
   others_at past before b now (tell word value changes s) (suc n) vs a r d g w = others_at (visit (access.Store word value) 0 changes ∷ past) before b now s n vs a r d g w
 
-  -- what an access leads to
+  -- what an access pays and leads to, and that the trail grows by it
   pub record Goes (at past : List Visit) (b : B) (s : Script A) (n : ℕ) (vs : List ℕ) (a : Access) (v : ℕ) (changes : List Change) : Type 0 where
     pub owed : rules.Owed at b a v changes
     pub next : B

@@ -1,4 +1,4 @@
--- Words and book in step. Source: own.
+-- Words and book in step: what ties each word that matters to the book. An access of any class keeps it. Source: own.
 use Rattle.std.specs.Prelude.{◌≡◌, ◌≢◌, ℕ, ◌+◌, ◌-◌, ◌*◌, ◌%◌, ◌<◌, ◌≤◌, ◌⊎◌, List, length, slice_index, Option, Some, None}
 use Rattle.cet_words.specs.Job.{ImageData}
 use Rattle.cet_words.specs.Layout.{entry_word, entry_of}
@@ -8,7 +8,7 @@ use Rattle.cet_book.proofs.Shape.{IsBook}
 use Rattle.cet_book.specs.Stack.{slot_word, tops}
 use Rattle.cet_own.specs.Past.{restorer_word, draw_word, next_word}
 use Rattle.cet_page.specs.Gate.{token, token_word, handler_word}
-use Rattle.cet_own.specs.Stands.{IsEntry, busy}
+use Rattle.cet_own.specs.Stands.{Restorers, IsEntry, busy}
 
 -- the facts on the book alone
 pub record Sound (b : Book) : Type 0 where
@@ -26,10 +26,7 @@ pub record Pages (image : ImageData) (words : List ℕ) (b : Book) : Type 0 wher
 abbrev pub Gates : List ℕ → Book → Type 0
 Gates words b = (k : ℕ) → k < 8 → slice_index words (token_word k) ≡ token k + busy (stack_of b k)
 
--- a handler has a restorer
-abbrev pub Restorers : List ℕ → Type 0
-Restorers words = (s : ℕ) → s < 64 → 1 < slice_index words (handler_word s) → slice_index words (restorer_word s) ≢ 0
-
+-- a word of no signal
 abbrev pub NoAction : (word : ℕ) → Type 0
 NoAction word = (word < 1605696) ⊎ (1605952 ≤ word)
 
@@ -41,18 +38,18 @@ IsMaker Parked = ⊥
 IsMaker (Left q) = ⊥
 IsMaker Lost = ⊥
 
--- an address of a region that isn't being made
+-- the address is one of a region whose making is over
 pub record InUse (r : Region) (p : ℕ) : Type 0 where
   pub inside : In r p
   pub made : IsMaker r.holder → ⊥
 
 pub record Marks (words : List ℕ) (b : Book) : Type 0 where
-  -- a word at p is (p + 8) | 1 exactly where a parked region has its token there
+  -- each parked region has its token below its top, and no other word is a token
   pub parked : (i : ℕ) → (region b i).holder ≡ Parked → slot_word words (top (region b i) - 8) ≡ top (region b i) + 1
   pub token : (p : ℕ) → Place p → slot_word words p ≡ p + 9 → (i : ℕ) × IsParkedAt p (region b i)
-  -- words that lie in no region, or in one that is being made, are 0
+  -- a word other than 0 lies in a region that isn't being made
   pub zeros : (p : ℕ) → Place p → slot_word words p ≢ 0 → (i : ℕ) × InUse (region b i) p
-  -- every region lies below what no thread has drawn
+  -- every region ends at or below the next page to be drawn
   pub drawn : (i : ℕ) → (region b i).end ≤ 0x200000000 + 4096 * slice_index words draw_word
 
 pub record Holds (image : ImageData) (words : List ℕ) (b : Book) : Type 0 where
@@ -61,10 +58,10 @@ pub record Holds (image : ImageData) (words : List ℕ) (b : Book) : Type 0 wher
   pub stacks : (i : ℕ) → Stack words (tops b) (top (region b i)) (region b i).entries
   pub pages : Pages image words b
   pub gates : Gates words b
-  pub restorers : Restorers words
+  pub restorers : Restorers image words
   pub marks : Marks words b
 
--- a word of no shadow stack, of no page's entry, of no token and no counter
+-- a word on which the book says nothing: of no shadow stack, no page entry, no token nor the word below one, no signal, no counter
 pub record IsOut (word : ℕ) : Type 0 where
   pub shadow : (word < 1081344) ⊎ (1605632 ≤ word)
   pub entry : word < 1614848

@@ -1,4 +1,5 @@
--- Tokens, zeros and the counter of draws, after a write and after a change of the book. Source: own.
+-- Tokens, zeros and the counter of draws after an access. Three kinds serve every class: a change of the book without a
+-- write, a write that the marks don't see, and a write at an address of a region. Source: own.
 use Rattle.std.proofs.Common.{◌≡◌, ◌≢◌, ℕ, ◌+◌, ◌-◌, ◌*◌, ◌%◌, ◌<◌, ◌≤◌, ◌⊎◌, inl, inr, List, ◌∷◌, length, refl, sym, ◌∙◌, ap, subst, arith, get_or-set_other}
 use Rattle.std.specs.Prelude.{slice_index, slice_set}
 use Rattle.std.proofs.lemmas.Bool.Decides.{eqb_tells}
@@ -36,9 +37,9 @@ in_same b next i p s h =
     let high = h.high in
     record { low = omega arith; high = omega arith }
 
--- ---- a change of the book alone
+-- ---- the book changes, and no word
 
--- no region is parked, or was, and none is begun
+-- parked regions are as they were, and no region is begun
 pub record SameTokens (b next : Book) : Type 0 where
   pub same : SameBounds b next
   pub on : (i : ℕ) → (region b i).holder ≡ Parked → region next i ≡ region b i
@@ -85,7 +86,7 @@ marks_same words {b = b} {next = next} c h = record {
   drawn = λ i. (let e = c.same.end i in let d = h.drawn i in omega arith);
 }
 
--- ---- a write elsewhere
+-- ---- a word is written elsewhere
 
 pub marks_out : (words : List ℕ) (b : Book) (w x : ℕ) → (w < 1081344) ⊎ (1605632 ≤ w) → w ≢ draw_word → Shape b → Marks words b → Marks (slice_set words w x) b
 marks_out words b w x out n s h = record {
@@ -99,16 +100,17 @@ marks_out words b w x out n s h = record {
       omega arith;
 }
 
--- ---- a write at p in region k, with which the book becomes next
+-- ---- a word is written in a region
 
+-- x is written at p in region k, and the book becomes next
 pub record WritesAt (p x k : ℕ) (b next : Book) : Type 0 where
   pub same : SameBounds b next
   pub place : Place p
   pub inside : In (region b k) p
-  -- other regions are parked before and after, and the same
+  -- regions that are parked elsewhere stay so, and no other comes to be
   pub on : (i : ℕ) → (region b i).holder ≡ Parked → top (region b i) ≢ p + 8 → region next i ≡ region b i
   pub back : (i : ℕ) → i ≢ k → (region next i).holder ≡ Parked → region next i ≡ region b i
-  -- and this one exactly where its token is written
+  -- region k is parked afterwards exactly where x is its token
   pub at_k : (region next k).holder ≡ Parked → (top (region next k) ≡ p + 8) × (x ≡ p + 9)
   pub token : x ≡ p + 9 → IsParkedAt p (region next k)
   pub not_maker : IsMaker (region next k).holder → ⊥
@@ -156,7 +158,7 @@ marks_write words {p = p} {x = x} {k = k} {b = b} {next = next} m size s h = rec
       omega arith;
 }
 
--- a thread writes no token into its own region
+-- a thread writes into its own region, and no token
 pub writes_own : {t m p x : ℕ} {b next : Book} → SameTokens b next → Owned t m b → (region next m).holder ≡ Current t → Place p → In (region b m) p → x ≢ p + 9 → WritesAt p x m b next
 writes_own {t = t} c o now place inn n = record {
   same = c.same;

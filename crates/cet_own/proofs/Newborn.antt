@@ -19,7 +19,7 @@ use Rattle.cet_book.proofs.Held.{Free}
 use Rattle.cet_own.specs.Stands.{HasMade}
 use Rattle.cet_own.proofs.Threads.{InRow, ThreadStands}
 
--- thread x, whose number is y, newborn new
+-- thread x is new: it has made no access and no record, and has number y
 pub record IsNewborn (job : JobData) (next : State) (y : ℕ) (x : Thread) : Type 0 where
   pub stands : ThreadStands job y next (Some x)
   pub trail : trail_of job x.core ≡ []

@@ -64,7 +64,7 @@ module _ (image : ImageData) (words : List ℕ) {t m : ℕ} {b : Book} (o : Owne
             (λ i n. old i);
         pages = pages_same image stored b pushed (relist_same o (Call back ∷ (region b m).entries))
             (pages_out image words b (slot (top (region b m) - 8)) back (omega arith) h.pages);
-        restorers = restorers_out words (slot (top (region b m) - 8)) back (inl (omega arith)) h.restorers;
+        restorers = restorers_out image words (slot (top (region b m) - 8)) back (inl (omega arith)) h.restorers;
         marks = marks_write words (writes_own (tokens_relist o (Call back ∷ (region b m).entries)) o (relist_holder o (Call back ∷ (region b m).entries) m ∙ o.current) at.place at.inside (omega arith)) h.size o.shape h.marks;
         gates = gates_same stored b pushed refl
             (gates_out words b (slot (top (region b m) - 8)) back (λ k l. omega arith) h.gates);

@@ -1,4 +1,5 @@
--- The counter of draws is paid_draws for by the threads' counts, so it doesn't wrap. Source: own.
+-- Each add to a counter is paid for by a record of its thread, so the counters stay small. They are sums over the machine's
+-- threads, outside of what claims speak of. Source: own.
 use Rattle.std.proofs.Common.{◌≡◌, ◌≢◌, ℕ, ◌+◌, ◌*◌, ◌%◌, ◌^◌, ◌<◌, ◌≤◌, Bool, true, false, List, [], ◌∷◌, length, Option, Some, None, refl, sym, ◌∙◌, ap, subst, arith, get_or, get_or-set_same, get_or-set_other}
 use Rattle.std.specs.Prelude.{slice_index, slice_set, slice_get, ◌==◌, ◌||◌, if◌then◌else◌, min, sum_by, All, bit_or, bit_and}
 use Rattle.std.proofs.lemmas.Bool.{false≢true, eqb-true}
@@ -62,7 +63,7 @@ no_number : (a : Access) → alters a next_word ≡ false → is_number a ≡ fa
 no_number (access.FetchAdd word value) e = e
 no_number a e = refl
 
--- the counters grow by at most 1,023 and by at most one where the row pays for it
+-- by an access the counters grow no more than the row owes for it
 pub record Counted (words : List ℕ) (a : Access) (past : List Visit) : Type 0 where
   pub draws : slice_index (after words a) draw_word + 1023 * one (drew past) ≤ slice_index words draw_word + 1023 * one (is_draw a || drew past)
   pub nexts : slice_index (after words a) next_word + one (numbered past) ≤ slice_index words next_word + one (is_number a || numbered past)
@@ -99,7 +100,7 @@ one_most : (c : Bool) → one c ≤ 1
 one_most true = omega arith
 one_most false = omega arith
 
--- a thread pays for its row's adds by the row's record, and keeps the region that the kernel made
+-- where the row ends, its record pays; the region that the kernel made stays the thread's
 pub record Pays (job : JobData) (arch : Arch) (past : List Visit) (next : Core) : Type 0 where
   pub draws : arch.count + one (drew past) ≤ paid_draws job next
   pub nexts : arch.count + one (numbered past) ≤ paid_births job next
@@ -141,7 +142,7 @@ came_pays job arch held seen before s (Over Stopped left values) o k =
 
 -- ---- all threads
 
--- the number of threads is the lesser of the counter and 32, and both counters are paid_draws for, by few records
+-- the number of threads by their counter, and both counters by what threads have paid
 pub record Paid (job : JobData) (words : List ℕ) (threads : List Thread) : Type 0 where
   pub least : 1 ≤ slice_index words next_word
   pub number : length threads ≡ min (slice_index words next_word) 32
@@ -149,14 +150,14 @@ pub record Paid (job : JobData) (words : List ℕ) (threads : List Thread) : Typ
   pub draws : slice_index words draw_word ≤ 9 + 1023 * sum_by (thread_draws job) threads
   pub nexts : slice_index words next_word ≤ 1 + sum_by (thread_births job) threads
 
--- a sum over the threads where each has at most 100,001
+-- 32 threads of at most 100,001 each
 few_sum : (job : JobData) (threads : List Thread) (d : Thread) (f : Thread → ℕ) → length threads ≤ 32 → ((t : ℕ) (thread : Thread) → slice_get threads t ≡ Some thread → f thread ≤ 100001) → sum_by f threads ≤ 3200032
 few_sum job threads d f few each =
     let all : All (λ x. f x ≤ 100001) threads = All-from_get_or (λ x. f x ≤ 100001) threads d (λ i l. each i (get_or threads i d) (slice_get-get_or threads i d l)) in
     let sum = sum_by-le f 100001 threads all in
     omega arith
 
--- so the counters don't wrap, and a thread whose number is below 32 and not below the counter isn't born
+-- so the counters don't wrap, and the next number is of no thread
 pub counters_tell : (job : JobData) (words : List ℕ) (threads : List Thread) (t : ℕ) (thread : Thread) (b : Book) → IsJob job → Paid job words threads → slice_get threads t ≡ Some thread → ((y : ℕ) → slice_get threads y ≡ None → HasNone y b) → CountersTell words t b
 counters_tell job words threads t thread b j p found none =
     let limit = j.limit_high in
@@ -173,7 +174,7 @@ counters_tell job words threads t thread b j p found none =
       other = λ few z. omega arith;
     }
 
--- one thread moves on
+-- the sum, where one thread moves on
 pub sum_moved : (threads : List Thread) (t : ℕ) (thread next : Thread) (f : Thread → ℕ) → t < length threads → slice_get threads t ≡ Some thread → sum_by f (slice_set threads t next) + f thread ≡ sum_by f threads + f next
 sum_moved threads t thread next f inside found =
     let sum = sum_by-set f threads t next thread inside in

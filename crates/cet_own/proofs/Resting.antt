@@ -1,4 +1,5 @@
--- Where a thread stands within a row, by whether a frame was pushed in it. Source: own.
+-- Where a thread stands within a row. What the row has done so far is an index read off its trail, which an access that
+-- does none of it leaves as it is; so claims needn't speak of trails. Source: own.
 use Rattle.std.proofs.Common.{◌≡◌, ◌≢◌, ℕ, Bool, true, false, Option, Some, refl, sym, ◌∙◌, subst}
 use Rattle.cet_page.specs.Gate.{kernel_return}
 use Rattle.cet_book.specs.Book.{Book, stack_of}
@@ -7,13 +8,13 @@ use Rattle.cet_own.proofs.Standing.{Stacked, stacked_kept, free_kept, AtRest}
 use Rattle.cet_book.proofs.Held.{Free}
 use Rattle.cet_own.specs.Past.{Progress, untouched, below_frame}
 
--- it holds no supervisor stack, and the row has pushed a frame (d) or not
+-- it holds no supervisor stack, and the row has done d
 pub record Resting (t : ℕ) (d now : Progress) (b : Book) (ssp : ℕ) : Type 0 where
   pub stacked : Stacked t b (below_frame d.framed ssp)
   pub free : Free t b
   pub level : now ≡ d
 
--- it holds supervisor stack k, and left there what the way in leaves
+-- it holds supervisor stack k, below whose token its row left the kernel's return address
 pub record Inside (t k : ℕ) (d now : Progress) (left : Option ℕ) (b : Book) (ssp : ℕ) : Type 0 where
   pub stacked : Stacked t b (below_frame d.framed ssp)
   pub holds : stack_of b k ≡ Some t
@@ -23,18 +24,18 @@ pub record Inside (t k : ℕ) (d now : Progress) (left : Option ℕ) (b : Book) 
 at_level : {t : ℕ} {d now : Progress} {b : Book} (ssp : ℕ) → now ≡ d → Stacked t b (below_frame d.framed ssp) → Stacked t b (below_frame now.framed ssp)
 at_level {t = t} {b = b} ssp e s = subst (λ (x : Progress). Stacked t b (below_frame x.framed ssp)) (sym e) s
 
--- before an access
+-- what During asks before an access
 pub rest_stacked : {t : ℕ} {d now : Progress} {b : Book} {ssp : ℕ} → Resting t d now b ssp → Stacked t b (below_frame now.framed ssp)
 rest_stacked {ssp = ssp} r = at_level ssp r.level r.stacked
 
 pub inside_stacked : {t k : ℕ} {d now : Progress} {left : Option ℕ} {b : Book} {ssp : ℕ} → Inside t k d now left b ssp → Stacked t b (below_frame now.framed ssp)
 inside_stacked {ssp = ssp} r = at_level ssp r.level r.stacked
 
--- after an access that left that word alone
+-- after an access elsewhere
 pub inside_left : {t k : ℕ} {d now : Progress} {left left' : Option ℕ} {b : Book} {ssp : ℕ} → left' ≡ left → Inside t k d now left b ssp → Inside t k d now left' b ssp
 inside_left e i = record { stacked = i.stacked; holds = i.holds; level = i.level; settled = e ∙ i.settled }
 
--- at the end of a row
+-- at the end of a row without a frame
 pub rested : {t : ℕ} {drawing numbering : Bool} {now : Progress} {b : Book} {ssp : ℕ} → Resting t (record { framed = false; drawing = drawing; numbering = numbering }) now b ssp → AtRest t b ssp
 rested r = record { stacked = r.stacked; free = r.free }
 

@@ -1,9 +1,10 @@
--- The words that a row has read or left in regions of its own thread are still there. Source: own.
+-- What a row has seen of words of its thread's own is still there, whatever the others did since. Source: own.
 use Rattle.std.proofs.Common.{◌⊎◌, ◌-◌, ◌≡◌, ◌≢◌, ℕ, ◌+◌, ◌%◌, ◌^◌, ◌<◌, ◌≤◌, inl, inr, Bool, true, false, cond, List, [], ◌∷◌, length, Option, Some, None, refl, sym, ◌∙◌, ap, subst, arith, get_or-set_other, get_or-set_same}
 use Rattle.std.specs.Prelude.{◌||◌, nat_lt, slice_index, slice_set, bit_or, bit_and, ◌==◌, if◌then◌else◌}
 use Rattle.std.proofs.lemmas.Bool.Decides.{eqb_tells, nat_tests}
 use Rattle.std.proofs.lemmas.Bool.{false≢true, eqb-true}
 use Rattle.cet_words.specs.Access.{answer, after}
+use Rattle.cet_words.specs.Job.{ImageData}
 use Rattle.cet_words.specs.Change.{Change, Acquired, Busied}
 use Rattle.cet_words.specs.declared.accesses.Access.{Access}
 use Rattle.cet_words.specs.declared.accesses.Access.TheVariants as access
@@ -14,13 +15,12 @@ use Rattle.cet_book.specs.Facts.{Owns}
 use Rattle.cet_book.specs.Stack.{slot}
 use Rattle.cet_page.specs.Gate.{token_word, handler_word}
 use Rattle.cet_book.specs.Facts.{Place, In}
-use Rattle.cet_own.proofs.Holds.{Restorers}
 use Rattle.cet_own.proofs.Writes.{in_there}
 use Rattle.cet_page.specs.Trail.{Visit, visit}
 use Rattle.cet_own.specs.Past.{is_taking, touches, leaves_word, takes_any, left_in, restorer_word, shows_restorer, has_restorer}
 use Rattle.cet_book.proofs.Cases.{and_true}
 use Rattle.cet_book.proofs.Comes.{Comes, TakesNothing, AllApart, changes_come}
-use Rattle.cet_own.specs.Stands.{IsOwnPlace, OwnWord, below_token, own_slot}
+use Rattle.cet_own.specs.Stands.{Restorers, IsOwnPlace, OwnWord, below_token, own_slot}
 
 pub record Still (words : List ℕ) (t : ℕ) (b : Book) (past : List Visit) : Type 0 where
   pub word : (w x : ℕ) → OwnWord t b w → left_in past w ≡ Some x → slice_index words w ≡ x
@@ -30,11 +30,12 @@ pub word_there : (t : ℕ) (b : Book) (w : ℕ) → OwnWord t b w → w < 161800
 word_there t b w (own_slot addr p o e) = let low = p.low in let high = p.high in omega arith
 word_there t b w (below_token k l h e) = omega arith
 
--- a row that hasn't begun
+-- a row without accesses
 pub still_none : (words : List ℕ) (t : ℕ) (b : Book) → Still words t b []
 still_none words t b = record { word = λ w x o e. cc; restorer = λ s l e. absurd (false≢true e) }
 
--- changes that take nothing
+-- ---- what is a thread's own was so before
+
 or_false : (p q : Bool) → (p || q) ≡ false → (p ≡ false) × (q ≡ false)
 or_false true q e = absurd (false≢true (sym e))
 or_false false q e = (refl, e)
@@ -48,7 +49,7 @@ nothing_taken : (t : ℕ) (cs : List Change) → takes_any cs ≡ false → AllA
 nothing_taken t [] e = tt
 nothing_taken t (c ∷ cs) e = let both = or_false (is_taking c) (takes_any cs) e in (inr (takes_nothing c both.0), nothing_taken t cs both.1)
 
--- what is a thread's own was so before
+-- unless it was taken since
 pub own_before : (y : ℕ) (b next : Book) (addr : ℕ) → Comes y b next → IsOwnPlace y next addr → IsOwnPlace y b addr
 own_before y b next addr c o = record {
   each = λ i inn.
@@ -95,9 +96,9 @@ left_word (access.FetchOr word value) words w l = set_word words word w (bit_or 
 left_word (access.FetchAnd word value) words w l = set_word words word w (bit_and (slice_index words word) value) l
 left_word (access.CompareExchange word expected value) words w l = exchanged words word w value (slice_index words word == expected) l
 
--- ---- restorers stay
+-- ---- restorers
 
--- no restorer goes
+-- a signal that had a restorer has one
 abbrev pub KeepsRestorers : List ℕ → List ℕ → Type 0
 KeepsRestorers words now = (s : ℕ) → s < 64 → slice_index words (restorer_word s) ≢ 0 → slice_index now (restorer_word s) ≢ 0
 
@@ -105,13 +106,13 @@ or_true : (p q : Bool) → (p || q) ≡ true → (p ≡ true) ⊎ (q ≡ true)
 or_true true q e = inl refl
 or_true false q e = inr e
 
-restorer_shown : (a : Access) (words : List ℕ) (s : ℕ) → length words ≡ 1618002 → Restorers words → s < 64 → shows_restorer a (answer words a) s ≡ true → slice_index (after words a) (restorer_word s) ≢ 0
+restorer_shown : {image : ImageData} (a : Access) (words : List ℕ) (s : ℕ) → length words ≡ 1618002 → Restorers image words → s < 64 → shows_restorer a (answer words a) s ≡ true → slice_index (after words a) (restorer_word s) ≢ 0
 restorer_shown (access.Load word) words s size h l e =
     let d = and_true (word == handler_word s) (nat_lt 1 (slice_index words word)) e in
     let same : word ≡ handler_word s = eqb-true word (handler_word s) d.0 in
     let tested : nat_lt 1 (slice_index words word) ≡ true = d.1 in
     let above : 1 < slice_index words word = grind (arith, nat_tests) in
-    h s l (subst (λ n. 1 < slice_index words n) same above)
+    h.shown s l (subst (λ n. 1 < slice_index words n) same above)
 restorer_shown (access.Store word value) words s size h l e =
     let d = and_true (word == restorer_word s) (nat_lt 0 value) e in
     let same : word ≡ restorer_word s = eqb-true word (restorer_word s) d.0 in
@@ -122,7 +123,7 @@ restorer_shown (access.Store word value) words s size h l e =
     λ z. omega arith
 restorer_shown a words s size h l e = cc
 
--- ---- the thread's own access
+-- ---- after the thread's own access
 
 known_by : (past : List Visit) (w x leaves_word now was : ℕ) (c : Bool) → now ≡ (if c then leaves_word else was) → (left_in past w ≡ Some x → was ≡ x) → (if c then Some leaves_word else left_in past w) ≡ Some x → now ≡ x
 known_by past w x leaves_word now was true e h k = e ∙ (let q = k in cc)
@@ -135,7 +136,7 @@ own_word words t b past a w x false size own h e =
     known_by past w x (leaves_word a (answer words a)) (slice_index (after words a) w) (slice_index words w) (touches a w)
     (left_word a words w (omega arith)) (λ k. h.word w x (own refl) k) e
 
-pub still_own : (words : List ℕ) (t : ℕ) (b next : Book) (past : List Visit) (a : Access) (cs : List Change) → length words ≡ 1618002 → Restorers words → KeepsRestorers words (after words a) → IsBook b → NoneBorn cs t → books_after t b cs ≡ Some next → Still words t b past → Still (after words a) t next (visit a (answer words a) cs ∷ past)
+pub still_own : {image : ImageData} (words : List ℕ) (t : ℕ) (b next : Book) (past : List Visit) (a : Access) (cs : List Change) → length words ≡ 1618002 → Restorers image words → KeepsRestorers words (after words a) → IsBook b → NoneBorn cs t → books_after t b cs ≡ Some next → Still words t b past → Still (after words a) t next (visit a (answer words a) cs ∷ past)
 still_own words t b next past a cs size signals restorers book none q h = record {
   restorer = λ s l e. elim (or_true (shows_restorer a (answer words a) s) (has_restorer past s) e) [
     | inl u ↦ restorer_shown a words s size signals l u
@@ -146,7 +147,7 @@ still_own words t b next past a cs size signals restorers book none q h = record
       (λ f. own_word_before t b next w (changes_come t t cs b next book q none (nothing_taken t cs f)) own) h e;
 }
 
--- ---- another thread's
+-- ---- after another thread's
 
 pub still_kept : (words : List ℕ) (y : ℕ) (b next : Book) (past : List Visit) (a : Access) → Comes y b next → ((w : ℕ) → OwnWord y b w → slice_index (after words a) w ≡ slice_index words w) → KeepsRestorers words (after words a) → Still words y b past → Still (after words a) y next past
 still_kept words y b next past a c spares restorers h = record {

@@ -1,4 +1,4 @@
--- One turn keeps where all threads stand, and returns go right; so every run is safe. Source: own.
+-- One turn keeps the invariant: of the thread that acts, of one that it bears, and of all others. Source: own.
 use Rattle.std.proofs.Common.{[], ◌∷◌, ◌++◌, ◌⊎◌, length-append, ◌≡◌, ◌≢◌, ℕ, ◌<◌, ◌≤◌, inl, inr, List, length, Option, Some, None, refl, sym, ◌∙◌, ap, subst, arith, length-set, get_or-set_same, get_or-set_other}
 use Rattle.std.specs.Prelude.{slice_get, slice_set, slice_index, sum_by, min, ◌+◌, ◌*◌, ◌%◌, ◌^◌}
 use Rattle.std.proofs.lemmas.List.{get_or_append_left}
@@ -49,15 +49,15 @@ use Rattle.cet_own.proofs.Counters.{SameCounters, CountsBy, no_count, draws_page
 use Rattle.cet_own.proofs.Paid.{Paid, unaltered, counters_tell, sum_moved}
 use Rattle.cet_own.specs.Stands.{thread_draws, thread_births}
 
--- words and book in step, and every thread where it should be
+-- What is carried from turn to turn: words and book in step, and every thread's claim on the rest of its row.
 pub record Invariant (job : JobData) (m : Machine) (s : State) : Type 0 where
   pub holds : Holds job.image m.words s.book
   pub threads : (t : ℕ) → ThreadStands job t s (slice_get m.threads t)
-  -- what a thread's row has seen of its own regions is still there
+  -- what rows have seen of their threads' own words is still there
   pub still : (t : ℕ) (thread : Thread) → slice_get m.threads t ≡ Some thread → Still m.words t s.book (trail_of job thread.core)
-  -- the counters are paid_draws for, and one of them is the number of threads
+  -- the counters are paid for
   pub paid : Paid job m.words m.threads
-  -- each thread has the region that the kernel made for it
+  -- each thread has the region that the kernel made
   pub made : (t : ℕ) (thread : Thread) → slice_get m.threads t ≡ Some thread → HasMade thread.core.arch.made s.book
 
 -- ---- the facts at each moment
@@ -175,7 +175,7 @@ get_past threads x y l =
     let more = length-append threads (x ∷ []) in
     slice_get_past (threads ++ x ∷ []) y (omega arith) ∙ sym (slice_get_past threads y (omega arith))
 
--- what an access makes of the list of threads: the thread itself, the others, and perhaps a new one
+-- the list of threads after an access: the one that acted, the others, and perhaps a new one; and the counters of both kinds
 pub record Enlisted (job : JobData) (now : List ℕ) (s next : State) (old new : List Thread) (t : ℕ) (thread : Thread) (changes : List Change) : Type 0 where
   pub here : slice_get new t ≡ Some thread
   pub others : (y : ℕ) → y ≢ t → (slice_get new y ≡ slice_get old y × NoneBorn changes y) ⊎ ((x : Thread) × (slice_get new y ≡ Some x) × IsNewborn job next y x)
@@ -198,7 +198,7 @@ module _ (job : JobData) (j : IsJob job) (now : List ℕ) (s next : State) (old 
     number = length-set old t thread ∙ number;
   }
 
-  -- thread v is born, whose number is the length of the list
+  -- thread v is born, and stands last in the list
   enlisted_born : (arch : Arch) (v start : ℕ) → v ≡ length old → v < 32 → slice_index now next_word ≡ v + 1 → ((y : ℕ) → t ≢ y → NoneBorn (Born v start ∷ []) y → Relies y s.book next.book) → IsNewborn job next v (record { core = child_core arch v start; trace = [] }) → Enlisted job now s next old (slice_set old t thread ++ record { core = child_core arch v start; trace = [] } ∷ []) t thread (Born v start ∷ [])
   enlisted_born arch v start at few counter rely comer =
       let x : Thread = record { core = child_core arch v start; trace = [] } in
@@ -225,7 +225,7 @@ module _ (job : JobData) (j : IsJob job) (now : List ℕ) (s next : State) (old 
         number = omega arith;
       }
 
-  -- by what the access did to the counters
+  -- which of the two is told by the counters
   enlisted : (words : List ℕ) (a : Access) (arch : Arch) (past : List Visit) (changes : List Change) → now ≡ after words a → length words ≡ 1618002 → Shape s.book → books_after t s.book changes ≡ Some next.book → 1 ≤ slice_index words next_word → slice_index words next_word + 1 < 2 ^ 64 → length old ≡ min (slice_index words next_word) 32 → ((y : ℕ) → t ≢ y → NoneBorn changes y → Relies y s.book next.book) → ChildAt job (child_of arch changes) → CountsBy t past s.book a (answer words a) changes → Enlisted job now s next old (with_child (slice_set old t thread) (child_of arch changes)) t thread changes
   enlisted words a arch past changes left size shape is least room number rely waits (no_count d n none) =
       let same = ap (λ (l : List ℕ). slice_index l next_word) left ∙ unaltered a words next_word n in
@@ -256,7 +256,7 @@ module _ (job : JobData) (j : IsJob job) (now : List ℕ) (s next : State) (old 
 
 -- ---- one access
 
--- a thread of the list afterwards is the thread itself, one that was there, or a new one
+-- a thread of the list afterwards is the one that acted, another that was there, or the one that was born
 data Whose (job : JobData) (s next : State) (old : List Thread) (t : ℕ) (thread : Thread) (changes : List Change) (y : ℕ) (x : Thread) : Type 0 where
   own : y ≡ t → thread ≡ x → Whose job s next old t thread changes y x
   other : t ≢ y → slice_get old y ≡ Some x → NoneBorn changes y → Whose job s next old t thread changes y x
@@ -337,7 +337,7 @@ module _ (job : JobData) (j : IsJob job) (m : Machine) (t : ℕ) (s : State) (th
       let before = counters_tell job m.words m.threads t thread s.book j st.paid e (λ y q. subst (ThreadStands job y s) q (st.threads y)) in
       let d = led job j m.words t s thread.core a before st.holds (st.still t thread e) at.0 r w in
       let size = st.holds.size in
-      let settled = d.owed.settled m.words refl st.holds in
+      let uncounted = d.owed.uncounted m.words refl st.holds in
       let bore = child_taken job thread.core (answer m.words a) a w in
       let waits = subst (ChildAt job) bore (child_waits job thread.core (answer m.words a) j) in
       let p = enlisted job j (after m.words a) s d.next m.threads t moved inside m.words a thread.core.arch (trail_of job thread.core) changes_now refl size st.holds.sound.book.shape d.is st.paid.least before.nexts st.paid.number d.others waits (d.owed.counts m.words refl st.holds) in
@@ -347,5 +347,5 @@ module _ (job : JobData) (j : IsJob job) (m : Machine) (t : ℕ) (s : State) (th
         stands = subst (λ o. Invariant job (machine (after m.words a) (with_child (slice_set m.threads t moved) o)) d.next) (sym bore) (stands_after (with_child (slice_set m.threads t moved) (child_of thread.core.arch changes_now)) d r.waits.count p);
         returns = d.returns;
         restores = d.restores;
-        counters = record { draws = unaltered a m.words draw_word settled.draws; births = unaltered a m.words next_word settled.births };
+        counters = record { draws = unaltered a m.words draw_word uncounted.draws; births = unaltered a m.words next_word uncounted.births };
       }

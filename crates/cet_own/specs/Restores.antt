@@ -1,4 +1,4 @@
--- A restore token is taken only where it was, and is missed only where it wasn't. Source: Intel SDM volume 2 (RSTORSSP).
+-- What records tell of restore tokens. Source: Intel SDM volume 2 (RSTORSSP).
 use Rattle.std.specs.Prelude.{◌≡◌, ℕ, ◌+◌, Option, Some, None, slice_get}
 use Rattle.cet_words.specs.Access.{answer}
 use Rattle.cet_words.specs.Job.{JobData}
@@ -16,7 +16,7 @@ use Rattle.cet_page.specs.Machine.{Machine, Thread}
 abbrev pub IsToken : Book → (p : ℕ) → Type 0
 IsToken b p = (q : ℕ) × ((region b q).holder ≡ Parked) × (top (region b q) ≡ p + 8)
 
--- #CP with code 4 stands where no region has its token
+-- #CP with code 4 (RSTORSSP) names an address where no token stands
 abbrev pub MissesToken : Book → (code p : ℕ) → FaultName → Type 0
 MissesToken b code p Cp = code ≡ 4 → IsToken b p → ⊥
 MissesToken b code p Ud = Unit {0}
@@ -24,7 +24,7 @@ MissesToken b code p Gp = Unit {0}
 MissesToken b code p Pf = Unit {0}
 MissesToken b code p Ac = Unit {0}
 
--- and RSTORSSP's record where one had it before
+-- RSTORSSP's own record names one where a token stood
 abbrev pub RestoresBy : (b next : Book) → Record → What → Type 0
 RestoresBy b next r what.Take = IsToken b r.a
 RestoresBy b next r (what.Fault name) = MissesToken next r.code r.a name

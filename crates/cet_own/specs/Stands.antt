@@ -1,6 +1,7 @@
 -- The ownership invariant: what holds of words, threads and book at each moment of each run. It is the only definition that
 -- has both words and lists. Source: own.
 use Rattle.std.specs.Prelude.{◌≡◌, ◌≢◌, ℕ, ◌+◌, ◌-◌, ◌*◌, ◌<◌, ◌≤◌, ◌⊎◌, ◌↔◌, true, List, [], length, slice_index, slice_get, sum_by, min, bit_or, Option, Some, None}
+use Rattle.cet_words.specs.Bytes.{code_byte}
 use Rattle.cet_words.specs.Job.{JobData, ImageData}
 use Rattle.cet_words.specs.Layout.{entry_word, entry_of}
 use Rattle.cet_book.specs.Book.{Holder, Maker, Book, region, top, stack_of}
@@ -42,6 +43,17 @@ pub record IsOwnPlace (t : ℕ) (b : Book) (addr : ℕ) : Type 0 where
 pub data OwnWord (t : ℕ) (b : Book) (word : ℕ) : Type 0 where
   own_slot : (addr : ℕ) → Place addr → IsOwnPlace t b addr → word ≡ slot addr → OwnWord t b word
   below_token : (k : ℕ) → k < 8 → stack_of b k ≡ Some t → word ≡ token_word k - 1 → OwnWord t b word
+
+-- ---- signals
+
+-- what stands as a restorer is 0, or an address of an executable page
+abbrev pub IsRestorer : ImageData → (word : ℕ) → Type 0
+IsRestorer image word = (word ≡ 0) ⊎ (code_byte image.segments word ≢ None)
+
+pub record Restorers (image : ImageData) (words : List ℕ) : Type 0 where
+  pub executable : (s : ℕ) → s < 64 → IsRestorer image (slice_index words (restorer_word s))
+  -- and it isn't 0 where the handler is neither the default nor ignoring
+  pub shown : (s : ℕ) → s < 64 → 1 < slice_index words (handler_word s) → slice_index words (restorer_word s) ≢ 0
 
 -- ---- counters
 
@@ -109,8 +121,7 @@ pub record Stands (job : JobData) (m : Machine) (b : Book) : Type 0 where
   pub previous_left : (q s : ℕ) → links s (region b q).entries ≡ one (is_left q (region b s).holder)
   -- a supervisor stack's token is busy where the stack has a holder
   pub supervisor_tokens : (k : ℕ) → k < 8 → slice_index m.words (token_word k) ≡ token k + busy (stack_of b k)
-  -- a signal with a handler other than the default and ignoring has a restorer
-  pub restorers : (s : ℕ) → s < 64 → 1 < slice_index m.words (handler_word s) → slice_index m.words (restorer_word s) ≢ 0
+  pub restorers : Restorers job.image m.words
   -- what a row has read or written in a word of its thread's own is still there
   pub row_steady : (t : ℕ) (thread : Thread) → slice_get m.threads t ≡ Some thread → (word x : ℕ) → OwnWord t b word → left_in (trail_of job thread.core) word ≡ Some x → slice_index m.words word ≡ x
   pub counters : Counters m.words m.threads b
