@@ -6,7 +6,8 @@ use Rattle.std.proofs.lemmas.List.Sums.{position_or_len_is, passes_at_first}
 use Rattle.std.proofs.lemmas.Bool.{cases_lt, false≢true}
 use Rattle.std.proofs.lemmas.Bool.Decides.{eqb_tells, nat_tests}
 use Rattle.cet_book.specs.Book.{Holder, Maker, Current, Parked, Left, Lost, Region, Book, nowhere, region, put, is_current, current_of}
-use Rattle.cet_book.proofs.Shape.{Bounds, Shape}
+use Rattle.cet_book.specs.Facts.{Bounds}
+use Rattle.cet_book.proofs.Shape.{Shape}
 
 pub region-put : (b : Book) (k i : ℕ) (r : Region) → k < length b.regions → region (put b k r) i ≡ cond (eqb i k) r (region b i)
 region-put b k i r inside = elim (eqb_tells i k) [
@@ -55,9 +56,6 @@ same-put2 b m k rm rk in_m in_k sm em sk ek = record {
   start = put2_all b m k rm rk in_m in_k (λ i q. q.start ≡ (region b i).start) sk sm (λ i n n'. refl);
   end = put2_all b m k rm rk in_m in_k (λ i q. q.end ≡ (region b i).end) ek em (λ i n n'. refl);
 }
-
-pub some_same : {b next : Book} → SameBounds b next → Shape b → 0 < length next.regions
-some_same s h = let l = h.some in let e = s.len in omega arith
 
 pub bounds_same : {b next : Book} → SameBounds b next → Shape b → (i : ℕ) → i < length next.regions → Bounds (region next i).start (region next i).end
 bounds_same {b = b} s h i inside =

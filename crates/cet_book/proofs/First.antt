@@ -1,7 +1,8 @@
 -- The book at the start is one that changes lead from. Source: own.
 use Rattle.std.proofs.Common.{◌≡◌, ℕ, zero, suc, ◌<◌, [], None, refl, sym, ◌∙◌, ap, subst, arith}
 use Rattle.cet_book.specs.Book.{Current, Region, nowhere, region, current_of, stack_of, first_book}
-use Rattle.cet_book.proofs.Shape.{Bounds, Fits, is_left, one, links, Shape, IsBook}
+use Rattle.cet_book.specs.Facts.{Bounds, is_left, one, links}
+use Rattle.cet_book.proofs.Shape.{Fits, Shape, IsBook}
 use Rattle.cet_book.proofs.Edits.{current_of_is}
 
 first_all : (P : ℕ → Region → Type 0) → P 0 (region first_book 0) → ((i : ℕ) → P (suc i) nowhere) → (i : ℕ) → P i (region first_book i)
@@ -16,7 +17,6 @@ first_current = current_of_is 0 first_book 0 refl (first_all (λ i r. r.holder �
 
 pub first_shape : Shape first_book
 first_shape = record {
-  some = omega arith;
   bounds = λ i l.
       first_all (λ i r. i < 1 → Bounds r.start r.end)
       (λ _. record { low = omega arith; full = omega arith; high = omega arith; first = refl; last = refl })

@@ -3,7 +3,7 @@
 use Rattle.std.proofs.Common.{zero, suc}
 use Rattle.std.specs.Prelude.{ℕ, ◌+◌, ◌-◌, ◌*◌, ◌/◌, ◌%◌, Bool, true, false, ◌&&◌, ◌==◌, nat_lt, nat_le, if◌then◌else◌, List, [], ◌∷◌, ◌++◌, length, replicate, slice_index_or, slice_set, Option, Some, None, option_and_then}
 use Rattle.std.specs.List.{position_or_len}
-use Rattle.cet_words.specs.Layout.{first_region_end, first_region_start}
+use Rattle.cet_words.specs.Layout.{first_region_end, first_region_start, shadow_start}
 use Rattle.cet_words.specs.Change.{Change, Called, Returned, Raised, Acquired, Released, Claimed, Seeded, Born, Pushed, Popped, Ended, Busied, Freed}
 
 pub data Entry : Type 0 where
@@ -173,8 +173,9 @@ abbrev pub claim : ℕ → ℕ → ℕ → Bool → Region
 claim t start pages maker =
     record { start = start; end = start + 4096 * pages; entries = []; holder = if maker then Maker t else Lost }
 
+-- the end of the last region, or the start of the shadow area where there is no region
 abbrev pub last_end : Book → ℕ
-last_end b = (region b (length b.regions - 1)).end
+last_end b = if nat_lt 0 (length b.regions) then (region b (length b.regions - 1)).end else shadow_start
 
 abbrev pub can_claim : ℕ → ℕ → Book → Bool
 can_claim start pages b =

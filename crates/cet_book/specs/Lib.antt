@@ -1,2 +1,4 @@
 pub mod Book
 pub mod Stack
+pub mod Facts
+pub mod Events
