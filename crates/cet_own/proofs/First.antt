@@ -6,7 +6,7 @@ use Rattle.std.proofs.lemmas.Bool.Decides.{nat_tests}
 use Rattle.std.proofs.lemmas.List.{get_or_past}
 use Rattle.cet_words.specs.Entries.{entry_of}
 use Rattle.cet_words.specs.Job.{JobData, IsJob, ImageData}
-use Rattle.cet_words.specs.Layout.{entry_word, action_word, token, token_word, first_entry_word, first_kernel_page, first_kernel_word, first_mmap_page, first_region_end, first_shadow_page, first_stack_word, page_count}
+use Rattle.cet_words.specs.Layout.{entry_word, token, token_word, first_entry_word, first_kernel_page, first_kernel_word, first_mmap_page, first_region_end, first_shadow_page, first_stack_word, page_count}
 use Rattle.cet_words.specs.Start.{kernel_word, is_present, start_entry, start_word, IsStart}
 use Rattle.cet_book.specs.Book.{Parked, Current, region, top, current_of, stack_of, first_book}
 use Rattle.cet_book.proofs.Addresses.{first_returns}

@@ -10,9 +10,7 @@ use Rattle.cet_words.specs.declared.accesses.Access.TheVariants as access
 use Rattle.cet_book.specs.Facts.{IsParkedAt, Place, LiesIn}
 use Rattle.cet_book.specs.Book.{Entry, Book, region, top, current_of, stack_of, books_after}
 use Rattle.cet_book.proofs.Relies.{Relies, relies_same, relies_then}
-use Rattle.cet_book.proofs.Shape.{Shape}
 use Rattle.cet_book.specs.Stack.{slot, word_of, tops}
-use Rattle.cet_page.specs.Core.{held_after}
 use Rattle.cet_own.proofs.Frame.{Rules}
 use Rattle.cet_own.proofs.Holds.{Sound, Holds}
 use Rattle.cet_own.specs.Stands.{IsEntry, busy}

@@ -1,6 +1,6 @@
 -- One turn keeps the invariant: of the thread that acts, of one that it bears, and of all others. Source: own.
 use Rattle.std.proofs.Common.{[], ◌∷◌, ◌++◌, ◌⊎◌, length-append, ◌≡◌, ◌≢◌, ℕ, ◌<◌, ◌≤◌, inl, inr, List, length, Option, Some, None, refl, sym, ◌∙◌, ap, subst, arith, length-set, get_or-set_same, get_or-set_other}
-use Rattle.std.specs.Prelude.{slice_get, slice_set, slice_index, sum_by, min, ◌+◌, ◌*◌, ◌%◌, ◌^◌}
+use Rattle.std.specs.Prelude.{slice_get, slice_set, slice_index, sum_by, min, ◌+◌, ◌%◌, ◌^◌}
 use Rattle.std.proofs.lemmas.List.{get_or_append_left}
 use Rattle.std.proofs.lemmas.List.Sums.{sum_by-append}
 use Rattle.std.proofs.Math.Seq.{get_or-append_seam}
