@@ -18,7 +18,7 @@ use Rattle.cet_isa.specs.declared.threads.Fault.{Fault}
 use Rattle.cet_book.specs.Facts.{IsReturn}
 use Rattle.cet_page.specs.Script.{◌>>=◌}
 use Rattle.cet_page.specs.Fetch.{fetchable, joined, missing, missing_in}
-use Rattle.cet_page.specs.Finish.{Row, noted, above, rax, IsMade}
+use Rattle.cet_page.specs.Finish.{Row, noted, above, rax, IsMade, rdi}
 use Rattle.cet_page.specs.Family.{family_of}
 use Rattle.cet_page.specs.Flow.{flow}
 use Rattle.cet_page.specs.declared.families.Family.{Family}
@@ -31,7 +31,9 @@ use Rattle.cet_own.proofs.Holds.{IsOut}
 use Rattle.cet_own.proofs.Standing.{AtRest}
 use Rattle.cet_own.proofs.Owed.{State, own_stack}
 use Rattle.cet_own.proofs.Classes.{looks}
-use Rattle.cet_own.proofs.Parts.{Fails, Claim, claim_bind, claim_cond, load_then, exchange_then, clears_claim}
+use Rattle.cet_own.specs.ExitWord.{IsEnding}
+use Rattle.cet_own.proofs.Endings.{by_signal, by_status}
+use Rattle.cet_own.proofs.Parts.{Fails, Claim, claim_bind, claim_cond, load_then, end_then, clears_claim}
 use Rattle.cet_own.proofs.GateParts.{gate_in_then, gate_out_then, exit_out_then}
 use Rattle.cet_own.proofs.Calls.{Ends, EndsRow, call_relative_claim, call_indirect_claim}
 use Rattle.cet_own.proofs.Returns.{ret_claim}
@@ -79,9 +81,6 @@ returns_flow instr.Ret r = refl
 returns_flow (instr.RetImm bytes) r = refl
 returns_flow i r = cc
 
-exit_out : IsOut exit_word
-exit_out = record { shadow = inr (omega arith); entry = omega arith; token = λ k l. omega arith; below = λ k l. omega arith; actions = inl (omega arith); draw = omega arith; next = omega arith }
-
 -- no word below a token
 exit_apart : (k : ℕ) → (exit_word == token_word k - 1) ≡ false
 exit_apart k = let n : exit_word ≢ token_word k - 1 = omega arith in grind (arith, nat_tests)
@@ -116,7 +115,7 @@ module _ (job : JobData) (j : IsJob job) (arch : Arch) where
   exit_group_claim : (past : List Visit) (before s : State) (next : ℕ) → IsElsewhere job arch → Inside arch.number (own_stack job arch.number) untouched (progress past) (left_in past (token_word (own_stack job arch.number) - 1)) s.book arch.ssp → Claim job arch (Ends job arch) past before s (exit_group arch next (own_stack job arch.number))
   unfolding exit_group
   exit_group_claim past before s next free within =
-      exchange_then job arch (Ends job arch) past before s exit_word 0 (0x100 + exit_status arch) _ exit_out (inside_stacked within) (λ now r found.
+      end_then job arch (Ends job arch) past before s (0x100 + exit_status arch) _ (by_status (rdi arch)) (inside_stacked within) (λ now r found.
       gate_out_then job arch (stack_below job arch.number j) (Ends job arch) _ now now _ (inside_left (rw (exit_apart (own_stack job arch.number)) refl) (inside_kept r within)) (λ p z n rest. (rested rest, λ held later. free, tt)))
 
   service_claim : (past : List Visit) (before s : State) (next : ℕ) → IsElsewhere job arch → IsMade arch.made → Inside arch.number (own_stack job arch.number) untouched (progress past) (left_in past (token_word (own_stack job arch.number) - 1)) s.book arch.ssp → Claim job arch (Ends job arch) past before s (service arch next (own_stack job arch.number))
@@ -132,20 +131,20 @@ module _ (job : JobData) (j : IsJob job) (arch : Arch) where
       (λ p z n within. service_claim p z n next free made within)
       (λ p z n found rest'. (rested rest', λ held now. tt, tt))
 
-  kill_claim : (past : List Visit) (before s : State) (signal : ℕ) → Inside arch.number (own_stack job arch.number) untouched (progress past) (left_in past (token_word (own_stack job arch.number) - 1)) s.book arch.ssp → Claim job arch (Ends job arch) past before s (kill arch signal (own_stack job arch.number))
+  kill_claim : (past : List Visit) (before s : State) (signal : ℕ) → IsEnding (0x200 + signal) → Inside arch.number (own_stack job arch.number) untouched (progress past) (left_in past (token_word (own_stack job arch.number) - 1)) s.book arch.ssp → Claim job arch (Ends job arch) past before s (kill arch signal (own_stack job arch.number))
   unfolding kill
-  kill_claim past before s signal within =
+  kill_claim past before s signal is within =
       load_then job arch (Ends job arch) past before s (action_word signal) _ (inside_stacked within) (λ now r v.
       let within1 : Inside arch.number (own_stack job arch.number) untouched (progress past) (left_in (visit (access.Load (action_word signal)) v [] ∷ past) (token_word (own_stack job arch.number) - 1)) now.book arch.ssp
       = inside_left (rw (handler_apart signal (own_stack job arch.number)) refl) (inside_kept r within) in
-      exchange_then job arch (Ends job arch) _ now now exit_word 0 (0x200 + signal) _ exit_out (inside_stacked within1) (λ now2 r2 found.
+      end_then job arch (Ends job arch) _ now now (0x200 + signal) _ is (inside_stacked within1) (λ now2 r2 found.
       gate_out_then job arch (stack_below job arch.number j) (Ends job arch) _ now2 now2 _ (inside_left (rw (exit_apart (own_stack job arch.number)) refl) (inside_kept r2 within1)) (λ p z n rest. (rested rest, λ held later. tt, tt))))
 
   deliver_claim : (past : List Visit) (before s : State) (e : Fault) → Resting arch.number untouched (progress past) s.book arch.ssp → Claim job arch (Ends job arch) past before s (deliver job arch e)
   unfolding deliver
   deliver_claim past before s e rest =
       gate_in_then job arch (stack_below job arch.number j) (Ends job arch) past before s (inside arch (own_stack job arch.number) (kill arch (signal_of e.name) (own_stack job arch.number))) rest
-      (λ p z n within. kill_claim p z n (signal_of e.name) within)
+      (λ p z n within. kill_claim p z n (signal_of e.name) (by_signal e.name) within)
       (λ p z n found rest'. (rested rest', λ held now. tt, tt))
 
   -- ---- instructions
