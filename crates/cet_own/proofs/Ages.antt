@@ -12,7 +12,7 @@ use Rattle.cet_book.proofs.Removes.{Removal, plain, linked, returned_is}
 use Rattle.cet_book.proofs.Shape.{Shape}
 use Rattle.cet_book.proofs.Unlink.{unlink_all, unlink_same}
 use Rattle.cet_book.proofs.Ways.{with_current_at, called_way, ended_way}
-use Rattle.cet_own.proofs.Classes.{Owed, looks, loads, stores, exchanges, swaps, adds, clears, pushes, pops, refused, enters, leaves, exits}
+use Rattle.cet_own.proofs.Classes.{Owed, looks, loads, stores, exchanges, swaps, adds, finishes, clears, pushes, pops, refused, enters, leaves, exits}
 use Rattle.cet_own.proofs.ClassLaws.{same_book, then_by, one_book}
 
 pub record Ages (b next : Book) : Type 0 where
@@ -66,6 +66,7 @@ ages t k b next a v changes s (stores word value e out ev) q = ages_same t b nex
 ages t k b next a v changes s (exchanges word expected value e out ev) q = ages_same t b next changes ev q
 ages t k b next a v changes s (swaps word value e out ev) q = ages_same t b next changes ev q
 ages t k b next a v changes s (adds word value e out ev) q = ages_same t b next changes ev q
+ages t k b next a v changes s (finishes value e is ev) q = ages_same t b next changes ev q
 ages t k b next a v changes s (clears page e lo hi ev) q = ages_same t b next changes ev q
 ages t k b next a v changes s (refused value l e n ev) q = ages_same t b next changes ev q
 ages t k b next a v changes s (pushes m back current e room is_return ev) q =

@@ -9,7 +9,8 @@ use Rattle.cet_book.specs.Book.{Entry, Current, Book, region, top, current_of, s
 use Rattle.cet_book.proofs.Addresses.{IsReturn}
 use Rattle.cet_book.proofs.Relies.{Relies, relies_same, relies_then}
 use Rattle.cet_book.specs.Stack.{slot, word_of, tops}
-use Rattle.cet_page.specs.Gate.{token, token_word}
+use Rattle.cet_page.specs.Gate.{exit_word, token, token_word}
+use Rattle.cet_own.specs.ExitWord.{IsEnding}
 use Rattle.cet_own.proofs.Frame.{Rules}
 use Rattle.cet_own.proofs.Holds.{Sound, LiesIn, IsEntry, busy, IsOut}
 use Rattle.cet_own.proofs.Standing.{Free}
@@ -45,6 +46,8 @@ pub data Owed (t k : ℕ) (b : Book) (a : Access) (v : ℕ) (changes : List Chan
   exchanges : (word expected value : ℕ) → a ≡ access.CompareExchange word expected value → IsOut word → changes ≡ [] → Owed t k b a v changes
   swaps : (word value : ℕ) → a ≡ access.Swap word value → IsOut word → changes ≡ [] → Owed t k b a v changes
   adds : (word value : ℕ) → a ≡ access.FetchAdd word value → IsOut word → changes ≡ [] → Owed t k b a v changes
+  -- the process ends, where it hasn't ended before
+  finishes : (value : ℕ) → a ≡ access.CompareExchange exit_word 0 value → IsEnding value → changes ≡ [] → Owed t k b a v changes
   -- the entry of a page of the shadow area is cleared
   clears : (page : ℕ) → a ≡ access.Store (entry_word page) 0 → 2112 ≤ page → page < 3136 → changes ≡ [] → Owed t k b a v changes
   -- a return address is stored below the top of the thread's region

@@ -45,7 +45,7 @@ free_given t k b eight l s holds j e =
 
 -- the word below a token
 below_token : (k : ℕ) → k < 8 → IsOut (token_word k - 1)
-below_token k l = record { shadow = inr (omega arith); entry = omega arith; token = λ j lj. omega arith }
+below_token k l = record { shadow = inr (omega arith); entry = omega arith; token = λ j lj. omega arith; exit = λ z. omega arith }
 
 ended_none : (t m : ℕ) (b : Book) → Owned t m b → length (hand m (region b m).entries Lost b).regions ≤ current_of t (hand m (region b m).entries Lost b)
 ended_none t m b o = elim (cases_lt (current_of t (hand m (region b m).entries Lost b)) (length (hand m (region b m).entries Lost b).regions)) [

@@ -15,7 +15,7 @@ use Rattle.cet_book.proofs.Ways.{with_current_at, called_way, ended_way, freed_w
 use Rattle.cet_page.specs.Core.{held_after}
 use Rattle.cet_own.proofs.Holds.{Holds}
 use Rattle.cet_own.proofs.Standing.{Free}
-use Rattle.cet_own.proofs.Classes.{Owed, looks, loads, stores, exchanges, swaps, adds, clears, pushes, pops, refused, enters, leaves, exits}
+use Rattle.cet_own.proofs.Classes.{Owed, looks, loads, stores, exchanges, swaps, adds, finishes, clears, pushes, pops, refused, enters, leaves, exits}
 use Rattle.cet_own.proofs.ClassLaws.{same_book, then_by, one_book}
 use Rattle.cet_own.proofs.Keeps.{own, stack_free}
 
@@ -59,6 +59,7 @@ held_kept image t k words b next a changes held (stores word value e out ev) q h
 held_kept image t k words b next a changes held (exchanges word expected value e out ev) q h old = held_still t b next changes held ev q old
 held_kept image t k words b next a changes held (swaps word value e out ev) q h old = held_still t b next changes held ev q old
 held_kept image t k words b next a changes held (adds word value e out ev) q h old = held_still t b next changes held ev q old
+held_kept image t k words b next a changes held (finishes value e is ev) q h old = held_still t b next changes held ev q old
 held_kept image t k words b next a changes held (clears page e lo hi ev) q h old = held_still t b next changes held ev q old
 held_kept image t k words b next a changes held (refused value l e n ev) q h old = held_still t b next changes held ev q old
 held_kept image t k words b next a changes held (pushes m back current e room is_return ev) q h old =

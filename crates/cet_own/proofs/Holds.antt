@@ -7,7 +7,7 @@ use Rattle.cet_book.proofs.Shape.{IsBook}
 use Rattle.cet_book.proofs.Addresses.{Returns}
 use Rattle.cet_book.specs.Stack.{tops}
 use Rattle.cet_book.proofs.StackLaws.{Stack}
-use Rattle.cet_page.specs.Gate.{token, token_word}
+use Rattle.cet_page.specs.Gate.{exit_word, token, token_word}
 
 -- the facts on the book alone
 pub record Sound (b : Book) : Type 0 where
@@ -50,8 +50,9 @@ pub record Holds (image : ImageData) (words : List ℕ) (b : Book) : Type 0 wher
   pub pages : Pages image words b
   pub gates : Gates words b
 
--- a word of no shadow stack, of no page's entry, and of no token
+-- a word of no shadow stack, of no page's entry, and of no token, and not EXIT
 pub record IsOut (word : ℕ) : Type 0 where
   pub shadow : (word < 1081344) ⊎ (1605632 ≤ word)
   pub entry : word < 1614848
   pub token : (k : ℕ) → k < 8 → token_word k ≢ word
+  pub exit : word ≢ exit_word

@@ -16,11 +16,11 @@ use Rattle.cet_book.proofs.Kept.{NoneBorn, others_rely}
 use Rattle.cet_book.proofs.Relies.{Relies}
 use Rattle.cet_book.specs.Stack.{slot}
 use Rattle.cet_book.proofs.Ways.{with_current_at, called_way, ended_way, freed_way, busied_way}
-use Rattle.cet_page.specs.Gate.{token, token_word}
+use Rattle.cet_page.specs.Gate.{exit_word, token, token_word}
 use Rattle.cet_own.proofs.Holds.{Sound, busy, Holds}
-use Rattle.cet_own.proofs.Kept.{holds_out, holds_clear}
+use Rattle.cet_own.proofs.Kept.{holds_out, holds_end_word, holds_clear}
 use Rattle.cet_own.proofs.Own.{holds_push, holds_pop}
-use Rattle.cet_own.proofs.Classes.{Owed, looks, loads, stores, exchanges, swaps, adds, clears, pushes, pops, refused, enters, leaves, exits}
+use Rattle.cet_own.proofs.Classes.{Owed, looks, loads, stores, exchanges, swaps, adds, finishes, clears, pushes, pops, refused, enters, leaves, exits}
 use Rattle.cet_own.proofs.ClassLaws.{same_book, then_by, one_book, sound_after, wrote, exchange_does, exchange_fails, holds_gate, holds_end}
 
 pub own : {image : ImageData} {words : List ℕ} {b : Book} (t m : ℕ) → Holds image words b → (region b m).holder ≡ Current t → Owned t m b
@@ -53,6 +53,10 @@ keeps image t k words b next a changes (adds word value e out ev) q h =
     subst (λ c. Holds image (after words c) next) (sym e)
     (subst (Holds image (after words (access.FetchAdd word value))) (same_book t b next changes ev q)
     (holds_out image words b word ((slice_index words word + value) % 2 ^ 64) out h))
+keeps image t k words b next a changes (finishes value e is ev) q h =
+    subst (λ c. Holds image (after words c) next) (sym e)
+    (subst (Holds image (after words (access.CompareExchange exit_word 0 value))) (same_book t b next changes ev q)
+    (wrote image words b exit_word 0 value (slice_index words exit_word == 0) refl h (λ _. holds_end_word image words b value h)))
 keeps image t k words b next a changes (clears page e lo hi ev) q h =
     subst (λ c. Holds image (after words c) next) (sym e)
     (subst (Holds image (slice_set words (entry_word page) 0)) (same_book t b next changes ev q) (holds_clear image words b page lo hi h))
@@ -115,6 +119,7 @@ none_born t k b a v changes y (stores word value e out ev) = subst (λ cs. NoneB
 none_born t k b a v changes y (exchanges word expected value e out ev) = subst (λ cs. NoneBorn cs y) (sym ev) tt
 none_born t k b a v changes y (swaps word value e out ev) = subst (λ cs. NoneBorn cs y) (sym ev) tt
 none_born t k b a v changes y (adds word value e out ev) = subst (λ cs. NoneBorn cs y) (sym ev) tt
+none_born t k b a v changes y (finishes value e is ev) = subst (λ cs. NoneBorn cs y) (sym ev) tt
 none_born t k b a v changes y (clears page e lo hi ev) = subst (λ cs. NoneBorn cs y) (sym ev) tt
 none_born t k b a v changes y (pushes m back current e room is_return ev) = subst (λ cs. NoneBorn cs y) (sym ev) (tt, tt)
 none_born t k b a v changes y (pops m word current e ev) = subst (λ cs. NoneBorn cs y) (sym ev) (tt, tt)

@@ -10,7 +10,7 @@ use Rattle.cet_book.proofs.Edits.{SameBounds}
 use Rattle.cet_book.proofs.Supervisor.{stack_of-put_stack}
 use Rattle.cet_book.specs.Stack.{tops}
 use Rattle.cet_book.proofs.StackLaws.{Stack}
-use Rattle.cet_page.specs.Gate.{token, token_word}
+use Rattle.cet_page.specs.Gate.{exit_word, token, token_word}
 use Rattle.cet_own.proofs.Holds.{LiesIn, IsEntry, Pages, busy, Gates, Holds, IsOut}
 use Rattle.cet_own.proofs.Writes.{stack_agrees, top_even, list_out}
 
@@ -83,6 +83,16 @@ holds_out image words b w x out h = record {
   stacks = lists_out words b w x h.sound.book.shape out.shadow h.stacks;
   pages = pages_out image words b w x out.entry h.pages;
   gates = gates_out words b w x out.token h.gates;
+}
+
+-- EXIT is written
+pub holds_end_word : (image : ImageData) (words : List ℕ) (b : Book) (x : ℕ) → Holds image words b → Holds image (slice_set words exit_word x) b
+holds_end_word image words b x h = record {
+  size = size_kept words exit_word x h.size;
+  sound = h.sound;
+  stacks = lists_out words b exit_word x h.sound.book.shape (inr (omega arith)) h.stacks;
+  pages = pages_out image words b exit_word x (omega arith) h.pages;
+  gates = gates_out words b exit_word x (λ k l. omega arith) h.gates;
 }
 
 pages_clear : (image : ImageData) (words : List ℕ) (b : Book) (page : ℕ) → length words ≡ 1618002 → 2112 ≤ page → page < 3136 → Pages image words b → Pages image (slice_set words (entry_word page) 0) b

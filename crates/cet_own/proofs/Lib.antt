@@ -24,3 +24,5 @@ pub mod Ages
 pub mod Turns
 pub mod Run
 pub mod Reported
+pub mod Endings
+pub mod ExitWord

@@ -14,7 +14,8 @@ use Rattle.cet_book.proofs.Relies.{Relies}
 use Rattle.cet_page.specs.Script.{Script, done, fault, ◌>>=◌}
 use Rattle.cet_page.specs.Page.{allows, page_fault}
 use Rattle.cet_page.specs.Parts.{tested, look_in, look, peek, load_as, load, store_as, store, exchange_as, exchange, swap, fetch_add_as, fetch_add, stores, alignment_check}
-use Rattle.cet_page.specs.Gate.{clears}
+use Rattle.cet_page.specs.Gate.{exit_word, clears}
+use Rattle.cet_own.specs.ExitWord.{IsEnding}
 use Rattle.cet_page.specs.declared.checks.Kind.{Kind}
 use Rattle.cet_page.specs.declared.checks.Kind.TheVariants as kind
 use Rattle.cet_page.specs.declared.checks.Who.{Who}
@@ -23,7 +24,7 @@ use Rattle.cet_own.specs.Safe.{AtReturn, IsReturnFault}
 use Rattle.cet_own.proofs.Frame.{Steady, steady_bind, steady_cond}
 use Rattle.cet_own.proofs.Holds.{In, IsOut}
 use Rattle.cet_own.proofs.Standing.{Stacked, AtRest, rest_kept, Inside, inside_kept}
-use Rattle.cet_own.proofs.Classes.{State, state_after, Known, looks, loads, stores as stored, exchanges, swaps, adds, clears as cleared, rules}
+use Rattle.cet_own.proofs.Classes.{State, state_after, Known, looks, loads, stores as stored, exchanges, finishes, swaps, adds, clears as cleared, rules}
 use Rattle.cet_own.proofs.Places.{store_page, entry_there, shadow_page, in_page}
 
 -- SSP is at the top of the thread's region before each access
@@ -108,6 +109,12 @@ module _ (job : JobData) (arch : Arch) where
   unfolding exchange_as
   exchange_then Q before s word expected value f out top h =
       claim_bind Q before s (exchange word expected value) f (top, λ now r v known. (exchanges word expected value refl out refl, now, refl, h now r v))
+
+  -- the process ends
+  pub end_then : {A : Type 0} (Q : State → State → A → Type 0) (before s : State) (value : ℕ) (f : ℕ → Script A) → IsEnding value → Stacked arch.number s.book arch.ssp → ((now : State) → Relies arch.number s.book now.book → (v : ℕ) → Claim job arch Q now now (f v)) → Claim job arch Q before s (exchange exit_word 0 value >>= f)
+  unfolding exchange_as
+  end_then Q before s value f is top h =
+      claim_bind Q before s (exchange exit_word 0 value) f (top, λ now r v known. (finishes value refl is refl, now, refl, h now r v))
 
   pub swap_then : {A : Type 0} (Q : State → State → A → Type 0) (before s : State) (word value : ℕ) (f : ℕ → Script A) → IsOut word → Stacked arch.number s.book arch.ssp → ((now : State) → Relies arch.number s.book now.book → (v : ℕ) → Claim job arch Q now now (f v)) → Claim job arch Q before s (swap word value >>= f)
   unfolding swap

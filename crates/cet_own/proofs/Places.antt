@@ -58,7 +58,7 @@ store_page image page v (inr e) a = elim (cases_lt page 2112) [
 
 -- its words matter for no stack
 pub page_word : (page addr : ℕ) → page < 2112 → IsOut (word_in page addr)
-page_word page addr l = record { shadow = inl (omega arith); entry = omega arith; token = λ k lk. omega arith }
+page_word page addr l = record { shadow = inl (omega arith); entry = omega arith; token = λ k lk. omega arith; exit = λ z. omega arith }
 
 -- an entry that allows something is present
 pub entry_there : (k : Kind) (v : ℕ) → allows v k User ≡ true → v ≢ 0

@@ -1,5 +1,5 @@
 -- What a thread claims of each of its rows. Source: own.
-use Rattle.std.proofs.Common.{◌≡◌, ℕ, zero, suc, ◌+◌, ◌-◌, ◌<◌, ◌≤◌, inr, true, length, Option, Some, None, refl, subst, arith}
+use Rattle.std.proofs.Common.{◌≡◌, ℕ, zero, suc, ◌+◌, ◌-◌, ◌<◌, ◌≤◌, true, length, Option, Some, None, refl, subst, arith}
 use Rattle.std.specs.Prelude.{◌==◌}
 use Rattle.std.proofs.Math.Nat.{mod-lt}
 use Rattle.cet_words.specs.Bytes.{code_byte}
@@ -16,7 +16,7 @@ use Rattle.cet_isa.specs.declared.threads.Fault.{Fault}
 use Rattle.cet_book.proofs.Addresses.{IsReturn}
 use Rattle.cet_page.specs.Script.{◌>>=◌}
 use Rattle.cet_page.specs.Fetch.{fetchable, joined, missing, missing_in}
-use Rattle.cet_page.specs.Finish.{Row, noted, above, rax, IsMade}
+use Rattle.cet_page.specs.Finish.{Row, noted, above, rax, rdi, IsMade}
 use Rattle.cet_page.specs.Family.{family_of}
 use Rattle.cet_page.specs.Flow.{flow}
 use Rattle.cet_page.specs.declared.families.Family.{Family}
@@ -25,10 +25,11 @@ use Rattle.cet_page.specs.Gate.{exit_word, pend_word, handler_word, exit_status,
 use Rattle.cet_page.specs.Parts.{invalid_opcode}
 use Rattle.cet_page.specs.Row.{execute_family, fetched, instruction, instruction_bytes, boundary, row, row_from}
 use Rattle.cet_own.specs.Safe.{is_near_return, IsElsewhere, IsNearReturn}
-use Rattle.cet_own.proofs.Holds.{IsOut}
+use Rattle.cet_own.specs.ExitWord.{IsEnding}
+use Rattle.cet_own.proofs.Endings.{by_signal, by_status}
 use Rattle.cet_own.proofs.Standing.{AtRest, rest_kept, Inside, inside_kept}
 use Rattle.cet_own.proofs.Classes.{State, looks, own_stack}
-use Rattle.cet_own.proofs.Parts.{Fails, Claim, claim_bind, claim_cond, load_then, exchange_then, clears_claim}
+use Rattle.cet_own.proofs.Parts.{Fails, Claim, claim_bind, claim_cond, load_then, end_then, clears_claim}
 use Rattle.cet_own.proofs.GateParts.{gate_in_then, gate_out_then, exit_out_then}
 use Rattle.cet_own.proofs.Calls.{Ends, EndsRow, call_relative_claim, call_indirect_claim}
 use Rattle.cet_own.proofs.Returns.{ret_claim}
@@ -73,9 +74,6 @@ returns_flow instr.Ret r = refl
 returns_flow (instr.RetImm bytes) r = refl
 returns_flow i r = cc
 
-exit_out : IsOut 1605632
-exit_out = record { shadow = inr (omega arith); entry = omega arith; token = λ k l. omega arith }
-
 module _ (job : JobData) (j : IsJob job) (arch : Arch) where
   -- an invalid opcode is at no return
   elsewhere : (d : Decoding) → decoded (instruction_bytes job arch) ≡ d → (IsNearReturn d → ⊥) → IsElsewhere job arch
@@ -103,7 +101,7 @@ module _ (job : JobData) (j : IsJob job) (arch : Arch) where
   exit_group_claim : (before s : State) (next : ℕ) → IsElsewhere job arch → Inside arch.number (own_stack job arch.number) s.book arch.ssp → Claim job arch (Ends job arch) before s (exit_group arch next (own_stack job arch.number))
   unfolding exit_group
   exit_group_claim before s next free within =
-      exchange_then job arch (Ends job arch) before s exit_word 0 (0x100 + exit_status arch) _ exit_out within.stacked (λ now r found.
+      end_then job arch (Ends job arch) before s (0x100 + exit_status arch) _ (by_status (rdi arch)) within.stacked (λ now r found.
       gate_out_then job arch (stack_below job arch.number j) (Ends job arch) now now _ (inside_kept r within) (λ z n rest. (rest, λ held later. free)))
 
   service_claim : (before s : State) (next : ℕ) → IsElsewhere job arch → IsMade arch.made → Inside arch.number (own_stack job arch.number) s.book arch.ssp → Claim job arch (Ends job arch) before s (service arch next (own_stack job arch.number))
@@ -118,19 +116,19 @@ module _ (job : JobData) (j : IsJob job) (arch : Arch) where
       (λ z n within. service_claim z n next free made within)
       (λ z n found rest'. (rest', λ held now. tt))
 
-  kill_claim : (before s : State) (signal : ℕ) → Inside arch.number (own_stack job arch.number) s.book arch.ssp → Claim job arch (Ends job arch) before s (kill arch signal (own_stack job arch.number))
+  kill_claim : (before s : State) (signal : ℕ) → IsEnding (0x200 + signal) → Inside arch.number (own_stack job arch.number) s.book arch.ssp → Claim job arch (Ends job arch) before s (kill arch signal (own_stack job arch.number))
   unfolding kill
-  kill_claim before s signal within =
+  kill_claim before s signal is within =
       load_then job arch (Ends job arch) before s (handler_word signal) _ within.stacked (λ now r v.
       let within1 = inside_kept r within in
-      exchange_then job arch (Ends job arch) now now exit_word 0 (0x200 + signal) _ exit_out within1.stacked (λ now2 r2 found.
+      end_then job arch (Ends job arch) now now (0x200 + signal) _ is within1.stacked (λ now2 r2 found.
       gate_out_then job arch (stack_below job arch.number j) (Ends job arch) now2 now2 _ (inside_kept r2 within1) (λ z n rest. (rest, λ held later. tt))))
 
   deliver_claim : (before s : State) (e : Fault) → AtRest arch.number s.book arch.ssp → Claim job arch (Ends job arch) before s (deliver job arch e)
   unfolding deliver
   deliver_claim before s e rest =
       gate_in_then job arch (stack_below job arch.number j) (Ends job arch) before s (inside arch (own_stack job arch.number) (kill arch (signal_of e.name) (own_stack job arch.number))) rest
-      (λ z n within. kill_claim z n (signal_of e.name) within)
+      (λ z n within. kill_claim z n (signal_of e.name) (by_signal e.name) within)
       (λ z n found rest'. (rest', λ held now. tt))
 
   -- ---- instructions

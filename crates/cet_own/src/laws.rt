@@ -1,7 +1,8 @@
 ghost use Rattle.std.specs.Prelude.{ℕ, List};
 ghost use Rattle.cet_words.specs.Job.{JobData, IsJob};
 ghost use Rattle.cet_book.specs.Book.{first_book};
-ghost use Rattle.cet_page.specs.Machine.{Machine, Starts};
+ghost use Rattle.cet_page.specs.Machine.{Machine, Starts, run};
+ghost use Rattle.cet_own.specs.ExitWord.{EndsRight};
 ghost use Rattle.cet_own.specs.Safe.{Safe};
 
 /// In every run of every job, whatever thread has which turn: no shadow stack is current on two
@@ -10,4 +11,10 @@ ghost use Rattle.cet_own.specs.Safe.{Safe};
 /// or goes to an address with no executable page.
 pub fn every_run_is_safe()
     ensures { (job : JobData) (start : Machine) (turns : List ℕ) → IsJob job → Starts job start → Safe job start first_book turns }
+{}
+
+/// After every run of every job, whatever thread had which turn, the word EXIT is 0, 256 and an exit
+/// status below 256, or 512 and a signal from 1 to 31.
+pub fn every_run_ends_right()
+    ensures { (job : JobData) (start : Machine) (turns : List ℕ) → IsJob job → Starts job start → EndsRight (run job start turns) }
 {}
