@@ -12,5 +12,6 @@ pub mod Outcome
 pub mod FirstStack
 pub mod Shown
 pub mod Listing
+pub mod SafeRun
 pub mod Answer
 pub mod Serves
