@@ -2,7 +2,9 @@ pub mod Reading
 pub mod Status
 pub mod Settings
 pub mod Words
-pub mod Options
+pub mod Grammar
+pub mod Reader
+pub mod Table
 pub mod Line
 pub mod Report
 pub mod Schedule
