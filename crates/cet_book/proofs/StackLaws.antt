@@ -1,6 +1,6 @@
 -- The words from an address on are those of a list of entries. Source: own.
-use Rattle.std.specs.Prelude.{◌≡◌, ℕ, ◌+◌, ◌-◌, ◌/◌, ◌^◌, List, [], ◌∷◌, slice_index}
-use Rattle.cet_book.specs.Book.{Entry, Call, Restorer, Frame, Previous, Blank, Book, region, top}
+use Rattle.std.specs.Prelude.{◌≡◌, ℕ, ◌+◌, List, [], ◌∷◌}
+use Rattle.cet_book.specs.Book.{Entry}
 use Rattle.cet_book.specs.Stack.{slot_word, tops, word_of}
 
 -- the words from an address on are those of the entries, the newest first

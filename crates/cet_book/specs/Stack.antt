@@ -1,6 +1,6 @@
 -- The words that a shadow stack has in memory. Source: Intel SDM volume 1, chapter on CET (return addresses and
 -- previous-SSP tokens); a signal's frame is that of Linux, Documentation/arch/x86/shstk.rst (bit 63 and an address).
-use Rattle.std.specs.Prelude.{◌≡◌, ℕ, ◌+◌, ◌-◌, ◌/◌, ◌^◌, List, [], ◌∷◌, slice_index}
+use Rattle.std.specs.Prelude.{ℕ, ◌+◌, ◌-◌, ◌/◌, ◌^◌, List, [], ◌∷◌, slice_index}
 use Rattle.cet_book.specs.Book.{Entry, Call, Restorer, Frame, Previous, Blank, Book, region, top}
 
 -- the number of the word at an address of the shadow area

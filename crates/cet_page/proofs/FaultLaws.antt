@@ -1,6 +1,6 @@
 -- What a fault leaves, for each row and for each answer. Source: own.
 use Rattle.std.proofs.Common.{zero, suc, true, false, ap, sym, ◌∙◌, subst}
-use Rattle.std.specs.Prelude.{◌≡◌, ℕ, ◌+◌, ◌-◌, Bool, ◌||◌, List, [], ◌∷◌, Option, Some, None, refl}
+use Rattle.std.specs.Prelude.{◌≡◌, ℕ, ◌-◌, Bool, ◌||◌, List, [], ◌∷◌, Option, Some, None, refl}
 use Rattle.cet_words.specs.Access.{answer, after}
 use Rattle.cet_words.specs.Job.{JobData}
 use Rattle.cet_words.specs.declared.accesses.Access.{Access}
@@ -13,9 +13,9 @@ use Rattle.cet_isa.specs.declared.threads.FaultName.{FaultName}
 use Rattle.cet_isa.specs.declared.threads.Record.{Record}
 use Rattle.cet_isa.specs.declared.threads.What.TheVariants as what
 use Rattle.cet_page.specs.Script.{Script, done, fault, ask, tell, Came, Over, Faulted, Wants, play}
-use Rattle.cet_page.specs.Seen.{Seen, seen_after}
+use Rattle.cet_page.specs.Seen.{seen_after}
 use Rattle.cet_page.specs.Row.{row}
-use Rattle.cet_page.specs.Core.{Core, unheld, come, wanted, access_of, next_access, fault_record, core_by, noted_by, answered, taken}
+use Rattle.cet_page.specs.Core.{Core, unheld, come, wanted, access_of, next_access, core_by, noted_by, answered, taken}
 use Rattle.cet_page.specs.Orderly.{writes}
 use Rattle.cet_page.proofs.OrderlyLaws.{Orderly, OnOver, over_play}
 use Rattle.cet_page.proofs.OrderlyRows.{Ends, tells, orderly_row, orderly_arithmetic, orderly_flow}

@@ -1,7 +1,7 @@
 -- Each access of a row changes the supervisor stack that is held as its word says, in rows that enter the kernel, and not at all in others. Source: own.
 use Rattle.std.proofs.Common.{zero, suc, true, false, cond, subst, sym, ap, ◌∙◌, arith}
 use Rattle.std.proofs.lemmas.Bool.Decides.{nat_tests}
-use Rattle.std.specs.Prelude.{◌≡◌, ◌≢◌, ℕ, ◌+◌, ◌-◌, ◌%◌, Bool, ◌==◌, ◌&&◌, List, [], ◌∷◌, ◌++◌, length, Option, Some, None, refl, ℤ, if◌then◌else◌}
+use Rattle.std.specs.Prelude.{◌≡◌, ◌≢◌, ℕ, ◌+◌, ◌-◌, ◌%◌, Bool, ◌==◌, ◌&&◌, List, [], ◌∷◌, ◌++◌, length, Option, Some, None, refl}
 use Rattle.std.specs.Int.{w64, cast_unsigned}
 use Rattle.cet_words.specs.Job.{JobData}
 use Rattle.cet_words.specs.Layout.{page_at, word_in, entry_word}
@@ -22,19 +22,19 @@ use Rattle.cet_isa.specs.declared.instructions.Size.TheVariants as size
 use Rattle.cet_isa.specs.declared.threads.Arch.{Arch}
 use Rattle.cet_isa.specs.declared.threads.End.{End}
 use Rattle.cet_isa.specs.declared.threads.Fault.{Fault}
-use Rattle.cet_page.specs.Script.{Script, done, fault, ask, tell, ◌>>=◌, Came, Wants, play, changes_at}
+use Rattle.cet_page.specs.Script.{Script, done, fault, ask, tell, ◌>>=◌, Wants, play, changes_at}
 use Rattle.cet_page.specs.Page.{allows, page_fault}
 use Rattle.cet_page.specs.Parts.{tested, look_in, look, peek, load, load_as, store, store_as, stores, exchange, exchange_as, swap, fetch_add, fetch_add_as, alignment_check}
 use Rattle.cet_page.specs.Orderly.{Spent}
 use Rattle.cet_page.specs.Finish.{Row, noted, above, below, rax, rsp}
-use Rattle.cet_page.specs.Operands.{register, effective, byte_count, load_word, load_at, write_place, store_at, read_operand, assigned, settled}
+use Rattle.cet_page.specs.Operands.{register, effective, byte_count, load_word, load_at, write_place, store_at, read_operand}
 use Rattle.cet_page.specs.declared.flags.Computed.{Computed}
 use Rattle.cet_page.specs.Arithmetic.{operated, alu, test, multiply, move, movzx, movsxd, cmov, xchg, lock_xadd, lock_cmpxchg, arithmetic}
-use Rattle.cet_page.specs.Flow.{call, call_next, call_relative, call_to, call_indirect, returned_if, ret, push, pop, leave, rbp, jump_indirect, flow}
+use Rattle.cet_page.specs.Flow.{call, call_next, call_indirect, returned_if, ret, push, pop, leave, rbp, jump_indirect, flow}
 use Rattle.cet_page.specs.Gate.{exit_word, pend_word, handler_word, token, token_page, token_word, kernel_return, stack_of, busied_if, gate_in, gate_out, inside, made_page, exit_status, exit, exit_group, no_call, service, syscall, signal_of, kill, deliver}
 use Rattle.cet_page.specs.Fetch.{missing, missing_in}
 use Rattle.cet_page.specs.Family.{family_of}
-use Rattle.cet_page.specs.Row.{execute_family, execute, fetched, instruction, instruction_bytes, boundary, row, row_from}
+use Rattle.cet_page.specs.Row.{execute_family, fetched, instruction, instruction_bytes, boundary, row, row_from}
 use Rattle.cet_page.specs.Core.{Core, unheld, come, wanted, access_of, next_access, held_after, next_held}
 use Rattle.cet_page.specs.Within.{IsCore}
 use Rattle.cet_page.proofs.WithinLaws.{waiting}
@@ -144,6 +144,7 @@ gated_operated : (k : ℕ) (arch : Arch) (op : AluOp) (dst : Operand) (c : Compu
 gated_operated k arch ops.Cmp dst c next = tt
 gated_operated k arch op (operand.Reg r) c next = tt
 gated_operated k arch op dst c next = tt
+
 module _ (k : ℕ) (arch : Arch) (next : ℕ) where
   gated_move : (s : Size) (dst src : Operand) → Gated false k (move arch s dst src next)
   unfolding move
@@ -154,6 +155,7 @@ module _ (k : ℕ) (arch : Arch) (next : ℕ) where
   gated_move size.Dword (operand.Mem m) src = tt
   gated_move size.Dword (operand.Imm z) src = tt
   gated_move size.Qword (operand.Imm z) src = tt
+
   gated_xchg : (dst : Operand) (r : Reg) → Gated false k (xchg arch dst r next)
   unfolding xchg swap
   gated_xchg (operand.Reg d) r = tt
@@ -161,6 +163,7 @@ module _ (k : ℕ) (arch : Arch) (next : ℕ) where
       gated_bind false k _ _ (gated_place false k (effective arch m next)) (λ word.
       gated_bind false k (swap word (register arch r)) _ (λ v. (λ held. refl, tt)) (λ found. tt))
   gated_xchg (operand.Imm z) r = tt
+
   gated_arithmetic : (i : Instr) → Gated false k (arithmetic arch i next)
   unfolding alu test multiply movzx movsxd cmov lock_xadd lock_cmpxchg fetch_add_as exchange_as
   gated_arithmetic (instr.Alu op s dst src) =
@@ -182,6 +185,7 @@ module _ (k : ℕ) (arch : Arch) (next : ℕ) where
   gated_arithmetic (instr.Imul s r src) = gated_bind false k _ _ (gated_read false k arch s src next) (λ y. tt)
   gated_arithmetic (instr.Cmov c s r src) = gated_bind false k _ _ (gated_read false k arch s src next) (λ value. tt)
   gated_arithmetic i = tt
+
   gated_call : (back target : ℕ) → Gated false k (call arch back target)
   unfolding call store_as
   gated_call back target =
@@ -190,15 +194,18 @@ module _ (k : ℕ) (arch : Arch) (next : ℕ) where
       gated_bind false k _ _ (gated_look false k User kind.ShadowStore (below arch.ssp 8)) (λ shadow.
       gated_bind false k _ _ (gated_store false k (word_in page (below (rsp arch) 8)) back) (λ _.
       gated_bind false k (store_as (Called back ∷ []) (word_in shadow (below arch.ssp 8)) back) _ (λ v held. refl, tt) (λ _. tt)))))
+
   gated_call_next : (back : ℕ) → Gated false k (call_next arch back)
   unfolding call_next
   gated_call_next back =
       gated_bind false k _ _ (gated_tested false k (below (rsp arch) 8) 8) (λ _.
       gated_bind false k _ _ (gated_look false k User kind.Store (below (rsp arch) 8)) (λ page.
       gated_bind false k _ _ (gated_store false k (word_in page (below (rsp arch) 8)) back) (λ _. tt)))
+
   returned_held : (c : Bool) (held : Option ℕ) → held_after (cond c (Returned ∷ []) []) held ≡ held
   returned_held true held = refl
   returned_held false held = refl
+
   gated_ret : (bytes : ℕ) → Gated false k (ret arch bytes)
   unfolding ret load_as
   gated_ret bytes =
@@ -208,6 +215,7 @@ module _ (k : ℕ) (arch : Arch) (next : ℕ) where
       gated_bind false k _ _ (gated_load false k (word_in page (rsp arch))) (λ word.
       gated_bind false k (load_as (returned_if word) (word_in shadow arch.ssp)) _ (λ v. (returned_held ((word == v) && canonical word), tt)) (λ shadow_word.
       gated_cond false k (word == shadow_word) _ _ (gated_cond false k (canonical word) _ _ tt tt) tt)))))
+
   gated_flow : (i : Instr) → Gated false k (flow arch i next)
   unfolding call_indirect push pop leave jump_indirect
   gated_flow (instr.CallRel disp) = gated_cond false k (cast_unsigned w64 disp == 0) _ _ (gated_call_next next) (gated_call next _)
@@ -259,6 +267,7 @@ exit_held k expected value v held =
     let n : exit_word ≢ token_word k = omega arith in
     let e : (exit_word == token_word k) ≡ false = grind (arith, nat_tests) in
     rw e refl
+
 module _ (arch : Arch) where
   gated_service : (next k : ℕ) → Gated true k (service arch next k)
   unfolding exit exit_group no_call exchange_as
@@ -270,34 +279,42 @@ module _ (arch : Arch) where
       (gated_bind true k (exchange exit_word 0 (0x100 + exit_status arch)) _ (λ v. (exit_held k 0 (0x100 + exit_status arch) v, tt)) (λ _.
       gated_bind true k _ _ (gated_gate_out [] k (λ held. refl)) (λ _. tt)))
       (gated_bind true k _ _ (gated_gate_out [] k (λ held. refl)) (λ _. tt)))
+
   gated_inside : (k : ℕ) (work : Script Finish) (busy : Option ℕ) → Gated true k work → Gated true k (inside arch k work busy)
   gated_inside k work None h = h
   gated_inside k work (Some found) h = tt
+
   gated_syscall : (job : JobData) (next : ℕ) → Gated true (stack_of job arch) (syscall job arch next)
   unfolding syscall
   gated_syscall job next =
       gated_bind true (stack_of job arch) _ _ (gated_gate_in (stack_of job arch)) (λ busy.
       gated_inside (stack_of job arch) _ busy (gated_service next (stack_of job arch)))
+
   gated_kill : (signal k : ℕ) → Gated true k (kill arch signal k)
   unfolding kill exchange_as
   gated_kill signal k =
       gated_bind true k _ _ (gated_load true k (handler_word signal)) (λ _.
       gated_bind true k (exchange exit_word 0 (0x200 + signal)) _ (λ v. (exit_held k 0 (0x200 + signal) v, tt)) (λ before.
       gated_bind true k _ _ (gated_gate_out [] k (λ held. refl)) (λ _. tt)))
+
   gated_deliver : (job : JobData) (e : Fault) → Gated true (stack_of job arch) (deliver job arch e)
   unfolding deliver
   gated_deliver job e =
       gated_bind true (stack_of job arch) _ _ (gated_gate_in (stack_of job arch)) (λ busy.
       gated_inside (stack_of job arch) _ busy (gated_kill (signal_of e.name) (stack_of job arch)))
+
   -- ---- the row
   gated_noted : (b : Bool) (k : ℕ) (m : Row) → Gated b k m → Gated b k (m >>= noted)
   gated_noted b k m h = gated_bind b k m noted h (λ x. tt)
+
   calls_enter : (i : Instr) → family_of i ≡ families.SystemCall → is_syscall i ≡ true
   calls_enter instr.Syscall e = refl
   calls_enter i e = cc
+
   family_enters : (i : Instr) → is_syscall i ≡ true → family_of i ≡ families.SystemCall
   family_enters instr.Syscall e = refl
   family_enters i e = cc
+
   gated_family : (job : JobData) (i : Instr) (next : ℕ) (p : Family) (b : Bool) → family_of i ≡ p → is_syscall i ≡ b → Gated b (stack_of job arch) (execute_family job arch i next p)
   gated_family job i next families.Arithmetic false e f = gated_noted false (stack_of job arch) _ (gated_arithmetic (stack_of job arch) arch next i)
   gated_family job i next families.Flow false e f = gated_noted false (stack_of job arch) _ (gated_flow (stack_of job arch) arch next i)
@@ -306,14 +323,17 @@ module _ (arch : Arch) where
   gated_family job i next families.Arithmetic true e f = let q = family_enters i f in cc
   gated_family job i next families.Flow true e f = let q = family_enters i f in cc
   gated_family job i next families.SystemCall false e f = let q = calls_enter i e in cc
+
   gated_missing : (b : Bool) (k : ℕ) (at : Option ℕ) (addr : ℕ) → Gated b k (missing_in {A = Finish} at addr)
   gated_missing b k None addr = tt
   gated_missing b k (Some page) addr = λ v. (still_look b k page v, tt)
+
   gated_fetched : (job : JobData) (bytes : List ℕ) (d : Decoding) → Gated (reads_syscall d) (stack_of job arch) (fetched job arch bytes d)
   unfolding missing
   gated_fetched job bytes (Read i len) = gated_family job i (above arch.rip len) (family_of i) (is_syscall i) refl refl
   gated_fetched job bytes Short = gated_missing false (stack_of job arch) (page_at (arch.rip + length bytes)) (arch.rip + length bytes)
   gated_fetched job bytes Unknown = tt
+
   gated_boundary : (job : JobData) → Gated (reads_syscall (decoded (instruction_bytes job arch))) (stack_of job arch) (boundary job arch)
   unfolding boundary instruction
   gated_boundary job =
@@ -324,6 +344,7 @@ module _ (arch : Arch) where
       (gated_bind b k _ _ (gated_load b k (pend_word arch.number)) (λ _.
       gated_cond b k (canonical arch.rip) _ _ (gated_fetched job (instruction_bytes job arch) (decoded (instruction_bytes job arch))) tt))
       tt)
+
   gated_from : (job : JobData) (due : Option Fault) → Gated (enters_by job arch due) (stack_of job arch) (row_from job arch due)
   gated_from job (Some e) = gated_deliver job e
   gated_from job None = gated_boundary job

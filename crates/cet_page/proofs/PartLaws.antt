@@ -1,16 +1,9 @@
 -- What the parts of a script come to, one by one. Source: own.
 use Rattle.std.proofs.Common.{zero, suc, arith, ap, ◌∙◌, mul-suc}
-use Rattle.std.specs.Prelude.{◌≡◌, ℕ, ◌+◌, ◌-◌, ◌*◌, ◌%◌, ◌<◌, ◌≤◌, List, [], ◌∷◌, refl, Option, Some, None, ◌==◌, if◌then◌else◌}
-use Rattle.cet_words.specs.Layout.{page_at}
+use Rattle.std.specs.Prelude.{◌≡◌, ℕ, ◌+◌, ◌-◌, ◌*◌, ◌<◌, ◌≤◌, List, [], ◌∷◌, refl}
 use Rattle.cet_words.specs.declared.accesses.Access.TheVariants as access
-use Rattle.cet_isa.specs.Address.{canonical}
-use Rattle.cet_isa.specs.declared.threads.Fault.{Fault}
-use Rattle.cet_isa.specs.declared.threads.FaultName.TheVariants.{Gp, Ac, Ud}
 use Rattle.cet_words.specs.Change.{Change}
-use Rattle.cet_page.specs.Script.{Script, done, fault, ask, tell, play, silent, Came, Over, Wants}
-use Rattle.cet_page.specs.Page.{allows, page_fault}
-use Rattle.cet_page.specs.declared.checks.Kind.{Kind}
-use Rattle.cet_page.specs.declared.checks.Who.{Who}
+use Rattle.cet_page.specs.Script.{play, Came, Over, Wants}
 use Rattle.cet_page.specs.Parts.{load_as, load, store_as, store, exchange_as, exchange, stores}
 
 -- The changes don't matter for the accesses.

@@ -1,13 +1,11 @@
 -- What a part's next answers, by what its script comes to. Source: own.
-use Rattle.std.specs.Prelude.{◌≡◌, ℕ, List, Some, Result, Ok, Err, refl}
+use Rattle.std.specs.Prelude.{◌≡◌, ℕ, List, Result, Ok, Err, refl}
 use Rattle.cet_isa.specs.declared.threads.Arch.{Arch}
 use Rattle.cet_isa.specs.declared.threads.Fault.{Fault}
 use Rattle.cet_isa.specs.declared.threads.Record.{Record}
-use Rattle.cet_words.specs.Access.{InRange}
 use Rattle.cet_page.specs.Script.{Came, Over, Faulted, Wants}
 use Rattle.cet_page.specs.declared.cursors.Stop.{Stop}
 use Rattle.cet_page.specs.declared.cursors.Stop.TheVariants as stop
-use Rattle.cet_page.specs.declared.nexts.Next.{Next}
 use Rattle.cet_page.specs.declared.nexts.Next.TheVariants as nexts
 use Rattle.cet_page.specs.Plays.{Comes, next_of, NextInRange, next_after}
 

@@ -1,8 +1,8 @@
 -- Bytes of one page among the file bytes of a segment are those that can be fetched.
-use Rattle.std.proofs.Common.{◌≡◌, ℕ, zero, suc, ◌+◌, ◌-◌, ◌*◌, ◌/◌, ◌%◌, ◌<◌, ◌≤◌, arith, refl, ap, sym, ◌∙◌, true, List, [], ◌∷◌, Some, take, drop, length}
+use Rattle.std.proofs.Common.{◌≡◌, ℕ, zero, suc, ◌+◌, ◌-◌, ◌*◌, ◌/◌, ◌%◌, ◌≤◌, arith, refl, ap, sym, ◌∙◌, true, List, ◌∷◌, Some, take, drop, length}
 use Rattle.std.proofs.Math.Seq.{drop-cons}
 use Rattle.std.proofs.lemmas.Bool.{le-leb}
-use Rattle.std.specs.Prelude.{find, nat_le, slice_index, slice_range, if◌then◌else◌}
+use Rattle.std.specs.Prelude.{find, nat_le, slice_index, slice_range}
 use Rattle.cet_words.specs.declared.images.Segment.{Segment}
 use Rattle.cet_words.specs.Job.{covers}
 use Rattle.cet_words.specs.Bytes.{code_byte, executable_byte}

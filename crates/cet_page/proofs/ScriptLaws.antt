@@ -1,10 +1,6 @@
 -- A script after another comes to what the second comes to where the first is over. Source: own.
 use Rattle.std.proofs.Common.{zero, suc}
-use Rattle.std.specs.Prelude.{◌≡◌, ℕ, List, [], ◌∷◌, Option, Some, None, refl}
-use Rattle.cet_words.specs.declared.accesses.Access.{Access}
-use Rattle.cet_words.specs.declared.accesses.Access.TheVariants as access
-use Rattle.cet_isa.specs.declared.threads.Fault.{Fault}
-use Rattle.cet_words.specs.Change.{Change, Called, Returned, Raised, Acquired, Released, Claimed, Seeded, Born, Pushed, Popped, Ended, Busied, Freed}
+use Rattle.std.specs.Prelude.{◌≡◌, ℕ, List, [], ◌∷◌, refl}
 use Rattle.cet_page.specs.Script.{Script, ◌>>=◌, Came, play, done, fault, ask, tell, Over, Faulted, Wants}
 
 abbrev pub resume : {A B : Type 0} → Came A → (A → Script B) → Came B

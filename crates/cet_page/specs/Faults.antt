@@ -1,24 +1,17 @@
 -- What a fault leaves: the instruction has done nothing, and can be tried again. Source: Intel SDM volume 3 (exceptions that
 -- are faults); own for the accesses.
-use Rattle.std.proofs.Common.{zero, suc, true, false, ap, sym, ◌∙◌, subst}
-use Rattle.std.specs.Prelude.{◌≡◌, ℕ, ◌+◌, ◌-◌, Bool, ◌||◌, List, [], ◌∷◌, Option, Some, None, refl}
-use Rattle.cet_words.specs.Access.{answer, after}
+use Rattle.std.proofs.Common.{zero, suc, true, false}
+use Rattle.std.specs.Prelude.{◌≡◌, ℕ, ◌+◌, Bool, ◌||◌, List, [], ◌∷◌, Some}
 use Rattle.cet_words.specs.Job.{JobData}
 use Rattle.cet_words.specs.declared.accesses.Access.{Access}
-use Rattle.cet_words.specs.declared.accesses.Access.TheVariants as access
-use Rattle.cet_isa.specs.declared.instructions.Instr.{Instr}
 use Rattle.cet_isa.specs.declared.threads.Arch.{Arch}
-use Rattle.cet_isa.specs.declared.threads.End.{End}
 use Rattle.cet_isa.specs.declared.threads.Fault.{Fault}
-use Rattle.cet_isa.specs.declared.threads.FaultName.{FaultName}
 use Rattle.cet_isa.specs.declared.threads.Record.{Record}
-use Rattle.cet_isa.specs.declared.threads.What.TheVariants as what
 use Rattle.cet_page.specs.Script.{Script, done, fault, ask, tell}
 use Rattle.cet_page.specs.Seen.{Seen, seen_after}
 use Rattle.cet_page.specs.Row.{row}
 use Rattle.cet_page.specs.Core.{Core, unheld, next_access, fault_record}
 use Rattle.cet_page.specs.Orderly.{writes}
-use Rattle.cet_page.specs.declared.nexts.Next.TheVariants as nexts
 
 -- whether one of the first accesses of a script changed a word, where these answers were kept
 abbrev pub written : {A : Type 0} → (wrote : Bool) → Script A → ℕ → List ℕ → Bool

@@ -1,34 +1,17 @@
 -- The exchanges of the gate are told by their words and by the row that they stand in. So the supervisor stack that a thread
 -- holds can be set without the changes that come with an access. Source: own.
-use Rattle.std.proofs.Common.{zero, suc, true, false, cond, subst, sym, ap, ◌∙◌, arith}
-use Rattle.std.proofs.lemmas.Bool.Decides.{nat_tests}
-use Rattle.std.specs.Prelude.{◌≡◌, ◌≢◌, ℕ, ◌+◌, ◌-◌, ◌%◌, Bool, ◌==◌, ◌&&◌, List, [], ◌∷◌, ◌++◌, length, Option, Some, None, refl, ℤ, if◌then◌else◌}
-use Rattle.std.specs.Int.{w64, cast_unsigned}
+use Rattle.std.proofs.Common.{true, false}
+use Rattle.std.specs.Prelude.{ℕ, Bool, ◌==◌, Option, Some, None, if◌then◌else◌}
 use Rattle.cet_words.specs.Job.{JobData}
-use Rattle.cet_words.specs.Layout.{page_at, word_in, entry_word}
-use Rattle.cet_words.specs.Change.{Change, Busied, Freed, Ended, Called, Returned}
 use Rattle.cet_words.specs.declared.accesses.Access.{Access}
 use Rattle.cet_words.specs.declared.accesses.Access.TheVariants as access
-use Rattle.cet_isa.specs.Address.{canonical}
 use Rattle.cet_isa.specs.Reading.{Decoding, Read, Short, Unknown, decoded}
-use Rattle.cet_isa.specs.declared.instructions.AluOp.{AluOp}
-use Rattle.cet_isa.specs.declared.instructions.AluOp.TheVariants as ops
 use Rattle.cet_isa.specs.declared.instructions.Instr.{Instr}
 use Rattle.cet_isa.specs.declared.instructions.Instr.TheVariants as instr
-use Rattle.cet_isa.specs.declared.instructions.Operand.{Operand}
-use Rattle.cet_isa.specs.declared.instructions.Operand.TheVariants as operand
-use Rattle.cet_isa.specs.declared.instructions.Reg.{Reg}
-use Rattle.cet_isa.specs.declared.instructions.Size.{Size}
-use Rattle.cet_isa.specs.declared.instructions.Size.TheVariants as size
 use Rattle.cet_isa.specs.declared.threads.Arch.{Arch}
-use Rattle.cet_isa.specs.declared.threads.End.{End}
 use Rattle.cet_isa.specs.declared.threads.Fault.{Fault}
-use Rattle.cet_page.specs.Script.{fault}
-use Rattle.cet_page.specs.Parts.{exchange}
 use Rattle.cet_page.specs.Gate.{token, token_word}
 use Rattle.cet_page.specs.Row.{instruction_bytes}
-use Rattle.cet_page.specs.declared.checks.Kind.TheVariants as kind
-use Rattle.cet_page.specs.declared.families.Family.TheVariants as families
 
 -- ---- rows that go through the gate: SYSCALL and the delivery of a due fault
 abbrev pub is_syscall : Instr → Bool

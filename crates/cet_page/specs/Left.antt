@@ -1,12 +1,7 @@
 -- Each access brings a thread nearer to its end. Source: own.
-use Rattle.std.proofs.Common.{true, false, arith, sym, subst}
-use Rattle.std.specs.Prelude.{◌≡◌, ℕ, ◌+◌, ◌-◌, ◌*◌, ◌<◌, Bool, Option, Some, None, refl, ◌==◌, if◌then◌else◌}
+use Rattle.std.specs.Prelude.{ℕ, ◌+◌, ◌-◌, ◌*◌, Option, Some, None}
 use Rattle.cet_words.specs.Job.{JobData}
-use Rattle.cet_words.specs.declared.accesses.Access.{Access}
-use Rattle.cet_isa.specs.declared.threads.Arch.{Arch}
 use Rattle.cet_isa.specs.declared.threads.End.{End}
-use Rattle.cet_isa.specs.declared.threads.End.TheVariants as ending
-use Rattle.cet_page.specs.Row.{row}
 use Rattle.cet_page.specs.Core.{Core}
 
 -- the accesses that a thread may still make, at most: 4,096 for each record that it may still make, less those of the

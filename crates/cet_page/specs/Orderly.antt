@@ -1,18 +1,9 @@
 -- What holds of every row, whatever its accesses answer: it is short, a fault comes only before its first write, and
 -- what it comes to. Source: own.
-use Rattle.std.proofs.Common.{zero, suc, true, false, arith, cond, subst, ap, sym, ◌∙◌}
-use Rattle.std.proofs.lemmas.Bool.{leb-true, le-leb}
-use Rattle.std.specs.Prelude.{◌≡◌, ℕ, ◌-◌, ◌<◌, ◌≤◌, ◌%◌, Bool, ◌||◌, ◌==◌, nat_le, List, [], ◌∷◌, ◌++◌, length, Option, Some, None, refl}
-use Rattle.cet_words.specs.Layout.{page_at, word_in}
+use Rattle.std.proofs.Common.{zero, suc, true, false}
+use Rattle.std.specs.Prelude.{ℕ, Bool, ◌==◌, List, [], ◌∷◌}
 use Rattle.cet_words.specs.declared.accesses.Access.{Access}
 use Rattle.cet_words.specs.declared.accesses.Access.TheVariants as access
-use Rattle.std.specs.Int.{cast_unsigned}
-use Rattle.cet_isa.specs.Address.{canonical}
-use Rattle.cet_isa.specs.declared.instructions.Operand.{Operand}
-use Rattle.cet_isa.specs.declared.instructions.Operand.TheVariants as operand
-use Rattle.cet_isa.specs.declared.instructions.Size.{Size}
-use Rattle.cet_isa.specs.declared.threads.Arch.{Arch}
-use Rattle.cet_words.specs.Change.{Change}
 use Rattle.cet_page.specs.Script.{Script, done, fault, ask, tell}
 
 -- the access changes a word, where it answers this

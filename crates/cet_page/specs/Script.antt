@@ -1,7 +1,7 @@
 -- A script: which accesses are made one after another, what each means for the book, and what is done with the answers.
 -- Source: own. It is the form in which each instruction and each kernel call is written.
 use Rattle.std.proofs.Common.{zero, suc}
-use Rattle.std.specs.Prelude.{◌≡◌, ℕ, List, [], ◌∷◌, Option, Some, None, refl}
+use Rattle.std.specs.Prelude.{ℕ, List, [], ◌∷◌, Option, Some, None}
 use Rattle.cet_words.specs.declared.accesses.Access.{Access}
 use Rattle.cet_words.specs.declared.accesses.Access.TheVariants as access
 use Rattle.cet_isa.specs.declared.threads.Fault.{Fault}
@@ -16,9 +16,9 @@ pub data Script (A : Type 0) : Type 0 where
   ask : Access → (ℕ → List Change) → (ℕ → Script A) → Script A
   -- a store, its changes, and what follows
   tell : (word value : ℕ) → List Change → Script A → Script A
+
 -- one script after another
 infixl 10 ◌>>=◌
-
 unfoldable pub ◌>>=◌ : {A B : Type 0} → Script A → (A → Script B) → Script B
 (done x) >>= f = f x
 (fault e) >>= f = fault e

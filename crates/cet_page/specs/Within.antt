@@ -1,13 +1,9 @@
 -- What holds of a thread of a job between two of its accesses. Source: own.
-use Rattle.std.proofs.lemmas.Bool.Decides.{nat_tests}
-use Rattle.std.proofs.Common.{add-one, true, false, arith, ◌∙◌, ap, sym, subst}
-use Rattle.std.specs.Prelude.{◌≡◌, ℕ, ◌+◌, ◌<◌, ◌≤◌, Bool, Option, Some, None, refl, ◌==◌, length, if◌then◌else◌}
+use Rattle.std.specs.Prelude.{◌≡◌, ◌<◌, ◌≤◌, Option, Some, None}
 use Rattle.cet_words.specs.declared.accesses.Access.{Access}
-use Rattle.cet_words.specs.Job.{JobData, IsJob}
-use Rattle.cet_isa.specs.declared.threads.Record.{Record}
+use Rattle.cet_words.specs.Job.{JobData}
 use Rattle.cet_isa.specs.declared.threads.Arch.{Arch}
 use Rattle.cet_isa.specs.declared.threads.End.{End}
-use Rattle.cet_isa.specs.declared.threads.End.TheVariants as ending
 use Rattle.cet_page.specs.Script.{Wants}
 use Rattle.cet_page.specs.Finish.{IsMade}
 use Rattle.cet_page.specs.Row.{row}
