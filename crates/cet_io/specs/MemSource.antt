@@ -5,6 +5,7 @@ use Rattle.cet_io.specs.Stream.{Tally, counted, raised}
 
 pub record MemSourceState : Type 0 where
   pub left : List ℕ
+  pub faults : ℕ
   pub tally : Tally
   pub calls : ℕ
   -- the numbers of the calls that fail, counted from 1
@@ -24,5 +25,5 @@ given s room = min (min s.piece room) (length s.left)
 abbrev pub after_read : MemSourceState → ℕ → MemSourceState
 after_read s room =
     if breaks s
-    then record s { tally = record s.tally { failures = raised s.tally.failures }; calls = raised s.calls }
+    then record s { faults = raised s.faults; calls = raised s.calls }
     else record s { left = drop (given s room) s.left; tally = counted {E = ⊥} s.tally room (Ok (given s room)); calls = raised s.calls }

@@ -1,5 +1,5 @@
 -- What the calls of a source or a sink do to its bytes and its counts. Source: own.
-use Rattle.std.specs.Prelude.{ℕ, ◌+◌, ◌-◌, ◌^◌, ◌<◌, ◌≤◌, ◌≡◌, min, Bool, ◌&&◌, ◌==◌, nat_lt, if◌then◌else◌, List, length, take, Option, Some, None, Result, Ok, Err, IfOk, OnErr}
+use Rattle.std.specs.Prelude.{ℕ, ◌+◌, ◌-◌, ◌^◌, ◌<◌, ◌≤◌, ◌≡◌, min, Bool, ◌&&◌, ◌==◌, nat_lt, if◌then◌else◌, List, length, take, Option, Some, None, Result, Ok, Err, IfOk, OnErr, ⊤}
 use Rattle.std.specs.Io.KnownBytes.{Consumes, Appends, IsAtEnd}
 
 -- ---- counts
@@ -16,20 +16,14 @@ raised count = added count 1
 abbrev pub Rose : ℕ → ℕ → Type 0
 Rose before now = raised before ≤ now
 
--- a count has risen by more than n; one that stands at its last value counts as risen
-abbrev pub RoseAbove : ℕ → ℕ → ℕ → Type 0
-RoseAbove n before now = added before (n + 1) ≤ now
-
 -- a count has risen by n, but for what would pass its last value
 abbrev pub RoseBy : ℕ → ℕ → ℕ → Type 0
 RoseBy n before now = (added before n ≤ now) × (now ≤ before + n)
 
--- What has come of the reads of a source so far.
+-- What has come of the reads of a source that didn't fail.
 pub record Tally : Type 0 where
   -- the bytes that they gave
   pub given : ℕ
-  -- those that failed
-  pub failures : ℕ
   -- those that found the end
   pub ends : ℕ
 
@@ -39,13 +33,23 @@ is_end room n = nat_lt 0 room && (n == 0)
 
 -- the tally after a read of a buffer of this room
 abbrev pub counted : {E : Type 0} → Tally → ℕ → Result ℕ E → Tally
-counted t room (Ok n) = record { given = added t.given n; failures = t.failures; ends = if is_end room n then raised t.ends else t.ends }
-counted t room (Err e) = record { given = t.given; failures = raised t.failures; ends = t.ends }
+counted t room (Ok n) = record { given = added t.given n; ends = if is_end room n then raised t.ends else t.ends }
+counted t room (Err e) = t
 
 -- the same, where the source keeps a tally
 abbrev pub tallied : {E : Type 0} → Option Tally → ℕ → Result ℕ E → Option Tally
 tallied None room result = None
 tallied (Some t) room result = Some (counted t room result)
+
+-- a count of faults after a call
+abbrev pub faults_after : {T E : Type 0} → ℕ → Result T E → ℕ
+faults_after faults (Ok x) = faults
+faults_after faults (Err e) = raised faults
+
+-- a source that keeps a tally counts each read that fails as one fault, and nothing else
+abbrev pub CountsFaults : {T E : Type 0} → Option Tally → (before now : ℕ) → Result T E → Type 0
+CountsFaults None before now result = ⊤
+CountsFaults (Some t) before now result = now ≡ faults_after before result
 
 -- ---- one call
 

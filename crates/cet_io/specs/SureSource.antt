@@ -9,4 +9,4 @@ pub record SureSourceState : Type 0 where
   pub ends : ℕ
 
 abbrev pub tally_of : SureSourceState → Tally
-tally_of s = record { given = s.given; failures = 0; ends = s.ends }
+tally_of s = record { given = s.given; ends = s.ends }

@@ -2,7 +2,7 @@
 
 ghost use Rattle.std.specs.Prelude.{◌≡◌, ◌+◌, ◌<◌, ◌≤◌, List, [], ◌==◌, length, min, take, drop, IfOk, Some, None, OnErr, is_err};
 ghost use Rattle.std.specs.List.{list_any};
-ghost use Rattle.cet_io.specs.Stream.{HasCause, Reads, Writes, tallied};
+ghost use Rattle.cet_io.specs.Stream.{CountsFaults, HasCause, Reads, Writes, tallied};
 ghost use Rattle.cet_io.specs.SureSource.{tally_of};
 ghost use Rattle.cet_io.specs.MemSource.{breaks, given, after_read};
 ghost use Rattle.cet_io.specs.MemSink.{refuses, taken, after_write};
@@ -66,6 +66,7 @@ impl Source for SureSource {
         ensures bytes { Reads (Some self.old.left) (Some self.new.left) buf.new result }
         ensures cause { HasCause 0 0 result }
         ensures counts { Some (tally_of self.new) ≡ tallied (Some (tally_of self.old)) (length buf.new) result }
+        ensures steady { CountsFaults (Some (tally_of self.old)) 0 0 result }
         ensures most { IfOk result (λ n. n ≡ min (length buf.old) (length self.old.left)) }
     {
         let count = copy_front(&self.bytes[self.at..], buf);
@@ -103,7 +104,7 @@ impl Model for MemSource {
 
     ghost Value = { MemSourceState };
 
-    ghost view = { λ s. record { left = drop s.at s.bytes.items; tally = record { given = s.at; failures = s.faults; ends = s.ends }; calls = s.calls; fails = s.fails.items; piece = s.piece } };
+    ghost view = { λ s. record { left = drop s.at s.bytes.items; faults = s.faults; tally = record { given = s.at; ends = s.ends }; calls = s.calls; fails = s.fails.items; piece = s.piece } };
 
     ghost invariant = { λ s. (1 ≤ s.piece) × (s.at ≤ length s.bytes.items) };
 }
@@ -118,7 +119,7 @@ impl MemSource {
         fails: &[u32],
     ) -> Result<MemSource, NoMemory>
         requires { 1 ≤ piece }
-        ensures { IfOk result (λ s. s ≡ record { left = bytes.now; tally = record { given = 0; failures = 0; ends = 0 }; calls = 0; fails = fails.now; piece = piece }) }
+        ensures { IfOk result (λ s. s ≡ record { left = bytes.now; faults = 0; tally = record { given = 0; ends = 0 }; calls = 0; fails = fails.now; piece = piece }) }
     {
         let bytes = Vec::from_slice(alloc, bytes)?;
         let fails = Vec::from_slice(alloc, fails)?;
@@ -142,7 +143,7 @@ impl MemSource {
 
     /// How many calls have failed, up to 2^64 - 1.
     pub fn faults(&self) -> u64
-        ensures { result ≡ self.now.tally.failures }
+        ensures { result ≡ self.now.faults }
     {
         self.faults
     }
@@ -167,14 +168,15 @@ impl MemSource {
 impl Source for MemSource {
     ghost left = { λ s. Some s.left };
 
-    ghost faults = { λ s. s.tally.failures };
+    ghost faults = { λ s. s.faults };
 
     ghost tally = { λ s. Some s.tally };
 
     fn read(&mut self, buf: &mut [u8]) -> Result<usize, Failed>
         ensures bytes { Reads (Some self.old.left) (Some self.new.left) buf.new result }
-        ensures cause { HasCause self.old.tally.failures self.new.tally.failures result }
+        ensures cause { HasCause self.old.faults self.new.faults result }
         ensures counts { Some self.new.tally ≡ tallied (Some self.old.tally) (length buf.new) result }
+        ensures steady { CountsFaults (Some self.old.tally) self.old.faults self.new.faults result }
         ensures broken { is_err result ≡ breaks self.old }
         ensures given { IfOk result (λ n. n ≡ given self.old (length buf.old)) }
         ensures after { self.new ≡ after_read self.old (length buf.old) }

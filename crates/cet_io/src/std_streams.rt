@@ -18,17 +18,17 @@ pub struct StdSource<R: Read> {
 }
 
 impl<R: Read> Model for StdSource<R> {
-    ghost use Rattle.cet_io.specs.Stream.{Tally};
+    ghost use Rattle.cet_io.specs.StdSource.{StdSourceState};
 
-    ghost Value = { Tally };
+    ghost Value = { StdSourceState };
 
-    ghost view = { λ s. record { given = s.given; failures = s.faults; ends = s.ends } };
+    ghost view = { λ s. record { faults = s.faults; tally = record { given = s.given; ends = s.ends } } };
 }
 
 impl<R: Read> StdSource<R> {
     /// A source over this reader, with no fault so far.
     pub fn new(inner: R) -> StdSource<R>
-        ensures { result ≡ record { given = 0; failures = 0; ends = 0 } }
+        ensures { result ≡ record { faults = 0; tally = record { given = 0; ends = 0 } } }
     {
         StdSource {
             inner,
@@ -40,7 +40,7 @@ impl<R: Read> StdSource<R> {
 
     /// Counts a read of a buffer of this room that gave so many bytes.
     fn count_read(&mut self, room: usize, count: usize)
-        ensures { self.new ≡ counted {E = ⊥} self.old room (Ok count) }
+        ensures { self.new ≡ record self.old { tally = counted {E = ⊥} self.old.tally room (Ok count) } }
     {
         self.given = self.given.saturating_add(count as u64);
         if room > 0 && count == 0 {
@@ -52,9 +52,9 @@ impl<R: Read> StdSource<R> {
 impl<R: Read> Source for StdSource<R> {
     ghost left = { λ _. None };
 
-    ghost faults = { λ s. s.failures };
+    ghost faults = { λ s. s.faults };
 
-    ghost tally = { λ s. Some s };
+    ghost tally = { λ s. Some s.tally };
 
     fn read(&mut self, buf: &mut [u8]) -> Result<usize, Failed> {
         match self.inner.read(buf) {

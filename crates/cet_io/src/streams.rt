@@ -1,7 +1,7 @@
 //! What bytes are read from and written to.
 
 ghost use Rattle.std.specs.Prelude.{◌≡◌, ℕ, List, None, Option, length};
-ghost use Rattle.cet_io.specs.Stream.{HasCause, Reads, Tally, Writes, tallied};
+ghost use Rattle.cet_io.specs.Stream.{CountsFaults, HasCause, Reads, Tally, Writes, tallied};
 
 use std::fmt;
 
@@ -25,8 +25,8 @@ pub trait Source {
     /// How many faults there were, up to 2^64 - 1.
     ghost faults: { Self → ℕ };
 
-    /// How many bytes its reads have given, how many reads failed, and how many found the end, each up to
-    /// 2^64 - 1, where the source counts them.
+    /// How many bytes its reads have given, and how many reads found the end, each up to 2^64 - 1, where
+    /// the source counts them. Its faults are then the reads that failed.
     ghost tally: { Self → Option Tally } = { λ _. None };
 
     /// Reads into the front of the buffer, and answers the number of bytes. 0 for a buffer that isn't
@@ -34,7 +34,8 @@ pub trait Source {
     fn read(&mut self, buf: &mut [u8]) -> Result<usize, Failed>
         ensures bytes { Reads (left self.old) (left self.new) buf.new result }
         ensures cause { HasCause (faults self.old) (faults self.new) result }
-        ensures counts { tally self.new ≡ tallied (tally self.old) (length buf.new) result };
+        ensures counts { tally self.new ≡ tallied (tally self.old) (length buf.new) result }
+        ensures steady { CountsFaults (tally self.old) (faults self.old) (faults self.new) result };
 }
 
 /// What bytes are written to.

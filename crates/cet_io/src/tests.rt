@@ -2,6 +2,7 @@
 
 use super::*;
 use std::io;
+use std::io::Write;
 use std::test::Fail;
 
 #[test]
@@ -52,5 +53,30 @@ fn writers_of_std_are_sinks(rt: HostRuntime) -> Result<(), Fail> {
     assert_eq!(rt; sink.write(b"abcdef"), Ok(4));
     assert_eq!(rt; sink.write(b"ef"), Err(Failed));
     assert_eq!(rt; room.as_slice(), b"abcd".as_slice());
+    Ok(())
+}
+
+/// A writer that keeps the length of its last piece, and whose flush fails.
+#[derive(Drop)]
+struct Stuck {
+    taken: usize,
+}
+
+impl Write for Stuck {
+    fn write(&mut self, piece: &[u8]) -> io::Result<usize> {
+        self.taken = piece.len();
+        Ok(piece.len())
+    }
+
+    fn flush(&mut self) -> io::Result<()> {
+        Err(io::Error::from(io::ErrorKind::StorageFull))
+    }
+}
+
+#[test]
+fn a_flush_that_fails_is_a_write_that_fails(rt: HostRuntime) -> Result<(), Fail> {
+    let mut stuck = Stuck { taken: 0 };
+    assert_eq!(rt; StdSink::new(&mut stuck).write(b"abc"), Err(Failed));
+    assert_eq!(rt; stuck.taken, 3);
     Ok(())
 }

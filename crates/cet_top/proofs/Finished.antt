@@ -13,7 +13,8 @@ use Rattle.cet_book.specs.Facts.{Stack}
 use Rattle.cet_page.specs.Machine.{Machine, Thread, Starts, machine, run, step}
 use Rattle.cet_own.proofs.LastBook.{LastBook}
 use Rattle.cet_own.specs.Safe.{KeepsStack, Safe}
-use Rattle.cet_top.specs.Answer.{SafeRun, outcome_of}
+use Rattle.cet_own.specs.ExitWord.{EndsRight, IsExitWord}
+use Rattle.cet_top.specs.SafeRun.{SafeRun, outcome_of}
 use Rattle.cet_top.specs.Schedule.{ByRobin, IsRobin, first_live, goes_on}
 use Rattle.cet_top.specs.Turns.{Robined}
 use Rattle.cet_top.specs.FirstStack.{words_from, first_stack, first_stacks, KeepsFirst, KeepsFirsts, read_outcome}
@@ -21,6 +22,7 @@ use Rattle.cet_top.specs.Outcome.{thread_out, process_end}
 use Rattle.cet_top.specs.Shown.{shown_region, shown_stacks, shown_starts, in_order, in_view, shown_of, shown_if}
 use Rattle.cet_top.specs.declared.outcomes.Outcome.{Outcome}
 use Rattle.cet_top.specs.declared.outcomes.StackReport.{StackReport}
+use Rattle.cet_top.proofs.ScheduleLaws.{robin_complete}
 use Rattle.cet_top.proofs.QuietTraces.{AllQuiet, starts_of, quiet}
 
 -- the words of entries in memory are those that are read
@@ -141,8 +143,23 @@ read_is job start turns words threads l r s e =
 pub ended_keeps : (job : JobData) (start : Machine) (words : List ℕ) (threads : List Thread) → ((turns : List ℕ) → LastBook job start turns) → Robined job start (machine words threads) → KeepsFirsts threads × (length threads ≤ 32)
 ended_keeps job start words threads last r = keeps job start r.turns words threads (last r.turns) r.robin r.ran
 
+-- the word EXIT is one that a process may leave
+pub ended_exit : (job : JobData) (start : Machine) (words : List ℕ) (threads : List Thread) → ((turns : List ℕ) → EndsRight (run job start turns)) → Robined job start (machine words threads) → IsExitWord (slice_index words exit_word)
+ended_exit job start words threads ends r = subst EndsRight r.ran (ends r.turns)
+
 -- and what is read is the outcome of the run
-pub ended_ran : (job : JobData) (start : Machine) (words : List ℕ) (threads : List Thread) (outcome : Outcome) → ((turns : List ℕ) → LastBook job start turns) → ((turns : List ℕ) → Safe job start first_book turns) → Starts job start → Robined job start (machine words threads) → outcome ≡ read_outcome words threads → SafeRun job (ByRobin job) outcome
-ended_ran job start words threads outcome last safe s r e =
+pub ended_ran : (job : JobData) (start : Machine) (words : List ℕ) (threads : List Thread) (outcome : Outcome) → ((turns : List ℕ) → LastBook job start turns) → ((turns : List ℕ) → Safe job start first_book turns) → ((turns : List ℕ) → EndsRight (run job start turns)) → Starts job start → Robined job start (machine words threads) → outcome ≡ read_outcome words threads → SafeRun job (ByRobin job) outcome
+ended_ran job start words threads outcome last safe ends s r e =
     let l = last r.turns in
-    record { start = start; starts = s; turns = r.turns; schedule = r.robin; book = l.book; legal = l.last; is = e ∙ read_is job start r.turns words threads l r.robin s r.ran; safe = safe r.turns }
+    record {
+      start = start;
+      starts = s;
+      turns = r.turns;
+      schedule = r.robin;
+      complete = robin_complete job start None r.turns r.robin;
+      book = l.book;
+      legal = l.last;
+      is = e ∙ read_is job start r.turns words threads l r.robin s r.ran;
+      safe = safe r.turns;
+      exit = ends r.turns;
+    }

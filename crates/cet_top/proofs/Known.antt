@@ -4,7 +4,7 @@ use Rattle.std.proofs.Math.Nat.{min-eq_left, min-eq_right, min-le_left, min-le_r
 use Rattle.std.proofs.lemmas.Bool.{cases_lt}
 use Rattle.std.proofs.lemmas.List.{append_assoc, length-drop, take_all}
 use Rattle.std.specs.Io.KnownBytes.{Consumes, Appends}
-use Rattle.cet_io.specs.Stream.{AppendsSome, Rose, RoseAbove, RoseBy, added}
+use Rattle.cet_io.specs.Stream.{AppendsSome, Rose, RoseBy, added}
 
 pub Consumes-more : (a b c : Option (List ℕ)) (xs ys : List ℕ) → Consumes a b xs → Consumes b c ys → Consumes a c (xs ++ ys)
 Consumes-more None b c xs ys first second = tt
@@ -58,10 +58,6 @@ rose_more before now m n rose = (
   last_more (2 ^ 64 - 1) before now m n rose.0,
   (let l = min-le_left (now + n) (2 ^ 64 - 1) in let h = rose.1 in omega arith),
 )
-
--- a count that rose by more than n
-pub rose_above : (before now m n : ℕ) → RoseBy m before now → n < m → RoseAbove n before now
-rose_above before now m n rose l = (let u = min_up (2 ^ 64 - 1) (before + (n + 1)) (before + m) (omega arith) in let h = rose.0 in omega arith)
 
 -- a rise after the count was already there
 pub rose_later : (before mid now : ℕ) → before ≤ mid → Rose mid now → Rose before now

@@ -1,9 +1,13 @@
 mod Appended
+mod Signs
+mod Tables
+mod Filled
+mod WordSteps
+mod LineReads
 mod Faulty
-mod OptionWords
-mod FoundLemmas
-mod CommandLines
-mod Ahead
+mod FaultyLines
+mod CommandWords
+mod EveryOption
 mod Listed
 mod Known
 mod InputReads
@@ -11,6 +15,8 @@ mod Steps
 mod LiveGuests
 mod WordsFrom
 mod QuietTraces
+mod ScheduleLaws
 mod Finished
 mod Serving
+mod AnswerLaws
 pub mod TurnLaws

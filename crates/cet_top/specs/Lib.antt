@@ -2,7 +2,9 @@ pub mod Reading
 pub mod Status
 pub mod Settings
 pub mod Words
-pub mod Options
+pub mod Grammar
+pub mod Reader
+pub mod Table
 pub mod Line
 pub mod Report
 pub mod Schedule
@@ -12,5 +14,6 @@ pub mod Outcome
 pub mod FirstStack
 pub mod Shown
 pub mod Listing
+pub mod SafeRun
 pub mod Answer
 pub mod Serves

@@ -1,5 +1,5 @@
 -- What a finished run comes to: its threads and its process's end. Source: own.
-use Rattle.std.specs.Prelude.{ℕ, ◌+◌, ◌%◌, ◌==◌, nat_lt, if◌then◌else◌, List, [], ◌∷◌, Option, Some, None, unwrap_or}
+use Rattle.std.specs.Prelude.{ℕ, ◌+◌, ◌-◌, ◌==◌, nat_lt, if◌then◌else◌, List, [], ◌∷◌, Option, Some, None, unwrap_or}
 use Rattle.cet_isa.specs.declared.threads.End.{End}
 use Rattle.cet_isa.specs.declared.threads.End.TheVariants as ending
 use Rattle.cet_page.specs.Machine.{Thread}
@@ -41,5 +41,5 @@ ended_by outs None = process.Exit (first_status outs)
 unfoldable pub process_end : (exit : ℕ) → List ThreadOut → ProcessEnd
 process_end exit outs =
     if exit == 0 then ended_by outs (first_limit outs 0)
-    else if nat_lt exit 0x200 then process.Exit (exit % 256)
-    else process.Killed (exit % 256)
+    else if nat_lt exit 0x200 then process.Exit (exit - 0x100)
+    else process.Killed (exit - 0x200)

@@ -1,7 +1,7 @@
 -- What all reads of a command do to a source. Source: own.
-use Rattle.std.specs.Prelude.{ℕ, ◌<◌, ◌≤◌, ◌≡◌, List, [], ◌++◌, length, Option, Some, None, ⊤}
+use Rattle.std.specs.Prelude.{ℕ, ◌<◌, ◌≤◌, ◌≡◌, List, [], ◌++◌, length, Option, Some, None, IfSome, ⊤}
 use Rattle.std.specs.Io.KnownBytes.{Consumes}
-use Rattle.cet_io.specs.Stream.{Rose, RoseBy, Tally}
+use Rattle.cet_io.specs.Stream.{Rose, RoseBy, Tally, raised}
 
 -- the known bytes were exactly these, and none is left
 abbrev pub TakesAll : Option (List ℕ) → Option (List ℕ) → List ℕ → Type 0
@@ -19,46 +19,54 @@ abbrev pub source_state : Option (List ℕ) → ℕ → Option Tally → SourceS
 source_state left faults tally = record { left = left; faults = faults; tally = tally }
 
 -- by how much the counts of a tally have risen
-pub record CountsBy (bytes faults stops : ℕ) (before now : Tally) : Type 0 where
+pub record CountsBy (bytes stops : ℕ) (before now : Tally) : Type 0 where
   pub given : RoseBy bytes before.given now.given
-  pub failures : RoseBy faults before.failures now.failures
   pub ends : RoseBy stops before.ends now.ends
 
 -- the same, where the source keeps a tally
-abbrev pub TalliesBy : ℕ → ℕ → ℕ → Option Tally → Option Tally → Type 0
-TalliesBy given failures ends None new = ⊤
-TalliesBy given failures ends (Some t) None = ⊥
-TalliesBy given failures ends (Some t) (Some u) = CountsBy given failures ends t u
+abbrev pub TalliesBy : ℕ → ℕ → Option Tally → Option Tally → Type 0
+TalliesBy given ends None new = ⊤
+TalliesBy given ends (Some t) None = ⊥
+TalliesBy given ends (Some t) (Some u) = CountsBy given ends t u
+
+-- no read failed, where the source keeps a tally and so counts each that fails
+abbrev pub NoneFailed : SourceState → SourceState → Type 0
+NoneFailed src src' = IfSome src.tally (λ t. src'.faults ≡ src.faults)
+
+-- one read failed, likewise
+abbrev pub OneFailed : SourceState → SourceState → Type 0
+OneFailed src src' = IfSome src.tally (λ t. src'.faults ≡ raised src.faults)
 
 -- The source gave these bytes, at most 8,388,608, and none is left. No read failed, and one found the end.
 pub record ReadToEnd (src src' : SourceState) (bytes : List ℕ) : Type 0 where
   pub all : TakesAll src.left src'.left bytes
   pub short : length bytes ≤ 8388608
-  pub reads : TalliesBy (length bytes) 0 1 src.tally src'.tally
+  pub reads : TalliesBy (length bytes) 1 src.tally src'.tally
+  pub calm : NoneFailed src src'
 
--- The source gave these bytes, at most 8,388,608, and lost at most 4,096 more to a read that failed. No read found the end.
+-- The source gave these bytes, at most 8,388,608, and may have lost more to the one read that failed. No read found the end.
 pub record ReadUntilFault (src src' : SourceState) : Type 0 where
   pub bytes : List ℕ
   pub lost : List ℕ
   pub taken : Consumes src.left src'.left (bytes ++ lost)
   pub short : length bytes ≤ 8388608
-  pub few : length lost ≤ 4096
-  pub reads : TalliesBy (length bytes) 1 0 src.tally src'.tally
+  pub reads : TalliesBy (length bytes) 0 src.tally src'.tally
+  pub once : OneFailed src src'
   pub cause : Rose src.faults src'.faults
 
--- The source gave these bytes, more than 8,388,608 and at most 8,392,704. No read failed or found the end.
+-- The source gave these bytes, more than 8,388,608. No read failed or found the end.
 pub record ReadTooMuch (src src' : SourceState) : Type 0 where
   pub bytes : List ℕ
   pub taken : Consumes src.left src'.left bytes
   pub long : 8388608 < length bytes
-  pub few : length bytes ≤ 8392704
-  pub reads : TalliesBy (length bytes) 0 0 src.tally src'.tally
+  pub reads : TalliesBy (length bytes) 0 src.tally src'.tally
+  pub calm : NoneFailed src src'
 
 -- The source gave these bytes, and no read failed; at most one found the end.
 pub record ReadSome (src src' : SourceState) : Type 0 where
   pub bytes : List ℕ
   pub taken : Consumes src.left src'.left bytes
-  pub few : length bytes ≤ 8392704
   pub ends : ℕ
   pub once : ends ≤ 1
-  pub reads : TalliesBy (length bytes) 0 ends src.tally src'.tally
+  pub reads : TalliesBy (length bytes) ends src.tally src'.tally
+  pub calm : NoneFailed src src'

@@ -1,103 +1,77 @@
--- The grammar of the words: the lists of words that are commands, and the first faulty word of another list. Source: own; which
--- texts write a number is `number_of`.
-use Rattle.std.specs.Prelude.{ℕ, ◌+◌, ◌<◌, ◌≤◌, ◌≡◌, ◌≢◌, ◌⊎◌, ◌&&◌, nat_le, if◌then◌else◌, Bool, true, false, List, [], ◌∷◌, ◌++◌, length, take, fold, All, AllPairs, codes, Option, Some, None, option_map, option_and_then}
+-- The words that are commands. Source: own; which texts write a number is `number_of`.
+use Rattle.std.specs.Prelude.{ℕ, ◌≡◌, ◌&&◌, nat_le, if◌then◌else◌, Bool, List, [], ◌∷◌, fold, map, codes, Option, Some, None, is_some, unwrap_or, option_map, option_and_then}
+use Rattle.std.specs.Fmt.{decimal}
 use Rattle.cet_base.specs.Numbers.{number_of}
+use Rattle.cet_top.specs.Grammar.{CommandRow, Given, IsAmong, IsLine, OptionRow, Value}
 use Rattle.cet_top.specs.Settings.{SettingsData}
 use Rattle.cet_top.specs.declared.options.OptionName.{OptionName}
 use Rattle.cet_top.specs.declared.options.OptionName.TheVariants as option
-use Rattle.cet_top.specs.declared.options.Setting.{Setting}
-use Rattle.cet_top.specs.declared.options.Setting.TheVariants as setting
 use Rattle.cet_top.specs.declared.words.Command.{Command}
 use Rattle.cet_top.specs.declared.words.Command.TheVariants as command
 use Rattle.cet_top.specs.declared.words.CommandName.{CommandName}
 use Rattle.cet_top.specs.declared.words.CommandName.TheVariants as name
 
--- the word of a command
-abbrev pub command_word : CommandName → List ℕ
-command_word name.Run = codes "run"
-command_word name.Dis = codes "dis"
-command_word name.Asm = codes "asm"
-command_word name.Check = codes "check"
-
--- which options a command takes
-abbrev pub takes : CommandName → OptionName → Bool
-takes name.Run option.Limit = true
-takes name.Dis option.Limit = false
-takes name.Asm option.Limit = false
-takes name.Check option.Limit = false
-
--- the word of an option
-abbrev pub option_word : OptionName → List ℕ
-option_word option.Limit = codes "--limit"
-
 -- the number that a text writes, where it is one from low to high
 abbrev pub number_within : (low high : ℕ) → List ℕ → Option ℕ
 number_within low high text = option_and_then (λ n. if nat_le low n && nat_le n high then Some n else None) (number_of text)
 
--- what an option is set to by this value, where it is one that the option may have
-abbrev pub setting_of : OptionName → (value : List ℕ) → Option Setting
-setting_of option.Limit value = option_map setting.Limit (number_within 1 100000 value)
+-- the numbers from low to high
+abbrev pub number : (low high : ℕ) → Value
+number low high = record { fits = λ text. is_some (number_within low high text); example = decimal low }
 
--- which option it is
-abbrev pub option_of : Setting → OptionName
-option_of (setting.Limit n) = option.Limit
+-- ---- the options
 
--- one option, with its value in the next word or, behind `=`, in its own
-abbrev pub IsOption : Setting → List (List ℕ) → Type 0
-IsOption s words = (value : List ℕ) × (setting_of (option_of s) value ≡ Some s)
-    × ((words ≡ option_word (option_of s) ∷ value ∷ []) ⊎ (words ≡ (option_word (option_of s) ++ codes "=" ++ value) ∷ []))
+abbrev pub limit : OptionRow OptionName
+limit = record { name = option.Limit; word = codes "--limit"; value = Some (number 1 100000); part = 0 }
 
--- options, one after another
-abbrev pub AreOptions : List Setting → List (List ℕ) → Type 0
-AreOptions [] words = words ≡ []
-AreOptions (s ∷ ss) words = (first : List (List ℕ)) × (rest : List (List ℕ)) × IsOption s first × AreOptions ss rest × (words ≡ first ++ rest)
+-- those of every run
+abbrev pub common : List (OptionRow OptionName)
+common = limit ∷ []
 
--- the words are this command's, and then these options in any order: it takes each of them, and none comes twice
-pub record IsLine (words : List (List ℕ)) (name : CommandName) (given : List Setting) : Type 0 where
-  pub options : List (List ℕ)
-  pub whole : words ≡ command_word name ∷ options
-  pub spelled : AreOptions given options
-  pub taken : All (λ s. takes name (option_of s) ≡ true) given
-  pub once : AllPairs (λ s t. option_of s ≢ option_of t) given
+-- ---- the commands
+
+abbrev pub plain_row : CommandName → (word : List ℕ) → List (OptionRow OptionName) → CommandRow CommandName OptionName
+plain_row name word options = record { name = name; word = word; operands = []; options = options; needs = [] }
+
+abbrev pub commands : List (CommandRow CommandName OptionName)
+commands = plain_row name.Run (codes "run") common ∷ plain_row name.Dis (codes "dis") [] ∷ plain_row name.Asm (codes "asm") [] ∷ plain_row name.Check (codes "check") [] ∷ []
+
+-- ---- what they mean
 
 -- the settings where no option is given
 abbrev pub defaults : SettingsData
 defaults = record { limit = 100000 }
 
--- the settings with one of them set
-abbrev pub with_setting : SettingsData → Setting → SettingsData
-with_setting settings (setting.Limit n) = record settings { limit = n }
+-- an option sets its setting to its value
+abbrev pub with_option : SettingsData → OptionName → (value : List ℕ) → SettingsData
+with_option settings option.Limit value = record settings { limit = unwrap_or (number_within 1 100000 value) settings.limit }
 
--- each option sets its setting
-abbrev pub settings_of : List Setting → SettingsData
-settings_of given = fold with_setting defaults given
+-- no command has a word without a name
+abbrev pub with_operand : SettingsData → (word : List ℕ) → SettingsData
+with_operand settings word = settings
 
--- the command of this name with these options
-abbrev pub command_of : CommandName → List Setting → Command
-command_of name.Run given = command.Run (settings_of given)
-command_of name.Dis given = command.Dis
-command_of name.Asm given = command.Asm
-command_of name.Check given = command.Check
+abbrev pub with_given : SettingsData → Given OptionName → SettingsData
+with_given settings g = with_option settings g.option.name g.value
+
+abbrev pub settings_of : (operands : List (List ℕ)) → List (Given OptionName) → SettingsData
+settings_of operands given = fold with_given (fold with_operand defaults operands) given
+
+-- the command of this name with these settings
+abbrev pub command_of : CommandName → SettingsData → Command
+command_of name.Run settings = command.Run settings
+command_of name.Dis settings = command.Dis
+command_of name.Asm settings = command.Asm
+command_of name.Check settings = command.Check
 
 -- the words, each as its bytes, are this command
 pub record Means (words : List (List ℕ)) (command : Command) : Type 0 where
-  pub name : CommandName
-  pub given : List Setting
-  pub line : IsLine words name given
-  pub is : command ≡ command_of name given
+  pub row : CommandRow CommandName OptionName
+  pub among : IsAmong row commands
+  pub operands : List (List ℕ)
+  pub given : List (Given OptionName)
+  pub line : IsLine row operands given words
+  pub is : command ≡ command_of row.name (settings_of operands given)
 
 -- the words are some command
 abbrev pub IsCommand : List (List ℕ) → Type 0
 IsCommand words = (command : Command) × Means words command
-
-module _ (Accepted : List (List ℕ) → Type 0) where
-  -- an accepted list begins with these words
-  abbrev pub Begins : List (List ℕ) → Type 0
-  Begins words = (rest : List (List ℕ)) × Accepted (words ++ rest)
-
-  -- The words are not accepted, and the word of this number, counted from 1, is the first with which no accepted list
-  -- goes on; where there is none, words are missing after the last.
-  pub record FaultyWord (words : List (List ℕ)) (number : ℕ) : Type 0 where
-    pub refused : ¬ Accepted words
-    pub before : (n : ℕ) → n < number → Begins (take n words)
-    pub here : ((number ≤ length words) × ¬ Begins (take number words)) ⊎ (number ≡ length words + 1)

@@ -1,7 +1,7 @@
 //! What the commands do, between a source and a sink.
 
-ghost use Rattle.std.specs.Prelude.{◌≡◌, ◌≤◌, [], ◌∷◌, ◌++◌, codes, length, Ok, IfOk};
-ghost use Rattle.cet_top.specs.Answer.{Answers, Assembles, Checks, Disassembles, Faults, Reports, Runs, Refuses, job_of, job_with, status_of};
+ghost use Rattle.std.specs.Prelude.{◌≡◌, ◌≤◌, true, [], ◌∷◌, ◌++◌, codes, length, Ok, IfOk};
+ghost use Rattle.cet_top.specs.Answer.{Answers, Assembles, Checks, Disassembles, Faults, Reports, Runs, Refuses, job_of, job_with, reads, status_of};
 ghost use Rattle.cet_elf.specs.Accepts.{Accepts, image_of};
 ghost use Rattle.cet_elf.specs.Written.{written};
 ghost use Rattle.cet_top.specs.Listing.{IsListing};
@@ -44,12 +44,13 @@ fn status_of(end: ProcessEnd) -> Status
     }
 }
 
-/// Runs a job and reports.
-fn run_job(alloc: Global, job: &Job) -> Result<Answer, NoMemory>
-    ensures { IfOk result (λ answer. Reports job.now (ByRobin job.now) Style.Full answer.status answer.output) }
+/// Runs a job and reports in this style.
+fn run_job(alloc: Global, job: &Job, style: Style) -> Result<Answer, NoMemory>
+    ensures { IfOk result (λ answer.
+        Reports job.now (ByRobin job.now) style answer.status answer.output) }
 {
     let outcome = run(alloc, job)?;
-    let output = report(alloc, &outcome, Style::Full)?;
+    let output = report(alloc, &outcome, style)?;
     Ok(Answer {
         status: status_of(outcome.process),
         output,
@@ -57,9 +58,11 @@ fn run_job(alloc: Global, job: &Job) -> Result<Answer, NoMemory>
 }
 
 /// Runs an image by the settings.
-fn run_image(alloc: Global, settings: Settings, image: &Image) -> Result<Answer, NoMemory>
-    ensures { IfOk result (λ answer. let job = job_with settings image.now in Reports job (ByRobin job) Style.Full answer.status answer.output) }
+fn run_image(alloc: Global, settings: &Settings, image: &Image) -> Result<Answer, NoMemory>
+    ensures { IfOk result (λ answer. let job = job_with settings.now image.now in
+        Reports job (ByRobin job) Style.Full answer.status answer.output) }
 {
+    // The image's invariant holds of it from here on.
     let _entry = image.entry;
     let job = Job {
         image,
@@ -67,7 +70,7 @@ fn run_image(alloc: Global, settings: Settings, image: &Image) -> Result<Answer,
         limit: settings.limit,
         signals: &[],
     };
-    run_job(alloc, &job)
+    run_job(alloc, &job, Style::Full)
 }
 
 /// The answer to a file that isn't accepted.
@@ -81,8 +84,9 @@ fn refused(alloc: Global, rule: u8, offset: u64) -> Answer
 }
 
 /// Runs the image that the bytes are, by the settings.
-fn run_bytes(alloc: Global, settings: Settings, bytes: &[u8]) -> Result<Answer, NoMemory>
-    ensures { IfOk result (λ answer. Answers (Command.Run settings) bytes.now answer.status answer.output) }
+fn run_bytes(alloc: Global, settings: &Settings, bytes: &[u8]) -> Result<Answer, NoMemory>
+    ensures { IfOk result (λ answer.
+        Answers (Command.Run settings.now) bytes.now answer.status answer.output) }
 {
     match load(alloc, bytes) {
         Ok(image) => run_image(alloc, settings, &image),
@@ -170,9 +174,9 @@ fn assemble_bytes(alloc: Global, bytes: &[u8]) -> Result<Answer, NoMemory>
 }
 
 /// What a command answers to the bytes of the source.
-fn answer_to(alloc: Global, command: Command, bytes: &[u8]) -> Result<Answer, NoMemory>
+fn answer_to(alloc: Global, command: &Command, bytes: &[u8]) -> Result<Answer, NoMemory>
     requires short { length bytes.now ≤ 8388608 }
-    ensures { IfOk result (λ answer. Answers command bytes.now answer.status answer.output) }
+    ensures { IfOk result (λ answer. Answers command.now bytes.now answer.status answer.output) }
 {
     match command {
         Command::Run(settings) => run_bytes(alloc, settings, bytes),
@@ -182,15 +186,18 @@ fn answer_to(alloc: Global, command: Command, bytes: &[u8]) -> Result<Answer, No
     }
 }
 
-/// Serves a command: reads the source to its end, and writes the answer.
-pub(crate) fn serve<S: Source, K: Sink>(
+/// Reads the source to its end, and writes what the command answers to its bytes.
+fn read_and_answer<S: Source, K: Sink>(
     alloc: Global,
-    command: Command,
+    command: &Command,
     src: &mut S,
     sink: &mut K,
 ) -> Status
-    ensures { Serves command (source_state (S.left src.old) (S.faults src.old) (S.tally src.old)) (source_state (S.left src.new) (S.faults src.new) (S.tally src.new))
-        (sink_state (K.written sink.old) (K.faults sink.old)) (sink_state (K.written sink.new) (K.faults sink.new)) result }
+    ensures { Serves true (Answers command.now)
+        (source_state (S.left src.old) (S.faults src.old) (S.tally src.old))
+        (source_state (S.left src.new) (S.faults src.new) (S.tally src.new))
+        (sink_state (K.written sink.old) (K.faults sink.old))
+        (sink_state (K.written sink.new) (K.faults sink.new)) result }
 {
     let bytes = match read_all(alloc, src) {
         Ok(bytes) => bytes,
@@ -204,5 +211,25 @@ pub(crate) fn serve<S: Source, K: Sink>(
     match write_all(sink, answer.output.as_slice()) {
         Ok(()) => answer.status,
         Err(_) => Status::WriteFault,
+    }
+}
+
+/// Serves a command.
+pub(crate) fn serve<S: Source, K: Sink>(
+    alloc: Global,
+    command: &Command,
+    src: &mut S,
+    sink: &mut K,
+) -> Status
+    ensures { Serves (reads command.now) (Answers command.now)
+        (source_state (S.left src.old) (S.faults src.old) (S.tally src.old))
+        (source_state (S.left src.new) (S.faults src.new) (S.tally src.new))
+        (sink_state (K.written sink.old) (K.faults sink.old))
+        (sink_state (K.written sink.new) (K.faults sink.new)) result }
+{
+    match command {
+        Command::Run(_) | Command::Dis | Command::Asm | Command::Check => {
+            read_and_answer(alloc, command, src, sink)
+        }
     }
 }

@@ -1,6 +1,7 @@
 //! How a process ended.
 
 ghost use Rattle.std.specs.Prelude.{◌≡◌, ◌<◌, ◌≤◌, length, map, IfOk, IfSome};
+ghost use Rattle.cet_own.specs.ExitWord.{IsExitWord};
 ghost use Rattle.cet_top.specs.Guests.{threads_of};
 ghost use Rattle.cet_top.specs.Outcome.{first_limit, first_status, process_end, thread_out, status_in, ended_by};
 
@@ -40,7 +41,8 @@ fn first_status(outs: &[ThreadOut]) -> u8
 /// The process's end, by the word EXIT and the ends of its threads.
 #[tactic(auto, unfolding(crate::specs::Outcome::process_end))]
 pub(crate) fn process_end(exit: u64, outs: &[ThreadOut]) -> ProcessEnd
-    requires { length outs.now ≤ 32 }
+    requires word { IsExitWord exit }
+    requires few { length outs.now ≤ 32 }
     ensures { result ≡ process_end exit outs.now }
 {
     if exit == 0 {
@@ -49,11 +51,10 @@ pub(crate) fn process_end(exit: u64, outs: &[ThreadOut]) -> ProcessEnd
             None => ProcessEnd::Exit(first_status(outs)),
         };
     }
-    let low = (exit % 256) as u8;
     if exit < 0x200 {
-        ProcessEnd::Exit(low)
+        ProcessEnd::Exit((exit - 0x100) as u8)
     } else {
-        ProcessEnd::Killed(low)
+        ProcessEnd::Killed((exit - 0x200) as u8)
     }
 }
 

@@ -1,22 +1,19 @@
 //! What the program `cetvm` does, over a source of bytes and a sink of bytes.
 #![tactic(auto)]
 
-#[cfg(test)]
-mod asm_tests;
 mod commands;
 mod ends;
+mod grammar;
 mod guests;
+mod laws;
 mod lines;
 mod listing;
-#[cfg(test)]
-mod listing_tests;
-#[cfg(test)]
-mod machine_tests;
 mod options;
 mod outcomes;
 #[cfg(test)]
 mod program_tests;
 mod programs;
+mod reader;
 mod reports;
 mod runs;
 mod stacks;
@@ -27,6 +24,7 @@ mod transfers;
 mod turns;
 mod words;
 
+pub use laws::{answers_are_one, schedules_are_complete, schedules_are_one};
 pub use outcomes::{
     Outcome, ProcessEnd, Records, Region, Shown, StackReport, StackReports, Style, ThreadOut,
     ThreadOuts,

@@ -1,9 +1,11 @@
 //! The program, over a source of bytes and a sink of bytes.
 
-ghost use Rattle.std.specs.Prelude.{◌≡◌, ◌↔◌, ℕ, map, string_bytes};
-ghost use Rattle.cet_top.specs.Serves.{Completes, IsUntouched, Serves, sink_state};
+ghost use Rattle.std.specs.Prelude.{◌≡◌, ◌↔◌, ◌⊎◌, ℕ, map, string_bytes};
+ghost use Rattle.cet_top.specs.Answer.{Answers, reads};
+ghost use Rattle.cet_top.specs.Grammar.{FaultyWord};
 ghost use Rattle.cet_top.specs.Reading.{source_state};
-ghost use Rattle.cet_top.specs.Words.{FaultyWord, IsCommand, Means};
+ghost use Rattle.cet_top.specs.Serves.{Completes, GaveTooMuch, IsUntouched, Serves, sink_state};
+ghost use Rattle.cet_top.specs.Words.{IsCommand, Means};
 ghost use Rattle.cet_top.specs.declared.words.Command.{Command};
 
 use crate::commands::serve;
@@ -21,25 +23,44 @@ pub fn plain<S: Source, K: Sink>(
     src: &mut S,
     sink: &mut K,
 ) -> Status
-    // The words are no command exactly where that is the answer. Then nothing is read or written.
-    ensures usage { (number : ℕ) → (result ≡ Status.Usage number) ↔ FaultyWord IsCommand (map string_bytes words.now) number }
-    ensures unread { (number : ℕ) → result ≡ Status.Usage number →
-        IsUntouched (source_state (S.left src.old) (S.faults src.old) (S.tally src.old)) (source_state (S.left src.new) (S.faults src.new) (S.tally src.new))
-        (sink_state (K.written sink.old) (K.faults sink.old)) (sink_state (K.written sink.new) (K.faults sink.new)) }
+    // The words are a command, or one of them is the first faulty one.
+    ensures command { ((number : ℕ) × FaultyWord IsCommand (map string_bytes words.now) number)
+        ⊎ ((command : Command) × Means (map string_bytes words.now) command) }
 
-    // Each other answer has its cause, and what was written is the answer to what was read, or its first part.
-    ensures serves { (command : Command) → Means (map string_bytes words.now) command →
-        Serves command (source_state (S.left src.old) (S.faults src.old) (S.tally src.old)) (source_state (S.left src.new) (S.faults src.new) (S.tally src.new))
-        (sink_state (K.written sink.old) (K.faults sink.old)) (sink_state (K.written sink.new) (K.faults sink.new)) result }
+    // They are no command exactly where that is the answer. Then nothing is read or written.
+    ensures usage { (number : ℕ) →
+        (result ≡ Status.Usage number) ↔ FaultyWord IsCommand (map string_bytes words.now) number }
+    ensures unread { (number : ℕ) → FaultyWord IsCommand (map string_bytes words.now) number → IsUntouched
+        (source_state (S.left src.old) (S.faults src.old) (S.tally src.old))
+        (source_state (S.left src.new) (S.faults src.new) (S.tally src.new))
+        (sink_state (K.written sink.old) (K.faults sink.old))
+        (sink_state (K.written sink.new) (K.faults sink.new)) }
 
-    // Where the input isn't too long and nothing fails, the whole answer is written.
-    ensures completes { (command : Command) → Means (map string_bytes words.now) command →
-        Completes command (source_state (S.left src.old) (S.faults src.old) (S.tally src.old)) (source_state (S.left src.new) (S.faults src.new) (S.tally src.new))
-        (sink_state (K.written sink.old) (K.faults sink.old)) (sink_state (K.written sink.new) (K.faults sink.new)) result }
+    // Each other answer has its cause, and what was written is the answer to what was read, or its first
+    // part.
+    ensures serves { (command : Command) → Means (map string_bytes words.now) command → Serves
+        (reads command) (Answers command)
+        (source_state (S.left src.old) (S.faults src.old) (S.tally src.old))
+        (source_state (S.left src.new) (S.faults src.new) (S.tally src.new))
+        (sink_state (K.written sink.old) (K.faults sink.old))
+        (sink_state (K.written sink.new) (K.faults sink.new)) result }
+
+    // Where nothing fails the whole answer is written, but for too long an input and for want of memory.
+    ensures completes { (command : Command) → Means (map string_bytes words.now) command → Completes
+        (reads command) (Answers command)
+        (source_state (S.left src.old) (S.faults src.old) (S.tally src.old))
+        (source_state (S.left src.new) (S.faults src.new) (S.tally src.new))
+        (sink_state (K.written sink.old) (K.faults sink.old))
+        (sink_state (K.written sink.new) (K.faults sink.new)) result }
+
+    // An input that is counted and too long is told so, but for want of memory.
+    ensures too_long { GaveTooMuch
+        (source_state (S.left src.old) (S.faults src.old) (S.tally src.old))
+        (source_state (S.left src.new) (S.faults src.new) (S.tally src.new)) →
+        (result ≡ Status.TooLong) ⊎ (result ≡ Status.NoMemory) }
 {
-    let status = match read_words(words) {
-        Ok(command) => serve(alloc, command, src, sink),
+    match read_words(words) {
+        Ok(command) => serve(alloc, &command, src, sink),
         Err(number) => Status::Usage(number),
-    };
-    status
+    }
 }

@@ -1,9 +1,11 @@
 //! A run of a job by Robin.
 
-ghost use Rattle.std.specs.Prelude.{◌≡◌, ◌≤◌, length, IfOk};
+ghost use Rattle.std.specs.Prelude.{◌≡◌, ◌≤◌, length, slice_index, IfOk};
+ghost use Rattle.cet_words.specs.Layout.{exit_word};
 ghost use Rattle.cet_page.specs.Machine.{Starts, machine};
-ghost use Rattle.cet_top.specs.Answer.{SafeRun};
+ghost use Rattle.cet_own.specs.ExitWord.{IsExitWord};
 ghost use Rattle.cet_top.specs.FirstStack.{KeepsFirsts, first_stacks, read_outcome};
+ghost use Rattle.cet_top.specs.SafeRun.{SafeRun};
 ghost use Rattle.cet_top.specs.Schedule.{ByRobin};
 ghost use Rattle.cet_top.specs.Guests.{AllGuests, threads_of};
 
@@ -43,6 +45,7 @@ fn read_outcome<P: Perform>(
 ) -> Result<Outcome, NoMemory>
     requires keeps { KeepsFirsts (threads_of guests.items) }
     requires few { length guests.items ≤ 32 }
+    requires word { IsExitWord (slice_index (P.words words.old) exit_word) }
     ensures { IfOk result (λ outcome. outcome ≡ read_outcome (P.words words.old) (threads_of guests.items)) }
 {
     let exit = words.perform(Access::Load(EXIT_WORD));
@@ -78,6 +81,7 @@ fn finish(
     requires cores { AllGuests job.now guests.items }
     ensures { IfOk result (SafeRun job.now (ByRobin job.now)) }
 {
+    // The job's invariant holds of it from here on.
     let _limit = job.limit;
     robin(alloc, job, &mut words, &mut guests)?;
     read_outcome(alloc, &mut words, guests)

@@ -1,15 +1,17 @@
 //! The words of a command.
 
-ghost use Rattle.std.specs.Prelude.{◌≡◌, ◌↔◌, ◌∷◌, [], IsTrue, map, string_bytes, MatchOption, MatchResult};
-ghost use Rattle.cet_top.specs.declared.words.CommandName.{CommandName};
-ghost use Rattle.cet_top.specs.Options.{IsFound, command_by};
-ghost use Rattle.cet_top.specs.Words.{FaultyWord, IsCommand, Means, command_word, takes};
+ghost use Rattle.std.specs.Prelude.{◌≡◌, ◌∷◌, map, string_bytes, MatchResult};
+ghost use Rattle.cet_top.specs.Grammar.{FaultyWord, IsAmong};
+ghost use Rattle.cet_top.specs.Table.{command_view};
+ghost use Rattle.cet_top.specs.Words.{IsCommand, Means, command_of, commands};
 
-use crate::options::{Found, OptionName, Settings, read_options};
+use crate::grammar::{CommandRow, find_command};
+use crate::options::Settings;
+use crate::reader::Reader;
 
 /// A command with its options.
-#[derive(Clone, Copy, Debug, PartialEq, Eq)]
-pub(crate) enum Command {
+#[derive(Debug, Drop, PartialEq, Eq)]
+pub enum Command {
     /// `run`: runs the image that the source gives, and reports.
     Run(Settings),
     /// `dis`: lists the code of the image that the source gives.
@@ -30,25 +32,12 @@ pub(crate) enum CommandName {
 }
 
 impl CommandName {
-    /// Whether the command takes this option.
-    pub(crate) fn takes(self, option: OptionName) -> bool
-        ensures { result ≡ takes self option }
-    {
-        match (self, option) {
-            (CommandName::Run, OptionName::Limit) => true,
-            (CommandName::Dis, OptionName::Limit) => false,
-            (CommandName::Asm, OptionName::Limit) => false,
-            (CommandName::Check, OptionName::Limit) => false,
-        }
-    }
-
-    /// The command with these options.
-    fn with(self, found: Found) -> Command
-        requires { IsFound found }
-        ensures { result ≡ command_by self found }
+    /// The command of this name with these settings.
+    pub(crate) fn with(self, settings: Settings) -> Command
+        ensures { result ≡ command_of self settings }
     {
         match self {
-            CommandName::Run => Command::Run(found.settings()),
+            CommandName::Run => Command::Run(settings),
             CommandName::Dis => Command::Dis,
             CommandName::Asm => Command::Asm,
             CommandName::Check => Command::Check,
@@ -56,20 +45,27 @@ impl CommandName {
     }
 }
 
-/// The command that has this word.
-fn command_named(word: &str) -> Option<CommandName>
-    ensures { MatchOption result ((name : CommandName) → ¬ (word.now ≡ command_word name)) (λ name. word.now ≡ command_word name) }
+/// Reads the words behind a command's own. The error is the number of the first faulty word of all.
+fn read_line(row: CommandRow, words: &[String]) -> Result<Command, u32>
+    requires { IsAmong (command_view row) commands }
+    ensures { MatchResult result (Means (row.word.now ∷ map string_bytes words.now))
+        (FaultyWord IsCommand (row.word.now ∷ map string_bytes words.now)) }
 {
-    match word {
-        "run" => Some(CommandName::Run),
-        "dis" => Some(CommandName::Dis),
-        "asm" => Some(CommandName::Asm),
-        "check" => Some(CommandName::Check),
-        _ => None,
+    let mut reader = Reader::new(row);
+    'words: for at in 0..words.len() {
+        match reader.step(words[at].as_str()) {
+            Some(next) => reader = next,
+            None => return Err(at as u32 + 2),
+        }
+    }
+    if reader.may_end() {
+        Ok(reader.command())
+    } else {
+        Err(words.len() as u32 + 2)
     }
 }
 
-/// Reads the words of a command. The error is the number of the first faulty word.
+/// Reads the words of a command. The error is the number of the first faulty word. It takes no memory.
 pub(crate) fn read_words(words: &[String]) -> Result<Command, u32>
     ensures { MatchResult result (Means (map string_bytes words.now))
         (FaultyWord IsCommand (map string_bytes words.now)) }
@@ -77,9 +73,8 @@ pub(crate) fn read_words(words: &[String]) -> Result<Command, u32>
     let Some((first, rest)) = words.split_first() else {
         return Err(1);
     };
-    let Some(name) = command_named(first.as_str()) else {
+    let Some(row) = find_command(first.as_str()) else {
         return Err(1);
     };
-    let found = read_options(name, rest)?;
-    Ok(name.with(found))
+    read_line(row, rest)
 }

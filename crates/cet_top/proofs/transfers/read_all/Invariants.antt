@@ -7,7 +7,6 @@ abbrev pub invariant-reads : goal.invariant-reads
 invariant-reads g l = record {
   later : g.S.Source.faults l.initial.src ≤ g.S.Source.faults l.src;
   size : length l.buf ≡ 4096;
-  few : length l.bytes ≤ 8392704;
   reading : Reading (source_state (g.S.Source.left l.initial.src) (g.S.Source.faults l.initial.src) (g.S.Source.tally l.initial.src))
       (source_state (g.S.Source.left l.src) (g.S.Source.faults l.src) (g.S.Source.tally l.src)) l.bytes;
 }

@@ -18,5 +18,6 @@ writes-preserved g c =
     record {
       within = search rules;
       later = omega (arith, so_far.later, c.in_ok-at.ensures.cause.later);
+      unused = λ z. absurd (let t = c.writes-test.true in let some = c.in_ok-at.ensures.bytes.some (let n = length-drop c.writes.at c.args.bytes.now in omega arith) in omega arith);
       written = Appends-more _ _ _ c.writes.at c.in_ok-at.field-0 c.args.bytes.now so_far.written (rw (take_rest c.args.bytes.now c.writes.at) at writes.appended);
     }

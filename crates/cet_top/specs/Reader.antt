@@ -1,0 +1,89 @@
+-- How a line is read by a grammar's table, one word after another. Source: own.
+use Rattle.std.specs.Prelude.{ℕ, ◌+◌, ◌*◌, ◌==◌, ◌&&◌, not, replicate, Bool, true, false, cond, List, [], ◌∷◌, length, Option, Some, None, option_and_then, option_map, slice_get, slice_set, unwrap_or, find}
+use Rattle.std.specs.List.{list_all}
+use Rattle.std.specs.Str.{bytes_eq}
+use Rattle.cet_top.specs.Grammar.{CommandRow, OptionRow, Value}
+
+-- a word up to its first `=`, and what stands behind that
+abbrev pub front : List ℕ → List ℕ
+front [] = []
+front (c ∷ cs) = cond (c == 61) [] (c ∷ front cs)
+
+abbrev pub back : List ℕ → Option (List ℕ)
+back [] = None
+back (c ∷ cs) = cond (c == 61) (Some cs) (back cs)
+
+-- What was read of a line, and what may still come: the words without a name that are still to come, the option whose value is,
+-- for each part whether there is an option of it, and what the values so far set.
+pub record Reader (C O S : Type 0) : Type 0 where
+  pub row : CommandRow C O
+  pub operands : List Value
+  pub wants : Option (OptionRow O)
+  pub filled : List Bool
+  pub sets : S
+
+abbrev pub find_option : {O : Type 0} → List (OptionRow O) → List ℕ → Option (OptionRow O)
+find_option rows word = find (λ r. bytes_eq r.word word) rows
+
+abbrev pub find_command : {C O : Type 0} → List (CommandRow C O) → List ℕ → Option (CommandRow C O)
+find_command rows word = find (λ r. bytes_eq r.word word) rows
+
+-- there is no option of the part yet, and there may be one
+abbrev pub is_open : List Bool → (part : ℕ) → Bool
+is_open filled part = not (unwrap_or (slice_get filled part) true)
+
+abbrev pub is_filled : List Bool → (part : ℕ) → Bool
+is_filled filled part = unwrap_or (slice_get filled part) false
+
+-- no option of eight parts
+abbrev pub none_filled : List Bool
+none_filled = replicate 8 false
+
+abbrev pub start : {C O S : Type 0} → CommandRow C O → S → Reader C O S
+start row sets = record { row = row; operands = row.operands; wants = None; filled = none_filled; sets = sets }
+
+abbrev pub ends_by : {C O S : Type 0} → Reader C O S → Option (OptionRow O) → List Value → Bool
+ends_by r (Some o) vs = false
+ends_by r None (v ∷ vs) = false
+ends_by r None [] = list_all (is_filled r.filled) r.row.needs
+
+-- the line may end here
+abbrev pub may_end : {C O S : Type 0} → Reader C O S → Bool
+may_end r = ends_by r r.wants r.operands
+
+-- what a word without a name sets, and what an option does
+module _ {C O S : Type 0} (with_operand : S → List ℕ → S) (with_option : S → O → List ℕ → S) where
+  -- with one option more
+  abbrev pub filled_by : Reader C O S → OptionRow O → (value : List ℕ) → Reader C O S
+  filled_by r o value = record r { wants = None; filled = slice_set r.filled o.part true; sets = with_option r.sets o.name value }
+
+  abbrev pub value_step : Reader C O S → OptionRow O → Option Value → (word : List ℕ) → Option (Reader C O S)
+  value_step r o None word = None
+  value_step r o (Some v) word = cond (v.fits word) (Some (filled_by r o word)) None
+
+  abbrev pub operand_step : Reader C O S → Value → List Value → (word : List ℕ) → Option (Reader C O S)
+  operand_step r v vs word = cond (v.fits word) (Some (record r { operands = vs; sets = with_operand r.sets word })) None
+
+  -- an option's word, and what stands behind `=`
+  abbrev pub option_begins : Reader C O S → OptionRow O → Option Value → Option (List ℕ) → Option (Reader C O S)
+  option_begins r o None None = Some (filled_by r o [])
+  option_begins r o None (Some text) = None
+  option_begins r o (Some v) None = Some (record r { wants = Some o })
+  option_begins r o (Some v) (Some text) = value_step r o (Some v) text
+
+  abbrev pub option_by : Reader C O S → Option (OptionRow O) → Option (List ℕ) → Option (Reader C O S)
+  option_by r None text = None
+  option_by r (Some o) text = cond (is_open r.filled o.part) (option_begins r o o.value text) None
+
+  abbrev pub step_by : Reader C O S → Option (OptionRow O) → List Value → (word : List ℕ) → Option (Reader C O S)
+  step_by r (Some o) vs word = value_step r o o.value word
+  step_by r None (v ∷ vs) word = operand_step r v vs word
+  step_by r None [] word = option_by r (find_option r.row.options (front word)) (back word)
+
+  -- one word more; none where no line goes on with it
+  abbrev pub step : Reader C O S → (word : List ℕ) → Option (Reader C O S)
+  step r word = step_by r r.wants r.operands word
+
+  abbrev pub steps : Reader C O S → (words : List (List ℕ)) → Option (Reader C O S)
+  steps r [] = Some r
+  steps r (w ∷ ws) = option_and_then (λ s. steps s ws) (step r w)

@@ -1,0 +1,127 @@
+#!/bin/sh
+# Runs the program that `rt ci` has left on the cases beside this file, and compares what it writes. The first argument
+# may name another program.
+#
+# NAME.case is one run. Its first lines have keys: `words:`, `status:` (the exit status), `line:` (that on standard
+# error), `patch: OFFSET HEX` (bytes of the image that are written over) and `cut: SIZE` (the image's first bytes). Behind
+# `source:` stands an assembler text, whose image is the input (of `asm` the text itself), and behind `output:` what is
+# written; nothing, where that is missing.
+#
+# words.cases has a list of words a line, and before it the number of its first faulty word, or `-` where it is a command.
+# texts.cases has a text a line, with `|` for a newline, and before it the line and the rule that it breaks.
+# images.cases has a change of an image a line: the rule that it breaks and the place, and then a `patch` or `cut`.
+cd "$(dirname "$0")" || exit 1
+cetvm=${1:-../../crates/cetvm/out/cetvm}
+if [ ! -x "$cetvm" ]; then
+    echo "cases: no program at $cetvm"
+    exit 1
+fi
+work=$(mktemp -d) || exit 1
+trap 'rm -rf "$work"' EXIT
+failed=0
+count=0
+
+fail() {
+    echo "cases: $1"
+    failed=1
+}
+
+# writes bytes, in hexadecimal, over those of a file from a place on
+patch() {
+    octal=$(echo "$3" | sed 's/../0x& /g' | xargs -n 1 printf '\\0%03o')
+    printf '%b' "$octal" | dd of="$1" bs=1 seek="$2" conv=notrunc 2> /dev/null
+}
+
+# cuts a file off
+cut_off() {
+    head -c "$2" "$1" > "$work/part" && mv "$work/part" "$1"
+}
+
+# the program by these words on $work/input: the status, and then the line on standard error
+answers() {
+    "$cetvm" "$@" < "$work/input" > "$work/written" 2> "$work/error"
+    echo "$? $(cat "$work/error")"
+}
+
+for case in *.case; do
+    name=${case%.case}
+    count=$((count + 1))
+    : > "$work/source"
+    : > "$work/output"
+    awk -v dir="$work" '
+        part { print > (dir "/" part); next }
+        /^source:$/ { part = "source"; next }
+        /^output:$/ { part = "output"; next }
+        { print > (dir "/keys") }
+    ' "$case"
+    awk '/^output:$/ { exit } { print }' "$work/source" > "$work/text"
+    awk 'on { print } /^output:$/ { on = 1 }' "$work/source" >> "$work/output"
+    words=$(sed -n 's/^words: //p' "$work/keys")
+    case $words in
+    asm*) cp "$work/text" "$work/input" ;;
+    *) "$cetvm" asm < "$work/text" > "$work/input" || fail "$name is not assembled" ;;
+    esac
+    sed -n 's/^patch: //p' "$work/keys" > "$work/patches"
+    while read -r place bytes; do
+        patch "$work/input" "$place" "$bytes"
+    done < "$work/patches"
+    size=$(sed -n 's/^cut: //p' "$work/keys")
+    [ -n "$size" ] && cut_off "$work/input" "$size"
+    # shellcheck disable=SC2086
+    told=$(answers $words)
+    wanted="$(sed -n 's/^status: //p' "$work/keys") $(sed -n 's/^line: //p' "$work/keys")"
+    [ "$told" = "$wanted" ] || fail "$name ends by $told, not by $wanted"
+    cmp "$work/written" "$work/output" || fail "$name writes something else"
+done
+
+printf 'mov edi, 7\nmov eax, 60\nsyscall\n' | "$cetvm" asm > "$work/image" || fail "the image is not assembled"
+
+while read -r number words; do
+    count=$((count + 1))
+    cp "$work/image" "$work/input"
+    # shellcheck disable=SC2086
+    told=$(answers $words)
+    if [ "$number" = - ]; then
+        case $told in
+        "1 "*) fail "the words $words are refused" ;;
+        esac
+    else
+        [ "$told" = "1 cetvm: usage: word $number" ] || fail "the words $words are answered $told"
+        [ -s "$work/written" ] && fail "the words $words have an output"
+    fi
+done < words.cases
+
+while read -r line rule text; do
+    count=$((count + 1))
+    printf '%b' "$(echo "$text" | sed 's/|/\\n/g')" > "$work/input"
+    told=$(answers asm)
+    [ "$told" = "5 cetvm: line $line: rule $rule" ] || fail "the text $text is answered $told"
+    [ -s "$work/written" ] && fail "the text $text has an output"
+done < texts.cases
+
+while read -r rule place change at bytes; do
+    count=$((count + 1))
+    cp "$work/image" "$work/input"
+    case $change in
+    patch) patch "$work/input" "$at" "$bytes" ;;
+    cut) cut_off "$work/input" "$at" ;;
+    esac
+    for words in run dis check; do
+        told=$(answers $words)
+        [ "$told" = "4 cetvm: refused: rule $rule at $place" ] || fail "$words after $change $at $bytes is answered $told"
+        [ -s "$work/written" ] && fail "$words after $change $at $bytes has an output"
+    done
+done < images.cases
+
+count=$((count + 1))
+head -c 8388609 /dev/zero > "$work/input"
+told=$(answers run)
+[ "$told" = "6 cetvm: input too long" ] || fail "a byte too much is answered $told"
+cut_off "$work/input" 8388608
+told=$(answers run)
+[ "$told" = "4 cetvm: refused: rule 1 at 0" ] || fail "as many bytes as may be are answered $told"
+
+if [ "$failed" = 0 ]; then
+    echo "cases: $count as stated"
+fi
+exit "$failed"
