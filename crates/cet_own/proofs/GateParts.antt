@@ -1,10 +1,10 @@
 -- What a thread claims of the gate's way in and way out. Source: own.
-use Rattle.std.proofs.Common.{◌≡◌, ℕ, ◌+◌, ◌-◌, ◌<◌, ◌≤◌, inl, inr, true, [], ◌∷◌, length, Option, Some, None, refl, sym, ◌∙◌, ap, arith, eqb}
+use Rattle.std.proofs.Common.{◌≡◌, ℕ, ◌+◌, ◌-◌, ◌<◌, ◌≤◌, inl, inr, true, length, Option, Some, None, refl, sym, ◌∙◌, ap, arith, eqb}
 use Rattle.std.specs.Prelude.{option_map, option_and_then}
 use Rattle.std.proofs.lemmas.Bool.{cases_lt}
 use Rattle.std.proofs.lemmas.Bool.Decides.{eqb_tells, nat_tests}
 use Rattle.cet_words.specs.Job.{JobData}
-use Rattle.cet_words.specs.Change.{Busied, Freed, Ended}
+use Rattle.cet_words.specs.Change.{Busied, Freed}
 use Rattle.cet_isa.specs.declared.threads.Arch.{Arch}
 use Rattle.cet_book.specs.Book.{Lost, Book, region, top, stack_of, put_stack, current_of, book_after}
 use Rattle.cet_book.proofs.Shape.{StackShape}
@@ -14,6 +14,7 @@ use Rattle.cet_book.proofs.Supervisor.{stack_of-put_stack, current_of-put_stack}
 use Rattle.cet_book.proofs.Ways.{busied_way, freed_way, ended_way}
 use Rattle.cet_page.specs.Script.{Script, ◌>>=◌}
 use Rattle.cet_page.specs.Parts.{exchange_as}
+use Rattle.cet_page.specs.declared.finishes.Leaving.TheVariants as leaving
 use Rattle.cet_page.specs.Gate.{token, token_page, token_word, kernel_return, gate_in, gate_out}
 use Rattle.cet_own.proofs.Holds.{IsOut, busy}
 use Rattle.cet_own.proofs.Standing.{Stacked, Free, AtRest, rest_kept, Inside, inside_kept, HasNone}
@@ -105,10 +106,10 @@ module _ (job : JobData) (arch : Arch) (l : own_stack job arch.number < 8) where
       )))
 
   -- the way out
-  pub gate_out_then : {A : Type 0} (Q : State → State → A → Type 0) (before s : State) (f : Unit {0} → Script A) → Inside arch.number gate s.book arch.ssp → ((z n : State) → AtRest arch.number n.book arch.ssp → Claim job arch Q z n (f tt)) → Claim job arch Q before s (gate_out [] gate >>= f)
+  pub gate_out_then : {A : Type 0} (Q : State → State → A → Type 0) (before s : State) (f : Unit {0} → Script A) → Inside arch.number gate s.book arch.ssp → ((z n : State) → AtRest arch.number n.book arch.ssp → Claim job arch Q z n (f tt)) → Claim job arch Q before s (gate_out leaving.Back gate >>= f)
   unfolding gate_out exchange_as
   gate_out_then Q before s f inside h =
-      claim_bind job arch Q before s (gate_out [] gate) f
+      claim_bind job arch Q before s (gate_out leaving.Back gate) f
       (load_then job arch (λ z n x. Claim job arch Q z n (f x)) before s (token_word gate - 1) _ inside.stacked (λ now r v.
       let inside' = inside_kept r inside in
       claim_bind job arch (λ z n x. Claim job arch Q z n (f x)) now now _ _ (
@@ -128,10 +129,10 @@ module _ (job : JobData) (arch : Arch) (l : own_stack job arch.number < 8) where
       )))
 
   -- the way out of a thread that ends
-  pub exit_out_then : {A : Type 0} (Q : State → State → A → Type 0) (before s : State) (f : Unit {0} → Script A) → Inside arch.number gate s.book arch.ssp → ((z n : State) → HasNone arch.number n.book → Claim job arch Q z n (f tt)) → Claim job arch Q before s (gate_out (Ended ∷ []) gate >>= f)
+  pub exit_out_then : {A : Type 0} (Q : State → State → A → Type 0) (before s : State) (status : ℕ) (f : Unit {0} → Script A) → Inside arch.number gate s.book arch.ssp → ((z n : State) → HasNone arch.number n.book → Claim job arch Q z n (f tt)) → Claim job arch Q before s (gate_out (leaving.Ended status) gate >>= f)
   unfolding gate_out exchange_as
-  exit_out_then Q before s f inside h =
-      claim_bind job arch Q before s (gate_out (Ended ∷ []) gate) f
+  exit_out_then Q before s status f inside h =
+      claim_bind job arch Q before s (gate_out (leaving.Ended status) gate) f
       (load_then job arch (λ z n x. Claim job arch Q z n (f x)) before s (token_word gate - 1) _ inside.stacked (λ now r v.
       let inside' = inside_kept r inside in
       claim_bind job arch (λ z n x. Claim job arch Q z n (f x)) now now _ _ (

@@ -12,7 +12,7 @@ use Rattle.cet_book.proofs.Hand.{hand}
 use Rattle.cet_book.proofs.Removes.{returned_is, shortened}
 use Rattle.cet_book.proofs.Supervisor.{stack_of-put_stack}
 use Rattle.cet_book.proofs.Ways.{with_current_at, called_way, ended_way, freed_way, busied_way}
-use Rattle.cet_page.specs.Core.{held_after}
+use Rattle.cet_page.specs.Script.{held_after}
 use Rattle.cet_own.proofs.Holds.{Holds}
 use Rattle.cet_own.proofs.Standing.{Free}
 use Rattle.cet_own.proofs.Classes.{Owed, looks, loads, stores, exchanges, swaps, adds, clears, pushes, pops, refused, enters, leaves, exits}

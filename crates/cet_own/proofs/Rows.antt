@@ -13,6 +13,7 @@ use Rattle.cet_isa.specs.declared.instructions.Instr.{Instr}
 use Rattle.cet_isa.specs.declared.instructions.Instr.TheVariants as instr
 use Rattle.cet_isa.specs.declared.threads.Arch.{Arch}
 use Rattle.cet_isa.specs.declared.threads.Fault.{Fault}
+use Rattle.cet_isa.specs.declared.threads.Record.{Record}
 use Rattle.cet_book.proofs.Addresses.{IsReturn}
 use Rattle.cet_page.specs.Script.{◌>>=◌}
 use Rattle.cet_page.specs.Fetch.{fetchable, joined, missing, missing_in}
@@ -21,7 +22,8 @@ use Rattle.cet_page.specs.Family.{family_of}
 use Rattle.cet_page.specs.Flow.{flow}
 use Rattle.cet_page.specs.declared.families.Family.{Family}
 use Rattle.cet_page.specs.declared.families.Family.TheVariants as families
-use Rattle.cet_page.specs.Gate.{exit_word, pend_word, handler_word, exit_status, made_page, clears, exit, exit_group, no_call, service, syscall, inside, signal_of, kill, deliver}
+use Rattle.cet_page.specs.Gate.{exit_word, pend_word, handler_word, exit_status, made_page, clears, enosys, serve, exit, exit_group, service, Work, inside, leave, entered, signal_of, is_masked, kill, delivery}
+use Rattle.cet_page.specs.declared.finishes.Leaving.{Leaving}
 use Rattle.cet_page.specs.Parts.{invalid_opcode}
 use Rattle.cet_page.specs.Row.{execute_family, fetched, instruction, instruction_bytes, boundary, row, row_from}
 use Rattle.cet_own.specs.Safe.{is_near_return, IsElsewhere, IsNearReturn}
@@ -86,51 +88,52 @@ module _ (job : JobData) (j : IsJob job) (arch : Arch) where
 
   -- ---- kernel calls and the kill
 
-  exit_claim : (before s : State) → IsElsewhere job arch → IsMade arch.made → Inside arch.number (own_stack job arch.number) s.book arch.ssp → Claim job arch (Ends job arch) before s (exit arch (own_stack job arch.number))
+  -- what a piece of the kernel's work leads to: the way out, and the end of the row
+  abbrev pub Leaves : State → State → Arch × Record × Leaving → Type 0
+  Leaves before s x = Claim job arch (Ends job arch) before s (leave (own_stack job arch.number) x)
+
+  exit_claim : (before s : State) → IsElsewhere job arch → IsMade arch.made → Inside arch.number (own_stack job arch.number) s.book arch.ssp → Claim job arch Leaves before s (exit arch)
   unfolding exit
   exit_claim before s free made inside =
       let low = made.low in
       let high = made.high in
-      claim_bind job arch (Ends job arch) before s (clears 8 (made_page arch)) _
+      claim_bind job arch Leaves before s (clears 8 (made_page arch)) _
       (clears_claim job arch (own_stack job arch.number) _ before s 8 (made_page arch) (omega arith) (omega arith) inside (λ z n inside'.
-      exit_out_then job arch (stack_below job arch.number j) (Ends job arch) z n _ inside' (λ z' n' none. (none, λ held now. free))))
+      exit_out_then job arch (stack_below job arch.number j) (Ends job arch) z n (exit_status arch) _ inside' (λ z' n' none. (none, λ held now. free))))
 
-  no_call_claim : (before s : State) (next : ℕ) → IsElsewhere job arch → Inside arch.number (own_stack job arch.number) s.book arch.ssp → Claim job arch (Ends job arch) before s (no_call arch next (own_stack job arch.number))
-  unfolding no_call
-  no_call_claim before s next free inside =
-      gate_out_then job arch (stack_below job arch.number j) (Ends job arch) before s _ inside (λ z n rest. (rest, λ held now. free))
+  serve_claim : (before s : State) (result : ℕ) → IsElsewhere job arch → Inside arch.number (own_stack job arch.number) s.book arch.ssp → Leaves before s (serve arch result)
+  serve_claim before s result free within =
+      gate_out_then job arch (stack_below job arch.number j) (Ends job arch) before s _ within (λ z n rest. (rest, λ held now. free))
 
-  exit_group_claim : (before s : State) (next : ℕ) → IsElsewhere job arch → Inside arch.number (own_stack job arch.number) s.book arch.ssp → Claim job arch (Ends job arch) before s (exit_group arch next (own_stack job arch.number))
+  exit_group_claim : (before s : State) → IsElsewhere job arch → Inside arch.number (own_stack job arch.number) s.book arch.ssp → Claim job arch Leaves before s (exit_group arch)
   unfolding exit_group
-  exit_group_claim before s next free within =
-      exchange_then job arch (Ends job arch) before s exit_word 0 (0x100 + exit_status arch) _ exit_out within.stacked (λ now r found.
-      gate_out_then job arch (stack_below job arch.number j) (Ends job arch) now now _ (inside_kept r within) (λ z n rest. (rest, λ held later. free)))
+  exit_group_claim before s free within =
+      exchange_then job arch Leaves before s exit_word 0 (0x100 + exit_status arch) _ exit_out within.stacked (λ now r found.
+      serve_claim now now (exit_status arch) free (inside_kept r within))
 
-  service_claim : (before s : State) (next : ℕ) → IsElsewhere job arch → IsMade arch.made → Inside arch.number (own_stack job arch.number) s.book arch.ssp → Claim job arch (Ends job arch) before s (service arch next (own_stack job arch.number))
-  service_claim before s next free made within =
-      claim_cond job arch (Ends job arch) before s (rax arch == 60) _ _ (λ _. exit_claim before s free made within)
-      (λ _. claim_cond job arch (Ends job arch) before s (rax arch == 231) _ _ (λ _. exit_group_claim before s next free within) (λ _. no_call_claim before s next free within))
+  service_claim : (before s : State) → IsElsewhere job arch → IsMade arch.made → Inside arch.number (own_stack job arch.number) s.book arch.ssp → Claim job arch Leaves before s (service arch)
+  service_claim before s free made within =
+      claim_cond job arch Leaves before s (rax arch == 60) _ _ (λ _. exit_claim before s free made within)
+      (λ _. claim_cond job arch Leaves before s (rax arch == 231) _ _ (λ _. exit_group_claim before s free within) (λ _. serve_claim before s enosys free within))
 
-  syscall_claim : (before s : State) (next : ℕ) → IsElsewhere job arch → IsMade arch.made → AtRest arch.number s.book arch.ssp → Claim job arch (Ends job arch) before s (syscall job arch next)
-  unfolding syscall
-  syscall_claim before s next free made rest =
-      gate_in_then job arch (stack_below job arch.number j) (Ends job arch) before s (inside arch (own_stack job arch.number) (service arch next (own_stack job arch.number))) rest
-      (λ z n within. service_claim z n next free made within)
-      (λ z n found rest'. (rest', λ held now. tt))
-
-  kill_claim : (before s : State) (signal : ℕ) → Inside arch.number (own_stack job arch.number) s.book arch.ssp → Claim job arch (Ends job arch) before s (kill arch signal (own_stack job arch.number))
+  kill_claim : (before s : State) (signal : ℕ) → Inside arch.number (own_stack job arch.number) s.book arch.ssp → Claim job arch Leaves before s (kill arch signal)
   unfolding kill
   kill_claim before s signal within =
-      load_then job arch (Ends job arch) before s (handler_word signal) _ within.stacked (λ now r v.
-      let within1 = inside_kept r within in
-      exchange_then job arch (Ends job arch) now now exit_word 0 (0x200 + signal) _ exit_out within1.stacked (λ now2 r2 found.
-      gate_out_then job arch (stack_below job arch.number j) (Ends job arch) now2 now2 _ (inside_kept r2 within1) (λ z n rest. (rest, λ held later. tt))))
+      exchange_then job arch Leaves before s exit_word 0 (0x200 + signal) _ exit_out within.stacked (λ now r found.
+      gate_out_then job arch (stack_below job arch.number j) (Ends job arch) now now _ (inside_kept r within) (λ z n rest. (rest, λ held later. tt)))
 
-  deliver_claim : (before s : State) (e : Fault) → AtRest arch.number s.book arch.ssp → Claim job arch (Ends job arch) before s (deliver job arch e)
-  unfolding deliver
-  deliver_claim before s e rest =
-      gate_in_then job arch (stack_below job arch.number j) (Ends job arch) before s (inside arch (own_stack job arch.number) (kill arch (signal_of e.name) (own_stack job arch.number))) rest
-      (λ z n within. kill_claim z n (signal_of e.name) within)
+  delivery_claim : (before s : State) (signal : ℕ) → Inside arch.number (own_stack job arch.number) s.book arch.ssp → Claim job arch Leaves before s (delivery arch signal)
+  unfolding delivery
+  delivery_claim before s signal within =
+      claim_cond job arch Leaves before s (is_masked arch.mask signal) _ _ (λ _. kill_claim before s signal within)
+      (λ _. load_then job arch Leaves before s (handler_word signal) _ within.stacked (λ now r v. kill_claim now now signal (inside_kept r within)))
+
+  -- the kernel's entry round a piece of work
+  entered_claim : (before s : State) (work : Work) → AtRest arch.number s.book arch.ssp → ((z n : State) → Inside arch.number (own_stack job arch.number) n.book arch.ssp → Claim job arch Leaves z n work) → Claim job arch (Ends job arch) before s (entered job arch work)
+  unfolding entered
+  entered_claim before s work rest h =
+      gate_in_then job arch (stack_below job arch.number j) (Ends job arch) before s (inside arch (own_stack job arch.number) work) rest
+      (λ z n within. claim_bind job arch (Ends job arch) z n work (leave (own_stack job arch.number)) (h z n within))
       (λ z n found rest'. (rest', λ held now. tt))
 
   -- ---- instructions
@@ -158,7 +161,7 @@ module _ (job : JobData) (j : IsJob job) (arch : Arch) where
       noted_claim before s _ (arithmetic_claim job arch (elsewhere _ e (λ r. let t = returns_flow i r in cc)) before s i (above arch.rip len) rest)
   family_claim before s i len families.Flow f made rest e = noted_claim before s _ (flow_claim before s i len rest e)
   family_claim before s i len families.SystemCall f made rest e =
-      syscall_claim before s (above arch.rip len) (elsewhere _ e (λ r. let t = returns_flow i r in cc)) made rest
+      entered_claim before s (service arch) rest (λ z n within. service_claim z n (elsewhere _ e (λ r. let t = returns_flow i r in cc)) made within)
   family_claim before s i len families.Unbuilt f made rest e = no_return s _ rest e (λ r. let t = returns_flow i r in cc)
 
   missing_claim : (before s : State) (at : Option ℕ) (addr : ℕ) → AtRest arch.number s.book arch.ssp → Claim job arch (Ends job arch) before s (missing_in at addr)
@@ -187,7 +190,7 @@ module _ (job : JobData) (j : IsJob job) (arch : Arch) where
       (λ _. rest1))
 
   from_claim : (before s : State) (due : Option Fault) → IsMade arch.made → AtRest arch.number s.book arch.ssp → Claim job arch (Ends job arch) before s (row_from job arch due)
-  from_claim before s (Some e) made rest = deliver_claim before s e rest
+  from_claim before s (Some e) made rest = entered_claim before s (delivery arch (signal_of e.name)) rest (λ z n within. delivery_claim z n (signal_of e.name) within)
   from_claim before s None made rest = boundary_claim before s made rest
 
   -- a thread at rest claims its whole next row

@@ -59,7 +59,7 @@ row_relies job t s now core r h =
       number = h.number;
       before = h.before;
       left = others_at (rules job core.arch.number) (During (unheld core.arch)) (Ends job (unheld core.arch)) (Fails job (unheld core.arch)) h.before s now
-          (row job (unheld core.arch)) core.seen.count core.seen.kept h.waits.waits.0 r' (stacked_kept r') h.left h.waits.waits.1;
+          (row job (unheld core.arch)) core.seen.count core.seen.kept h.waits.waits.0 h.waits.waits.1 r' (stacked_kept r') h.left h.waits.waits.2;
     }
 
 core_relies : (job : JobData) (t : ℕ) (s now : State) (core : Core) (over : Option End) → Relies t s.book now.book → CoreStands job t s core over → CoreStands job t now core over
@@ -83,7 +83,7 @@ abbrev pub left_by : JobData → Arch → Option ℕ → Seen → Came Finish �
 left_by job arch held seen c child = record { core = core_by job arch held seen c; noted = noted_by arch c; child = child }
 
 pub came_stands : (job : JobData) (core : Core) (held : Option ℕ) (seen : Seen) (before s : State) (child : Option Core) (c : Came Finish) → IsJob job → Left job (unheld core.arch) before s seen → OnCame (rules job core.arch.number) (During (unheld core.arch)) (Ends job (unheld core.arch)) (Fails job (unheld core.arch)) before s c → IsCore job (core_by job core.arch held seen c) → CoreStands job core.arch.number s (core_by job core.arch held seen c) (core_by job core.arch held seen c).over × NotedReturns job (entries_of core.arch.number before.book) core (left_by job core.arch held seen c child) (noted_by core.arch c)
-came_stands job core held seen before s child (Wants a) j l o w = (record { waits = w; number = refl; before = before; left = l }, tt)
+came_stands job core held seen before s child (Wants a changes) j l o w = (record { waits = w; number = refl; before = before; left = l }, tt)
 came_stands job core held seen before s child (Faulted e) j l o w =
     (recorded_stands job (kept_by core.arch held (faulted core.arch e)) s (core.arch.count + 1 == job.limit) j o.0 w, λ r. (o.1 r, refl, refl))
 came_stands job core held seen before s child (Over (Noted next r) left values) j l o w =

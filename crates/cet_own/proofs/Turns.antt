@@ -1,6 +1,7 @@
 -- One turn keeps where all threads stand, and returns go right; so every run is safe. Source: own.
 use Rattle.std.proofs.Common.{◌≡◌, ◌≢◌, ℕ, ◌<◌, ◌≤◌, inl, inr, List, length, Option, Some, None, refl, sym, ◌∙◌, ap, subst, arith, length-set, get_or-set_same, get_or-set_other}
 use Rattle.std.specs.Prelude.{slice_get, slice_set}
+use Rattle.cet_words.specs.Change.{Change}
 use Rattle.std.proofs.lemmas.Bool.{cases_lt}
 use Rattle.std.proofs.lemmas.Bool.Decides.{eqb_tells}
 use Rattle.std.proofs.lemmas.Option.{slice_get_past, slice_get_within, slice_get-get_or}
@@ -48,7 +49,7 @@ row_stacked : (job : JobData) (t : ℕ) (s : State) (core : Core) → InRow job 
 row_stacked job t s core r =
     subst (λ n. Stacked n s.book core.arch.ssp) r.number
     (during_at (rules job core.arch.number) (During (unheld core.arch)) (Ends job (unheld core.arch)) (Fails job (unheld core.arch)) r.before s
-    (row job (unheld core.arch)) core.seen.count core.seen.kept r.waits.waits.0 r.left r.waits.waits.1)
+    (row job (unheld core.arch)) core.seen.count core.seen.kept r.waits.waits.0 r.waits.waits.1 r.left r.waits.waits.2)
 
 pub core_stacked : (job : JobData) (t : ℕ) (s : State) (core : Core) (over : Option End) → CoreStands job t s core over → KeepsStack over → Stacked t s.book core.arch.ssp
 core_stacked job t s core None h k = row_stacked job t s core h
@@ -136,9 +137,9 @@ moved job m thread a = thread_after thread (taken job thread.core (answer m.word
 childless : (job : JobData) (thread : Thread) (v : ℕ) (threads : List Thread) → with_child threads (taken job thread.core v).child ≡ threads
 childless job thread v threads = ap (with_child threads) (no_child job thread.core v)
 
-pub acts : (job : JobData) (j : IsJob job) (m : Machine) (t : ℕ) (s : State) (thread : Thread) (a : Access) → Stands job m s → slice_get m.threads t ≡ Some thread → ThreadStands job t s (Some thread) → InRow job t s thread.core → come job thread.core.arch thread.core.seen ≡ Wants a → TurnedBy job m t s thread (Some a)
-acts job j m t s thread a st e at r w =
-    let d = led job j m.words t s thread.core a st.holds at.0 r w in
+pub acts : (job : JobData) (j : IsJob job) (m : Machine) (t : ℕ) (s : State) (thread : Thread) (a : Access) (own : ℕ → List Change) → Stands job m s → slice_get m.threads t ≡ Some thread → ThreadStands job t s (Some thread) → InRow job t s thread.core → come job thread.core.arch thread.core.seen ≡ Wants a own → TurnedBy job m t s thread (Some a)
+acts job j m t s thread a own st e at r w =
+    let d = led job j m.words t s thread.core a own st.holds at.0 r w in
     let same = childless job thread (answer m.words a) (slice_set m.threads t (moved job m thread a)) in
     record {
       next = d.next;
