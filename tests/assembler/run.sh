@@ -26,12 +26,11 @@ for source in *.s; do
     cmp "$work/listing" "$name.listing" || fail "the listing of $name is another one"
 done
 
-while IFS= read -r case; do
-    wanted=${case%%:*}
+while IFS= read -r row; do
     count=$((count + 1))
     # The text is a format of printf, for its escapes.
-    printf "${case#*: }" | "$cetvm" asm 2>&1 > "$work/image" | sed 's/^cetvm: line \([0-9]*\): rule /\1 /' > "$work/fault"
-    [ "$(cat "$work/fault")" = "$wanted" ] || fail "$case: $(cat "$work/fault")"
+    fault=$(printf -- "${row#*: }" | "$cetvm" asm 2>&1 > "$work/image" | sed 's/^cetvm: line \([0-9]*\): rule /\1 /')
+    [ "$fault" = "${row%%:*}" ] || fail "$row: the fault is $fault"
 done < faults.txt
 
 # A text with 20,000 labels and as many uses, whose words are all 0x450000; one with a label that is defined twice.

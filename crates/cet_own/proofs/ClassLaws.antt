@@ -19,7 +19,7 @@ use Rattle.cet_own.specs.Past.{next_word, draw_word}
 use Rattle.cet_own.proofs.Holds.{Sound, Holds}
 use Rattle.cet_own.specs.Stands.{IsEntry, busy}
 use Rattle.cet_own.proofs.Marks.{marks_out, marks_same, tokens_end}
-use Rattle.cet_own.proofs.Kept.{restorers_out, size_kept, lists_out, pages_out, pages_same, gates_set, gates_same}
+use Rattle.cet_own.proofs.Kept.{ending_out, restorers_out, size_kept, lists_out, pages_out, pages_same, gates_set, gates_same}
 use Rattle.cet_book.proofs.Changes.{same_book, then_by}
 use Rattle.cet_page.specs.Trail.{Visit}
 use Rattle.cet_own.proofs.Still.{Still}
@@ -92,6 +92,7 @@ holds_gate image words b k x o l e sound h = record {
   gates = gates_set words b k x o h.size h.sound.book.stacks.eight l e h.gates;
   restorers = restorers_out image words (token_word k) x (inr (omega arith)) h.restorers;
   marks = (let m = marks_out words b (token_word k) x (inr (omega arith)) (omega arith) h.sound.book.shape h.marks in record { parked = m.parked; token = m.token; zeros = m.zeros; drawn = m.drawn });
+  ending = ending_out words (token_word k) x (omega arith) h.ending;
 }
 
 -- the region of a thread ends
@@ -107,6 +108,7 @@ holds_end image words t m b o sound h =
       gates = gates_same words b (hand m (region b m).entries Lost b) refl h.gates;
       restorers = h.restorers;
       marks = marks_same words (tokens_end o) h.marks;
+      ending = h.ending;
     }
   where
     word_agrees : (f g : ℕ → ℕ) (a : ℕ) (e : Entry) → ((i : ℕ) → g i ≡ f i) → word_of g a e ≡ word_of f a e

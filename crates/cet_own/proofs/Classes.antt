@@ -3,7 +3,7 @@ use Rattle.std.proofs.Common.{◌≡◌, ◌≢◌, ℕ, ◌+◌, ◌-◌, ◌%�
 use Rattle.std.specs.Prelude.{slice_index, slice_set, ◌==◌, if◌then◌else◌}
 use Rattle.cet_words.specs.Access.{answer, after}
 use Rattle.cet_words.specs.Job.{ImageData}
-use Rattle.cet_words.specs.Layout.{entry_word, token, token_word, kernel_return, first_entry_word, first_kernel_page, first_shadow_page}
+use Rattle.cet_words.specs.Layout.{exit_word, entry_word, token, token_word, kernel_return, first_entry_word, first_kernel_page, first_shadow_page}
 use Rattle.cet_words.specs.Change.{Change, Called, Returned, Ended, Busied, Freed}
 use Rattle.cet_words.specs.declared.accesses.Access.{Access}
 use Rattle.cet_words.specs.declared.accesses.Access.TheVariants as access
@@ -18,13 +18,14 @@ use Rattle.cet_book.specs.Facts.{Owns}
 use Rattle.cet_own.proofs.Holds.{Sound, Holds, IsOut, NoAction}
 use Rattle.cet_own.specs.Stands.{busy}
 use Rattle.cet_book.proofs.Held.{Free}
-use Rattle.cet_own.proofs.Kept.{holds_out, holds_clear, holds_below_token}
+use Rattle.cet_own.proofs.Kept.{holds_ended, holds_out, holds_clear, holds_below_token}
 use Rattle.cet_own.proofs.Own.{below_top, holds_push, holds_pop}
 use Rattle.cet_own.proofs.Owed.{Owed}
 use Rattle.cet_book.proofs.Changes.{same_book, then_by}
 use Rattle.std.proofs.lemmas.Bool.Decides.{nat_tests}
 use Rattle.cet_page.specs.Script.{birth}
 use Rattle.cet_page.specs.Trail.{Visit}
+use Rattle.cet_own.specs.ExitWord.{IsEnding}
 use Rattle.cet_own.specs.Past.{next_word, draw_word, alters, restorer_word}
 use Rattle.cet_own.proofs.Counters.{CountsBy, no_count, LeavesCounters}
 use Rattle.cet_own.specs.Stands.{OwnWord, own_slot, below_token}
@@ -111,6 +112,10 @@ own_entry y w word b lo (below_token k l h e) z = omega arith
 own_token : (y w j : ℕ) (b : Book) → j < 8 → OwnWord y b w → w ≢ token_word j
 own_token y w j b lj (own_slot addr p o e) z = let high = p.high in omega arith
 own_token y w j b lj (below_token k l h e) z = omega arith
+
+own_exit : (y w : ℕ) (b : Book) → OwnWord y b w → w ≢ exit_word
+own_exit y w b (own_slot addr p o e) z = let high = p.high in omega arith
+own_exit y w b (below_token k l h e) z = omega arith
 
 pub word_other : (words : List ℕ) (word x w : ℕ) → w ≢ word → slice_index (slice_set words word x) w ≡ slice_index words w
 word_other words word x w n = get_or-set_other words word w x 0 n
@@ -201,6 +206,17 @@ module _ {image : ImageData} {t k : ℕ} {past : List Visit} {b : Book} {a : Acc
       quiet ev (leaves_by e (other_word word out.draw) (next_other word out.next)) (λ words is h. subst (λ c. Holds image (after words c) b × Spared b words (after words c)) (sym e) (
         holds_out image words b word ((slice_index words word + value) % 2 ^ 64) out h,
         out_spared words b word ((slice_index words word + value) % 2 ^ 64) out,
+      ))
+
+  -- the process ends, where it hasn't ended before
+  pub finishes : (value : ℕ) → a ≡ access.CompareExchange exit_word 0 value → IsEnding value → changes ≡ [] → Owed image t k past b a v changes
+  finishes value e ending ev =
+      quiet ev (leaves_by e (other_word exit_word (omega arith)) (next_other exit_word (omega arith))) (λ words is h. subst (λ c. Holds image (after words c) b × Spared b words (after words c)) (sym e) (
+        wrote image words b exit_word 0 value (slice_index words exit_word == 0) refl h (λ _. holds_ended image words b value ending h),
+        record {
+          own = λ y w own. exchange_other words exit_word value w (slice_index words exit_word == 0) (own_exit y w b own);
+          restorers = exchange_restorers words exit_word value (slice_index words exit_word == 0) (inl (omega arith));
+        },
       ))
 
   -- the entry of a page of the shadow area is cleared

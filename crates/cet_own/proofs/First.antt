@@ -6,7 +6,7 @@ use Rattle.std.proofs.lemmas.Bool.Decides.{nat_tests}
 use Rattle.std.proofs.lemmas.List.{get_or_past}
 use Rattle.cet_words.specs.Entries.{entry_of}
 use Rattle.cet_words.specs.Job.{JobData, IsJob, ImageData}
-use Rattle.cet_words.specs.Layout.{entry_word, token, token_word, first_entry_word, first_kernel_page, first_kernel_word, first_mmap_page, first_region_end, first_shadow_page, first_stack_word, page_count}
+use Rattle.cet_words.specs.Layout.{exit_word, entry_word, token, token_word, first_entry_word, first_kernel_page, first_kernel_word, first_mmap_page, first_region_end, first_shadow_page, first_stack_word, page_count}
 use Rattle.cet_words.specs.Start.{kernel_word, is_present, start_entry, start_word, IsStart}
 use Rattle.cet_book.specs.Book.{Parked, Current, region, top, current_of, stack_of, first_book}
 use Rattle.cet_book.proofs.Addresses.{first_returns}
@@ -17,6 +17,7 @@ use Rattle.cet_book.specs.Facts.{Stack, Place, LiesIn}
 use Rattle.cet_page.specs.Core.{first_core, unheld}
 use Rattle.cet_page.specs.Machine.{Machine, Thread, Starts}
 use Rattle.cet_page.proofs.WithinLaws.{first_waits}
+use Rattle.cet_own.specs.ExitWord.{IsExitWord}
 use Rattle.cet_own.specs.Past.{restorer_word, next_word, draw_word}
 use Rattle.cet_own.proofs.Holds.{Marks, Pages, Gates, Holds}
 use Rattle.cet_own.specs.Stands.{Restorers, IsEntry, busy}
@@ -167,6 +168,10 @@ first_marks image words s = record {
   drawn = λ i. (let e = draw_start image words s in let l = first_end i in omega arith);
 }
 
+first_ending : (image : ImageData) (words : List ℕ) → IsStart image words → IsExitWord (slice_index words exit_word)
+unfolding start_word kernel_word
+first_ending image words s = inl (s.each exit_word (omega arith))
+
 pub first_holds : (image : ImageData) (words : List ℕ) → IsStart image words → Holds image words first_book
 first_holds image words s = record {
   size = s.size;
@@ -176,6 +181,7 @@ first_holds image words s = record {
   gates = first_gates image words s;
   restorers = first_restorers image words s;
   marks = first_marks image words s;
+  ending = first_ending image words s;
 }
 
 -- ---- threads

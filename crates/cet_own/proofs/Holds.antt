@@ -2,11 +2,12 @@
 use Rattle.std.specs.Prelude.{◌≡◌, ◌≢◌, ℕ, ◌+◌, ◌-◌, ◌*◌, ◌<◌, ◌≤◌, ◌⊎◌, List, length, slice_index}
 use Rattle.cet_words.specs.Entries.{entry_of}
 use Rattle.cet_words.specs.Job.{ImageData}
-use Rattle.cet_words.specs.Layout.{entry_word, token, token_word, first_entry_word, first_kernel_page, first_kernel_word, first_mmap_page, first_shadow_page, first_shadow_word, page_count, shadow_start, word_count}
+use Rattle.cet_words.specs.Layout.{exit_word, entry_word, token, token_word, first_entry_word, first_kernel_page, first_kernel_word, first_mmap_page, first_shadow_page, first_shadow_word, page_count, shadow_start, word_count}
 use Rattle.cet_book.specs.Facts.{In, LiesIn, Place, IsParkedAt, Returns, Stack}
 use Rattle.cet_book.specs.Book.{Holder, Maker, Current, Parked, Left, Lost, Book, Region, region, top, stack_of}
 use Rattle.cet_book.proofs.Shape.{IsBook}
 use Rattle.cet_book.specs.Stack.{slot_word, tops}
+use Rattle.cet_own.specs.ExitWord.{IsExitWord}
 use Rattle.cet_own.specs.Past.{draw_word, next_word}
 use Rattle.cet_own.specs.Stands.{Restorers, IsEntry, busy}
 
@@ -60,8 +61,9 @@ pub record Holds (image : ImageData) (words : List ℕ) (b : Book) : Type 0 wher
   pub gates : Gates words b
   pub restorers : Restorers image words
   pub marks : Marks words b
+  pub ending : IsExitWord (slice_index words exit_word)
 
--- a word on which the book says nothing: of no shadow stack, no page entry, no token nor the word below one, no signal, no counter
+-- a word on which the book says nothing: of no shadow stack, no page entry, no token nor the word below one, no signal, no counter, and not EXIT
 pub record IsOut (word : ℕ) : Type 0 where
   pub shadow : (word < first_shadow_word) ⊎ (first_kernel_word ≤ word)
   pub entry : word < first_entry_word
@@ -70,3 +72,4 @@ pub record IsOut (word : ℕ) : Type 0 where
   pub below : (k : ℕ) → k < 8 → token_word k - 1 ≢ word
   pub draw : word ≢ draw_word
   pub next : word ≢ next_word
+  pub exit : word ≢ exit_word

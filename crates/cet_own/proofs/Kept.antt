@@ -4,13 +4,14 @@ use Rattle.std.proofs.Common.{◌-◌, ◌≡◌, ◌≢◌, ℕ, ◌+◌, ◌<�
 use Rattle.std.specs.Prelude.{slice_index, slice_set}
 use Rattle.std.proofs.lemmas.Bool.Decides.{eqb_tells}
 use Rattle.cet_words.specs.Job.{ImageData}
-use Rattle.cet_words.specs.Layout.{entry_word, token, token_word, action_word, first_entry_word, first_kernel_page, first_kernel_word, first_shadow_page, first_shadow_word, word_count}
+use Rattle.cet_words.specs.Layout.{exit_word, entry_word, token, token_word, action_word, first_entry_word, first_kernel_page, first_kernel_word, first_shadow_page, first_shadow_word, word_count}
 use Rattle.cet_book.specs.Book.{Book, region, top, stack_of, put_stack}
 use Rattle.cet_book.proofs.Shape.{Shape}
 use Rattle.cet_book.proofs.Edits.{SameBounds}
 use Rattle.cet_book.proofs.Supervisor.{stack_of-put_stack}
 use Rattle.cet_book.specs.Facts.{Stack, LiesIn}
 use Rattle.cet_book.specs.Stack.{tops}
+use Rattle.cet_own.specs.ExitWord.{IsEnding, IsExitWord}
 use Rattle.cet_own.specs.Past.{restorer_word}
 use Rattle.cet_own.proofs.Holds.{NoAction, Pages, Gates, Holds, IsOut}
 use Rattle.cet_own.specs.Stands.{IsRestorer, Restorers, IsEntry, busy}
@@ -86,6 +87,12 @@ restorers_out image words w x out h =
           λ z. h.shown s l (omega arith) (sym (restorer s l) ∙ z);
     }
 
+-- EXIT, where another word was written
+pub ending_out : (words : List ℕ) (w x : ℕ) → w ≢ exit_word → IsExitWord (slice_index words exit_word) → IsExitWord (slice_index (slice_set words w x) exit_word)
+ending_out words w x n h =
+    let other : exit_word ≢ w = λ z. n (sym z) in
+    subst IsExitWord (sym (get_or-set_other words w exit_word x 0 other)) h
+
 pub size_kept : (words : List ℕ) (w x : ℕ) → length words ≡ word_count → length (slice_set words w x) ≡ word_count
 size_kept words w x e = length-set words w x ∙ e
 
@@ -100,7 +107,24 @@ holds_out image words b w x out h = record {
   gates = gates_out words b w x out.token h.gates;
   restorers = restorers_out image words w x out.actions h.restorers;
   marks = marks_out words b w x out.shadow out.draw h.sound.book.shape h.marks;
+  ending = ending_out words w x out.exit h.ending;
 }
+
+-- EXIT is written
+pub holds_ended : (image : ImageData) (words : List ℕ) (b : Book) (x : ℕ) → IsEnding x → Holds image words b → Holds image (slice_set words exit_word x) b
+holds_ended image words b x is h =
+    let size = h.size in
+    let inside : exit_word < length words = omega arith in
+    record {
+      size = size_kept words exit_word x h.size;
+      sound = h.sound;
+      stacks = lists_out words b exit_word x h.sound.book.shape (inr (omega arith)) h.stacks;
+      pages = pages_out image words b exit_word x (omega arith) h.pages;
+      gates = gates_out words b exit_word x (λ k l. omega arith) h.gates;
+      restorers = restorers_out image words exit_word x (inl (omega arith)) h.restorers;
+      marks = marks_out words b exit_word x (inr (omega arith)) (omega arith) h.sound.book.shape h.marks;
+      ending = subst IsExitWord (sym (get_or-set_same words exit_word x 0 inside)) (inr is);
+    }
 
 -- the word below a supervisor token is written
 pub holds_below_token : (image : ImageData) (words : List ℕ) (b : Book) (k x : ℕ) → k < 8 → Holds image words b → Holds image (slice_set words (token_word k - 1) x) b
@@ -112,6 +136,7 @@ holds_below_token image words b k x l h = record {
   gates = gates_out words b (token_word k - 1) x (λ j lj. omega arith) h.gates;
   restorers = restorers_out image words (token_word k - 1) x (inr (omega arith)) h.restorers;
   marks = marks_out words b (token_word k - 1) x (inr (omega arith)) (omega arith) h.sound.book.shape h.marks;
+  ending = ending_out words (token_word k - 1) x (omega arith) h.ending;
 }
 
 pages_clear : (image : ImageData) (words : List ℕ) (b : Book) (page : ℕ) → length words ≡ word_count → first_shadow_page ≤ page → page < first_kernel_page → Pages image words b → Pages image (slice_set words (entry_word page) 0) b
@@ -143,4 +168,5 @@ holds_clear image words b page lo hi h = record {
   gates = gates_out words b (entry_word page) 0 (λ k l. omega arith) h.gates;
   restorers = restorers_out image words (entry_word page) 0 (inr (omega arith)) h.restorers;
   marks = marks_out words b (entry_word page) 0 (inr (omega arith)) (omega arith) h.sound.book.shape h.marks;
+  ending = ending_out words (entry_word page) 0 (omega arith) h.ending;
 }

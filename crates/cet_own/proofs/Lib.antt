@@ -1,3 +1,4 @@
+pub mod Endings
 pub mod Frame
 pub mod Holds
 pub mod Standing

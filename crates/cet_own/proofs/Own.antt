@@ -14,7 +14,7 @@ use Rattle.cet_book.specs.Stack.{slot, tops}
 use Rattle.cet_own.proofs.Holds.{Sound, Holds}
 use Rattle.cet_own.proofs.Writes.{in_place, list_kept, list_free, slot_same}
 use Rattle.cet_own.proofs.Marks.{marks_same, marks_write, writes_own, tokens_relist, tokens_unlink}
-use Rattle.cet_own.proofs.Kept.{restorers_out, size_kept, pages_out, pages_same, gates_out, gates_same}
+use Rattle.cet_own.proofs.Kept.{ending_out, restorers_out, size_kept, pages_out, pages_same, gates_out, gates_same}
 
 -- no entry leads to the region
 pub none_leads : {t m : ℕ} {b : Book} (o : Owned t m b) (i : ℕ) → links m (region b i).entries ≡ 0
@@ -67,6 +67,7 @@ module _ (image : ImageData) (words : List ℕ) {t m : ℕ} {b : Book} (o : Owne
             (pages_out image words b (slot (top (region b m) - 8)) back (omega arith) h.pages);
         restorers = restorers_out image words (slot (top (region b m) - 8)) back (inl (omega arith)) h.restorers;
         marks = marks_write words (writes_own (tokens_relist o (Call back ∷ (region b m).entries)) o (relist_holder o (Call back ∷ (region b m).entries) m ∙ o.current) at.place at.inside (omega arith)) h.size o.shape h.marks;
+        ending = ending_out words (slot (top (region b m) - 8)) back (omega arith) h.ending;
         gates = gates_same stored b pushed refl
             (gates_out words b (slot (top (region b m) - 8)) back (λ k l. omega arith) h.gates);
       }
@@ -95,6 +96,7 @@ holds_pop image words {m = m} {b = b} {next = next} o (plain e es list not_link 
       gates = gates_same words b (relist m es b) refl h.gates;
       restorers = h.restorers;
       marks = marks_same words (tokens_relist o es) h.marks;
+      ending = h.ending;
     }) sound
 holds_pop image words {m = m} {b = b} {next = next} o (linked s es l is) sound h =
     subst (λ n. Sound n → Holds image words n) is (λ sound'.
@@ -109,4 +111,5 @@ holds_pop image words {m = m} {b = b} {next = next} o (linked s es l is) sound h
       gates = gates_same words b (unlink m s es Lost b) refl h.gates;
       restorers = h.restorers;
       marks = marks_same words (tokens_unlink l) h.marks;
+      ending = h.ending;
     }) sound

@@ -4,7 +4,7 @@ use Rattle.std.specs.Prelude.{option_map, option_and_then, ◌==◌}
 use Rattle.std.proofs.lemmas.Bool.{eqb-true}
 use Rattle.std.proofs.lemmas.Bool.Decides.{nat_tests}
 use Rattle.cet_words.specs.Job.{JobData}
-use Rattle.cet_words.specs.Layout.{page_at, entry_word, token_word, first_kernel_page, first_shadow_page, shadow_end, shadow_start}
+use Rattle.cet_words.specs.Layout.{exit_word, page_at, entry_word, token_word, first_kernel_page, first_shadow_page, shadow_end, shadow_start}
 use Rattle.cet_words.specs.Change.{Change}
 use Rattle.cet_words.specs.declared.accesses.Access.TheVariants as access
 use Rattle.cet_isa.specs.Address.{canonical}
@@ -27,7 +27,8 @@ use Rattle.cet_book.specs.Facts.{In}
 use Rattle.cet_own.proofs.Holds.{IsOut}
 use Rattle.cet_own.proofs.Standing.{Stacked, AtRest}
 use Rattle.cet_own.proofs.Owed.{State, state_after, Known, rules}
-use Rattle.cet_own.proofs.Classes.{looks, loads, stores as stored, exchanges, swaps, adds, clears as cleared}
+use Rattle.cet_own.specs.ExitWord.{IsEnding}
+use Rattle.cet_own.proofs.Classes.{looks, loads, stores as stored, exchanges, finishes, swaps, adds, clears as cleared}
 use Rattle.cet_own.proofs.Places.{store_page, entry_there, shadow_page, in_page}
 use Rattle.cet_own.specs.Past.{Progress, progress, untouched, left_in, frame_pushed, below_frame}
 use Rattle.cet_page.specs.Trail.{Visit, visit}
@@ -115,6 +116,12 @@ module _ (job : JobData) (arch : Arch) where
   unfolding exchange_as
   exchange_then Q past before s word expected value f out top h =
       claim_bind Q past before s (exchange word expected value) f (top, λ now r v known. (exchanges word expected value refl out refl, now, refl, h now r v))
+
+  -- the process ends
+  pub end_then : {A : Type 0} (Q : List Visit → State → State → A → Type 0) (past : List Visit) (before s : State) (value : ℕ) (f : ℕ → Script A) → IsEnding value → Stacked arch.number s.book (below_frame (frame_pushed past) arch.ssp) → ((now : State) → Relies arch.number s.book now.book → (v : ℕ) → Claim job arch Q (visit (access.CompareExchange exit_word 0 value) v [] ∷ past) now now (f v)) → Claim job arch Q past before s (exchange exit_word 0 value >>= f)
+  unfolding exchange_as
+  end_then Q past before s value f is top h =
+      claim_bind Q past before s (exchange exit_word 0 value) f (top, λ now r v known. (finishes value refl is refl, now, refl, h now r v))
 
   pub swap_then : {A : Type 0} (Q : List Visit → State → State → A → Type 0) (past : List Visit) (before s : State) (word value : ℕ) (f : ℕ → Script A) → IsOut word → Stacked arch.number s.book (below_frame (frame_pushed past) arch.ssp) → ((now : State) → Relies arch.number s.book now.book → (v : ℕ) → Claim job arch Q (visit (access.Swap word value) v [] ∷ past) now now (f v)) → Claim job arch Q past before s (swap word value >>= f)
   unfolding swap

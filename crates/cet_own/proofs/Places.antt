@@ -61,7 +61,7 @@ store_page image page v (inr e) a = elim (cases_lt page first_shadow_page) [
 
 -- its words matter for no stack
 pub page_word : (page addr : ℕ) → page < first_shadow_page → IsOut (word_in page addr)
-page_word page addr l = record { shadow = inl (omega arith); entry = omega arith; token = λ k lk. omega arith; below = λ k lk. omega arith; actions = inl (omega arith); draw = omega arith; next = omega arith }
+page_word page addr l = record { shadow = inl (omega arith); entry = omega arith; token = λ k lk. omega arith; below = λ k lk. omega arith; actions = inl (omega arith); draw = omega arith; next = omega arith; exit = omega arith }
 
 -- an entry that allows something is present
 pub entry_there : (k : Kind) (v : ℕ) → allows v k User ≡ true → v ≢ 0

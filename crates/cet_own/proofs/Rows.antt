@@ -18,7 +18,7 @@ use Rattle.cet_isa.specs.declared.threads.Record.{Record}
 use Rattle.cet_book.specs.Facts.{IsReturn}
 use Rattle.cet_page.specs.Script.{◌>>=◌}
 use Rattle.cet_page.specs.Fetch.{fetchable, joined, missing, missing_in}
-use Rattle.cet_page.specs.Finish.{Row, noted, above, rax, IsMade}
+use Rattle.cet_page.specs.Finish.{Row, noted, above, rax, IsMade, rdi}
 use Rattle.cet_page.specs.Family.{family_of}
 use Rattle.cet_page.specs.Flow.{flow}
 use Rattle.cet_page.specs.declared.families.Family.{Family}
@@ -32,7 +32,9 @@ use Rattle.cet_own.proofs.Holds.{IsOut}
 use Rattle.cet_own.proofs.Standing.{AtRest}
 use Rattle.cet_own.proofs.Owed.{State, own_stack}
 use Rattle.cet_own.proofs.Classes.{looks}
-use Rattle.cet_own.proofs.Parts.{Fails, Claim, claim_bind, claim_cond, load_then, exchange_then, clears_claim}
+use Rattle.cet_own.specs.ExitWord.{IsEnding}
+use Rattle.cet_own.proofs.Endings.{by_signal, by_status}
+use Rattle.cet_own.proofs.Parts.{Fails, Claim, claim_bind, claim_cond, load_then, end_then, clears_claim}
 use Rattle.cet_own.proofs.GateParts.{gate_in_then, gate_out_then, exit_out_then}
 use Rattle.cet_own.proofs.Calls.{Ends, EndsRow, call_relative_claim, call_indirect_claim}
 use Rattle.cet_own.proofs.Returns.{ret_claim}
@@ -80,9 +82,6 @@ returns_flow instr.Ret r = refl
 returns_flow (instr.RetImm bytes) r = refl
 returns_flow i r = cc
 
-exit_out : IsOut exit_word
-exit_out = record { shadow = inr (omega arith); entry = omega arith; token = λ k l. omega arith; below = λ k l. omega arith; actions = inl (omega arith); draw = omega arith; next = omega arith }
-
 -- no word below a token
 exit_apart : (k : ℕ) → (exit_word == token_word k - 1) ≡ false
 exit_apart k = let n : exit_word ≢ token_word k - 1 = omega arith in grind (arith, nat_tests)
@@ -124,7 +123,7 @@ module _ (job : JobData) (j : IsJob job) (arch : Arch) where
   exit_group_claim : (past : List Visit) (before s : State) → IsElsewhere job arch → Within past s → Claim job arch Leaves past before s (exit_group arch)
   unfolding exit_group
   exit_group_claim past before s free within =
-      exchange_then job arch Leaves past before s exit_word 0 (0x100 + exit_status arch) _ exit_out (inside_stacked within) (λ now r found.
+      end_then job arch Leaves past before s (0x100 + exit_status arch) _ (by_status (rdi arch)) (inside_stacked within) (λ now r found.
       serve_claim _ now now (exit_status arch) free (inside_left (rw (exit_apart (own_stack job arch.number)) refl) (inside_kept r within)))
 
   service_claim : (past : List Visit) (before s : State) → IsElsewhere job arch → IsMade arch.made → Within past s → Claim job arch Leaves past before s (service arch)
@@ -133,18 +132,18 @@ module _ (job : JobData) (j : IsJob job) (arch : Arch) where
       (λ _. claim_cond job arch Leaves past before s (rax arch == 231) _ _ (λ _. exit_group_claim past before s free within)
       (λ _. serve_claim past before s enosys free within))
 
-  kill_claim : (past : List Visit) (before s : State) (signal : ℕ) → Within past s → Claim job arch Leaves past before s (kill arch signal)
+  kill_claim : (past : List Visit) (before s : State) (signal : ℕ) → IsEnding (0x200 + signal) → Within past s → Claim job arch Leaves past before s (kill arch signal)
   unfolding kill
-  kill_claim past before s signal within =
-      exchange_then job arch Leaves past before s exit_word 0 (0x200 + signal) _ exit_out (inside_stacked within) (λ now r found.
+  kill_claim past before s signal is within =
+      end_then job arch Leaves past before s (0x200 + signal) _ is (inside_stacked within) (λ now r found.
       gate_out_then job arch (stack_below job arch.number j) (Ends job arch) _ now now _ (inside_left (rw (exit_apart (own_stack job arch.number)) refl) (inside_kept r within)) (λ p z n rest. (rested rest, λ held later. tt, tt)))
 
-  delivery_claim : (past : List Visit) (before s : State) (signal : ℕ) → Within past s → Claim job arch Leaves past before s (delivery arch signal)
+  delivery_claim : (past : List Visit) (before s : State) (signal : ℕ) → IsEnding (0x200 + signal) → Within past s → Claim job arch Leaves past before s (delivery arch signal)
   unfolding delivery
-  delivery_claim past before s signal within =
-      claim_cond job arch Leaves past before s (is_masked arch.mask signal) _ _ (λ _. kill_claim past before s signal within)
+  delivery_claim past before s signal is within =
+      claim_cond job arch Leaves past before s (is_masked arch.mask signal) _ _ (λ _. kill_claim past before s signal is within)
       (λ _. load_then job arch Leaves past before s (action_word signal) _ (inside_stacked within) (λ now r v.
-      kill_claim _ now now signal (inside_left (rw (handler_apart signal (own_stack job arch.number)) refl) (inside_kept r within))))
+      kill_claim _ now now signal is (inside_left (rw (handler_apart signal (own_stack job arch.number)) refl) (inside_kept r within))))
 
   -- the kernel's entry round a piece of work
   entered_claim : (past : List Visit) (before s : State) (work : Work) → Resting arch.number untouched (progress past) s.book arch.ssp → ((p : List Visit) (z n : State) → Within p n → Claim job arch Leaves p z n work) → Claim job arch (Ends job arch) past before s (entered job arch work)
@@ -208,7 +207,7 @@ module _ (job : JobData) (j : IsJob job) (arch : Arch) where
       (λ _. (rested rest1, ap (λ (x : Progress). x.drawing) rest1.level, ap (λ (x : Progress). x.numbering) rest1.level)))
 
   from_claim : (past : List Visit) (before s : State) (due : Option Fault) → IsMade arch.made → Resting arch.number untouched (progress past) s.book arch.ssp → Claim job arch (Ends job arch) past before s (row_from job arch due)
-  from_claim past before s (Some e) made rest = entered_claim past before s (delivery arch (signal_of e.name)) rest (λ p z n within. delivery_claim p z n (signal_of e.name) within)
+  from_claim past before s (Some e) made rest = entered_claim past before s (delivery arch (signal_of e.name)) rest (λ p z n within. delivery_claim p z n (signal_of e.name) (by_signal e.name) within)
   from_claim past before s None made rest = boundary_claim past before s made rest
 
   -- a thread at rest claims its whole next row

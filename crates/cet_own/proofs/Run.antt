@@ -5,8 +5,9 @@ use Rattle.cet_words.specs.Job.{JobData, IsJob}
 use Rattle.cet_isa.specs.declared.threads.End.{End}
 use Rattle.cet_book.specs.Book.{Book, region, books_after, first_book}
 use Rattle.cet_page.specs.Core.{wanted, access_of, next_access}
-use Rattle.cet_page.specs.Machine.{Thread, Machine, step, Starts}
+use Rattle.cet_page.specs.Machine.{Thread, Machine, run, step, Starts}
 use Rattle.cet_own.specs.Along.{Along}
+use Rattle.cet_own.specs.ExitWord.{EndsRight}
 use Rattle.cet_own.specs.Event.{turn_changes}
 use Rattle.cet_own.specs.Safe.{AccessReturns, TurnReturns, IsSafeAt, Safe}
 use Rattle.cet_own.proofs.Owed.{State}
@@ -78,3 +79,13 @@ safe_run job start turns j s =
 pub stands_run : (job : JobData) (start : Machine) (turns : List ℕ) → IsJob job → Starts job start → Along (Stands job) (TurnRestores job) job start first_book turns
 stands_run job start turns j s =
     along_from (Stands job) (TurnRestores job) job j (stands_at job) (λ m t s d. d.restores) turns start (record { book = first_book }) (first_stands job start j s)
+
+-- EXIT at a run's end
+exit_from : (job : JobData) (j : IsJob job) (turns : List ℕ) (m : Machine) (s : State) → Invariant job m s → EndsRight (run job m turns)
+exit_from job j [] m s st = st.holds.ending
+exit_from job j (t ∷ ts) m s st =
+    let d = turn job j m t s st in
+    exit_from job j ts (step job m t) d.next d.stands
+
+pub exit_run : (job : JobData) (start : Machine) (turns : List ℕ) → IsJob job → Starts job start → EndsRight (run job start turns)
+exit_run job start turns j s = exit_from job j turns start (record { book = first_book }) (first_stands job start j s)

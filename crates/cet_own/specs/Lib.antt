@@ -1,6 +1,7 @@
 pub mod Past
 pub mod Event
 pub mod Along
+pub mod ExitWord
 pub mod Safe
 pub mod Restores
 pub mod Stands

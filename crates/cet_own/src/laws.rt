@@ -1,8 +1,11 @@
+//! Laws over every run of every job.
+
 ghost use Rattle.std.specs.Prelude.{ℕ, List};
 ghost use Rattle.cet_words.specs.Job.{JobData, IsJob};
 ghost use Rattle.cet_book.specs.Book.{first_book};
-ghost use Rattle.cet_page.specs.Machine.{Machine, Starts};
+ghost use Rattle.cet_page.specs.Machine.{Machine, Starts, run};
 ghost use Rattle.cet_own.specs.Along.{Along};
+ghost use Rattle.cet_own.specs.ExitWord.{EndsRight};
 ghost use Rattle.cet_own.specs.Restores.{TurnRestores};
 ghost use Rattle.cet_own.specs.Safe.{Safe};
 ghost use Rattle.cet_own.specs.Stands.{Stands};
@@ -19,4 +22,10 @@ pub fn every_run_is_safe()
 /// and the book; and no record tells of a restore token that didn't stand, or of one missed that did.
 pub fn every_run_stands()
     ensures { (job : JobData) (start : Machine) (turns : List ℕ) → IsJob job → Starts job start → Along (Stands job) (TurnRestores job) job start first_book turns }
+{}
+
+/// After every run of every job, whatever thread had which turn, the word EXIT is 0, 256 and an exit
+/// status below 256, or 512 and a signal from 1 to 31.
+pub fn every_run_ends_right()
+    ensures { (job : JobData) (start : Machine) (turns : List ℕ) → IsJob job → Starts job start → EndsRight (run job start turns) }
 {}
