@@ -1,27 +1,32 @@
-//! The gate into the kernel, the services exit and exit_group, and the kill.
+//! The kernel's entry: the gate, the services exit and exit_group, and the delivery of a fault with the kill.
 
 ghost use Rattle.std.specs.Prelude.{◌≡◌, ◌+◌, ◌-◌, ◌*◌, ◌%◌, ◌^◌, ◌<◌, ◌≤◌, [], ◌∷◌};
 ghost use Rattle.cet_words.specs.Layout.{token, token_page, token_word};
-ghost use Rattle.cet_words.specs.Change.{Ended};
+ghost use Rattle.cet_words.specs.Change.{Freed};
 ghost use Rattle.cet_page.specs.Script.{play};
 ghost use Rattle.cet_page.specs.Plays.{Comes};
+ghost use Rattle.cet_page.specs.Parts.{exchange_as};
 ghost use Rattle.cet_page.specs.Finish.{IsMade, counted};
-ghost use Rattle.cet_page.specs.Gate.{stack_of, gate_in, gate_out, found_busy, sys_record, served, clears, made_page, exit_status, exit, exit_group, no_call, service, syscall, signal_of, killed, kill, deliver};
+ghost use Rattle.cet_page.specs.Gate.{busied_if, stack_of, gate_in, gate_out, finish_of, found_busy, entered, sys_record, served, serve, clears, made_page, exit_status, exit, exit_group, service, syscall, signal_of, is_masked, killed, kill, delivery, deliver};
+ghost use Rattle.cet_cpu.specs.Entry.{work_of};
 
 use cet_isa::{Arch, Fault, FaultName, Record, What};
-use cet_page::{Cursor, Finish, Stop};
+use cet_page::{Cursor, Finish, Leaving, Mark, Stop};
 use cet_words::{
-    EXIT_WORD, FIRST_ENTRY_WORD, FIRST_SHADOW_PAGE, Job, KERNEL_RETURN, SHADOW_START, action_word,
-    token, token_page, token_word,
+    Access, EXIT_WORD, FIRST_ENTRY_WORD, FIRST_SHADOW_PAGE, Job, KERNEL_RETURN, SHADOW_START,
+    action_word, token, token_page, token_word,
 };
 
-const RAX: usize = 0;
+pub const RAX: usize = 0;
 
-const RCX: usize = 1;
+pub const RCX: usize = 1;
 
 const RDI: usize = 7;
 
-const R11: usize = 11;
+pub const R11: usize = 11;
+
+/// SYSCALL is `0F 05`.
+pub const SYSCALL_LENGTH: u64 = 2;
 
 /// The number of the service exit.
 const EXIT: u64 = 60;
@@ -33,22 +38,48 @@ const EXIT_GROUP: u64 = 231;
 const ENOSYS: u64 = u64::MAX - 37;
 
 /// The supervisor stack of a thread's processor, below 8.
-pub fn stack_of(job: &Job, arch: &Arch) -> u8
+fn stack_of(job: &Job, arch: &Arch) -> u8
     ensures value { result ≡ stack_of job.now arch.now }
     ensures range { result < 8 }
 {
     arch.number % job.procs
 }
 
+/// The gate's first exchange: it takes the supervisor stack, where it finds the token free.
+#[tactic(auto, unfolding(cet_page::specs::Parts::exchange_as))]
+fn take_stack(k: u8, at: &mut Cursor) -> Result<u64, Stop>
+    requires { k < 8 }
+    ensures { Comes (play (exchange_as (busied_if k) (token_word k) (token k) (token k + 1)) at.old.left at.old.rest.now) result at.new.left at.new.rest.now }
+{
+    let free = token(k);
+    at.ask_as(
+        Access::CompareExchange(token_word(k), free, free + 1),
+        Mark::Takes(k),
+    )
+}
+
+/// The gate's last exchange, which gives the supervisor stack back.
+#[tactic(auto, unfolding(cet_page::specs::Parts::exchange_as))]
+fn give_stack(k: u8, at: &mut Cursor) -> Result<u64, Stop>
+    requires { k < 8 }
+    ensures { Comes (play (exchange_as (λ found. Freed k ∷ []) (token_word k) (token k + 1) (token k)) at.old.left at.old.rest.now) result at.new.left at.new.rest.now }
+{
+    let free = token(k);
+    at.ask_as(
+        Access::CompareExchange(token_word(k), free + 1, free),
+        Mark::Gives,
+    )
+}
+
 /// The gate's way in. Where the supervisor stack is busy, the word found.
-#[tactic(auto, using(cet_page::proofs::ScriptLaws::play_bind, cet_page::proofs::PartLaws::play_exchange_as), unfolding(cet_page::specs::Gate::gate_in))]
+#[tactic(auto, using(cet_page::proofs::ScriptLaws::play_bind), unfolding(cet_page::specs::Gate::gate_in, cet_page::specs::Parts::exchange_as))]
 fn gate_in(k: u8, at: &mut Cursor) -> Result<Option<u64>, Stop>
     requires { k < 8 }
     ensures { Comes (play (gate_in k) at.old.left at.old.rest.now) result at.new.left at.new.rest.now }
 {
     at.peek(token_page(k))?;
     let free = token(k);
-    let found = at.exchange(token_word(k), free, free + 1)?;
+    let found = take_stack(k, at)?;
     if found != free {
         return Ok(Some(found));
     }
@@ -56,16 +87,24 @@ fn gate_in(k: u8, at: &mut Cursor) -> Result<Option<u64>, Stop>
     Ok(None)
 }
 
-/// The gate's way out. What follows is the same whatever it finds.
-#[tactic(auto, using(cet_page::proofs::ScriptLaws::play_bind, cet_page::proofs::PartLaws::play_exchange_as), unfolding(cet_page::specs::Gate::gate_out))]
-fn gate_out(k: u8, at: &mut Cursor) -> Result<(), Stop>
+/// The gate's way out, where nothing else ends with it. What follows is the same whatever it finds.
+#[tactic(auto, using(cet_page::proofs::ScriptLaws::play_bind), unfolding(cet_page::specs::Gate::gate_out))]
+fn way_out(k: u8, at: &mut Cursor) -> Result<(), Stop>
     requires { k < 8 }
-    ensures { Comes (play (gate_out [] k) at.old.left at.old.rest.now) result at.new.left at.new.rest.now }
+    ensures { Comes (play (gate_out Leaving.Back k) at.old.left at.old.rest.now) result at.new.left at.new.rest.now }
 {
-    let free = token(k);
     at.load(token_word(k) - 1)?;
-    at.exchange(token_word(k), free + 1, free)?;
+    give_stack(k, at)?;
     Ok(())
+}
+
+/// The gate's way out, with what ends with it.
+#[tactic(auto, using(cet_page::proofs::GateLaws::comes_out))]
+fn gate_out(k: u8, ends: Leaving, at: &mut Cursor) -> Result<(), Stop>
+    requires { k < 8 }
+    ensures { Comes (play (gate_out ends k) at.old.left at.old.rest.now) result at.new.left at.new.rest.now }
+{
+    way_out(k, at)
 }
 
 /// The state with one record more.
@@ -105,11 +144,12 @@ fn sys_record(arch: &Arch, outcome: u64) -> Record
     }
 }
 
-/// The state after a kernel call that goes back to the instruction at `next`.
-fn served(arch: &Arch, next: u64, outcome: u64) -> Arch
+/// The state after a kernel call that goes back to the instruction after SYSCALL.
+fn served(arch: &Arch, outcome: u64) -> Arch
     requires { arch.now.count < 2 ^ 32 - 1 }
-    ensures { result ≡ served arch.now next outcome }
+    ensures { result ≡ served arch.now outcome }
 {
+    let next = arch.rip.wrapping_add(SYSCALL_LENGTH);
     let mut after = *arch;
     after.regs[RCX] = next;
     after.regs[R11] = arch.flags;
@@ -117,6 +157,18 @@ fn served(arch: &Arch, next: u64, outcome: u64) -> Arch
     after.rip = next;
     after.count = arch.count + 1;
     after
+}
+
+/// What a service comes to that goes back with an outcome.
+fn serve(arch: &Arch, outcome: u64) -> (Arch, Record, Leaving)
+    requires { arch.now.count < 2 ^ 32 - 1 }
+    ensures { result ≡ serve arch.now outcome }
+{
+    (
+        served(arch, outcome),
+        sys_record(arch, outcome),
+        Leaving::Back,
+    )
 }
 
 /// The status of exit and exit_group: the low byte of RDI.
@@ -127,74 +179,46 @@ fn exit_status(arch: &Arch) -> u8
 }
 
 /// The service exit, which ends the thread.
-#[tactic(auto, using(cet_page::proofs::ScriptLaws::play_bind, crate::proofs::GateOut::play_gate_out), unfolding(cet_page::specs::Gate::exit))]
-fn exit(arch: &Arch, k: u8, at: &mut Cursor) -> Result<Finish, Stop>
-    requires stack { k < 8 }
+#[tactic(auto, using(cet_page::proofs::ScriptLaws::play_bind), unfolding(cet_page::specs::Gate::exit))]
+fn exit(arch: &Arch, at: &mut Cursor) -> Result<(Arch, Record, Leaving), Stop>
     requires count { arch.now.count < 2 ^ 32 - 1 }
     requires made { IsMade arch.now.made }
-    ensures { Comes (play (exit arch.now k) at.old.left at.old.rest.now) result at.new.left at.new.rest.now }
+    ensures { Comes (play (exit arch.now) at.old.left at.old.rest.now) result at.new.left at.new.rest.now }
 {
     let page = FIRST_SHADOW_PAGE + ((arch.made - SHADOW_START) / 4096) as u32;
     at.stores(8, FIRST_ENTRY_WORD + page, 0, 0)?;
-    gate_out(k, at)?;
     let status = exit_status(arch);
-    Ok(Finish::Exited(counted(arch), sys_record(arch, u64::from(status)), status))
+    let noted = sys_record(arch, u64::from(status));
+    Ok((counted(arch), noted, Leaving::Ended(status)))
 }
 
 /// The service exit_group, which ends the process. The thread goes on to its next boundary.
 #[tactic(auto, using(cet_page::proofs::ScriptLaws::play_bind), unfolding(cet_page::specs::Gate::exit_group))]
-fn exit_group(arch: &Arch, next: u64, k: u8, at: &mut Cursor) -> Result<Finish, Stop>
-    requires stack { k < 8 }
-    requires count { arch.now.count < 2 ^ 32 - 1 }
-    ensures { Comes (play (exit_group arch.now next k) at.old.left at.old.rest.now) result at.new.left at.new.rest.now }
+fn exit_group(arch: &Arch, at: &mut Cursor) -> Result<(Arch, Record, Leaving), Stop>
+    requires { arch.now.count < 2 ^ 32 - 1 }
+    ensures { Comes (play (exit_group arch.now) at.old.left at.old.rest.now) result at.new.left at.new.rest.now }
 {
     let status = u64::from(exit_status(arch));
     at.exchange(EXIT_WORD, 0, 0x100 + status)?;
-    gate_out(k, at)?;
-    Ok(Finish::Noted(served(arch, next, status), sys_record(arch, status)))
+    Ok(serve(arch, status))
 }
 
-/// A kernel call that isn't there.
-#[tactic(auto, using(cet_page::proofs::ScriptLaws::play_bind), unfolding(cet_page::specs::Gate::no_call))]
-fn no_call(arch: &Arch, next: u64, k: u8, at: &mut Cursor) -> Result<Finish, Stop>
-    requires stack { k < 8 }
-    requires count { arch.now.count < 2 ^ 32 - 1 }
-    ensures { Comes (play (no_call arch.now next k) at.old.left at.old.rest.now) result at.new.left at.new.rest.now }
-{
-    gate_out(k, at)?;
-    Ok(Finish::Noted(served(arch, next, ENOSYS), sys_record(arch, ENOSYS)))
-}
-
-fn service(arch: &Arch, next: u64, k: u8, at: &mut Cursor) -> Result<Finish, Stop>
-    requires stack { k < 8 }
+fn service(arch: &Arch, at: &mut Cursor) -> Result<(Arch, Record, Leaving), Stop>
     requires count { arch.now.count < 2 ^ 32 - 1 }
     requires made { IsMade arch.now.made }
-    ensures { Comes (play (service arch.now next k) at.old.left at.old.rest.now) result at.new.left at.new.rest.now }
+    ensures { Comes (play (service arch.now) at.old.left at.old.rest.now) result at.new.left at.new.rest.now }
 {
     match arch.regs[RAX] {
-        EXIT => exit(arch, k, at),
-        EXIT_GROUP => exit_group(arch, next, k, at),
-        _ => no_call(arch, next, k, at),
-    }
-}
-
-/// SYSCALL, with the address of the next instruction.
-#[tactic(auto, using(cet_page::proofs::ScriptLaws::play_bind), unfolding(cet_page::specs::Gate::syscall))]
-pub fn syscall(job: &Job, arch: &Arch, next: u64, at: &mut Cursor) -> Result<Finish, Stop>
-    requires count { arch.now.count < 2 ^ 32 - 1 }
-    requires made { IsMade arch.now.made }
-    ensures { Comes (play (syscall job.now arch.now next) at.old.left at.old.rest.now) result at.new.left at.new.rest.now }
-{
-    let k = stack_of(job, arch);
-    match gate_in(k, at)? {
-        Some(found) => Ok(found_busy(arch, k, found)),
-        None => service(arch, next, k, at),
+        EXIT => exit(arch, at),
+        EXIT_GROUP => exit_group(arch, at),
+        _ => Ok(serve(arch, ENOSYS)),
     }
 }
 
 /// The signal of a fault.
 fn signal_of(name: FaultName) -> u8
     ensures value { result ≡ signal_of name }
+    ensures low { 0 < result }
     ensures range { result < 32 }
 {
     match name {
@@ -206,7 +230,16 @@ fn signal_of(name: FaultName) -> u8
     }
 }
 
-fn killed(arch: &Arch, signal: u8, before: u64) -> Finish
+/// Whether a signal is in a mask, of which bit s - 1 is signal s.
+fn is_masked(mask: u64, signal: u8) -> bool
+    requires low { 0 < signal }
+    requires range { signal < 32 }
+    ensures { result ≡ is_masked mask signal }
+{
+    mask >> (signal - 1) & 1 == 1
+}
+
+fn killed(arch: &Arch, signal: u8, before: u64) -> (Arch, Record, Leaving)
     requires { arch.now.count < 2 ^ 32 - 1 }
     ensures { result ≡ killed arch.now signal before }
 {
@@ -220,32 +253,94 @@ fn killed(arch: &Arch, signal: u8, before: u64) -> Finish
         a: u64::from(signal),
         b: before,
     };
-    Finish::Noted(after, noted)
+    (after, noted, Leaving::Back)
 }
 
 /// The kill of the process by a signal.
 #[tactic(auto, using(cet_page::proofs::ScriptLaws::play_bind), unfolding(cet_page::specs::Gate::kill))]
-fn kill(arch: &Arch, signal: u8, k: u8, at: &mut Cursor) -> Result<Finish, Stop>
+fn kill(arch: &Arch, signal: u8, at: &mut Cursor) -> Result<(Arch, Record, Leaving), Stop>
     requires signal { signal < 32 }
-    requires stack { k < 8 }
     requires count { arch.now.count < 2 ^ 32 - 1 }
-    ensures { Comes (play (kill arch.now signal k) at.old.left at.old.rest.now) result at.new.left at.new.rest.now }
+    ensures { Comes (play (kill arch.now signal) at.old.left at.old.rest.now) result at.new.left at.new.rest.now }
 {
-    at.load(action_word(signal))?;
     let before = at.exchange(EXIT_WORD, 0, 0x200 + u64::from(signal))?;
-    gate_out(k, at)?;
     Ok(killed(arch, signal, before))
 }
 
-/// The delivery of a due fault.
-#[tactic(auto, using(cet_page::proofs::ScriptLaws::play_bind), unfolding(cet_page::specs::Gate::deliver))]
-pub fn deliver(job: &Job, arch: &Arch, fault: &Fault, at: &mut Cursor) -> Result<Finish, Stop>
-    requires { arch.now.count < 2 ^ 32 - 1 }
-    ensures { Comes (play (deliver job.now arch.now fault.now) at.old.left at.old.rest.now) result at.new.left at.new.rest.now }
+/// The delivery of the signal of a due fault: the kill, after a look at its handler unless it is masked.
+#[tactic(auto, using(cet_page::proofs::ScriptLaws::play_bind), unfolding(cet_page::specs::Gate::delivery))]
+fn delivery(arch: &Arch, signal: u8, at: &mut Cursor) -> Result<(Arch, Record, Leaving), Stop>
+    requires low { 0 < signal }
+    requires range { signal < 32 }
+    requires count { arch.now.count < 2 ^ 32 - 1 }
+    ensures { Comes (play (delivery arch.now signal) at.old.left at.old.rest.now) result at.new.left at.new.rest.now }
+{
+    if !is_masked(arch.mask, signal) {
+        at.load(action_word(signal))?;
+    }
+    kill(arch, signal, at)
+}
+
+/// What the kernel is entered for.
+#[derive(Clone, Copy)]
+pub enum Entry {
+    /// The service that a SYSCALL asks for.
+    Service,
+    /// The delivery of a due fault of this name.
+    Delivery(FaultName),
+}
+
+fn work(arch: &Arch, entry: Entry, at: &mut Cursor) -> Result<(Arch, Record, Leaving), Stop>
+    requires count { arch.now.count < 2 ^ 32 - 1 }
+    requires made { IsMade arch.now.made }
+    ensures { Comes (play (work_of arch.now entry) at.old.left at.old.rest.now) result at.new.left at.new.rest.now }
+{
+    match entry {
+        Entry::Service => service(arch, at),
+        Entry::Delivery(name) => delivery(arch, signal_of(name), at),
+    }
+}
+
+/// What the row comes to after the way out.
+fn finish_of(next: Arch, noted: Record, ends: Leaving) -> Finish
+    ensures { result ≡ finish_of next noted ends }
+{
+    match ends {
+        Leaving::Back | Leaving::Popped => Finish::Noted(next, noted),
+        Leaving::Ended(status) => Finish::Exited(next, noted, status),
+    }
+}
+
+/// The kernel's entry: the way in, the work, and the way out.
+#[tactic(auto, using(cet_page::proofs::ScriptLaws::play_bind), unfolding(cet_page::specs::Gate::entered))]
+fn entered(job: &Job, arch: &Arch, entry: Entry, at: &mut Cursor) -> Result<Finish, Stop>
+    requires count { arch.now.count < 2 ^ 32 - 1 }
+    requires made { IsMade arch.now.made }
+    ensures { Comes (play (entered job.now arch.now (work_of arch.now entry)) at.old.left at.old.rest.now) result at.new.left at.new.rest.now }
 {
     let k = stack_of(job, arch);
-    match gate_in(k, at)? {
-        Some(found) => Ok(found_busy(arch, k, found)),
-        None => kill(arch, signal_of(fault.name), k, at),
+    if let Some(found) = gate_in(k, at)? {
+        return Ok(found_busy(arch, k, found));
     }
+    let (next, noted, ends) = work(arch, entry, at)?;
+    gate_out(k, ends, at)?;
+    Ok(finish_of(next, noted, ends))
+}
+
+/// SYSCALL.
+pub fn syscall(job: &Job, arch: &Arch, at: &mut Cursor) -> Result<Finish, Stop>
+    requires count { arch.now.count < 2 ^ 32 - 1 }
+    requires made { IsMade arch.now.made }
+    ensures { Comes (play (syscall job.now arch.now) at.old.left at.old.rest.now) result at.new.left at.new.rest.now }
+{
+    entered(job, arch, Entry::Service, at)
+}
+
+/// The delivery of a due fault.
+pub fn deliver(job: &Job, arch: &Arch, fault: &Fault, at: &mut Cursor) -> Result<Finish, Stop>
+    requires count { arch.now.count < 2 ^ 32 - 1 }
+    requires made { IsMade arch.now.made }
+    ensures { Comes (play (deliver job.now arch.now fault.now) at.old.left at.old.rest.now) result at.new.left at.new.rest.now }
+{
+    entered(job, arch, Entry::Delivery(fault.name), at)
 }

@@ -39,7 +39,7 @@ fn execute(
             let (after, noted) = cet_flow::follow(arch, instr, next, at)?;
             Ok(Finish::Noted(after, noted))
         }
-        Family::SystemCall => syscall(job, arch, next, at),
+        Family::SystemCall => syscall(job, arch, at),
         Family::Unbuilt => Err(invalid_opcode()),
     }
 }

@@ -7,21 +7,18 @@ ghost use Rattle.cet_isa.specs.declared.threads.End.{End};
 ghost use Rattle.cet_isa.specs.declared.threads.FaultName.{FaultName};
 ghost use Rattle.cet_page.specs.Faults.{Faults};
 ghost use Rattle.cet_page.specs.Within.{IsCore};
-ghost use Rattle.cet_page.specs.Core.{come, core_at, first_core, next_access, next_held, taken, kept_by, recorded, fault_record};
-ghost use Rattle.cet_page.specs.Gated.{gate_held, enters_kernel};
+ghost use Rattle.cet_page.specs.Core.{come, core_at, first_core, child_core, next_access, taken, kept_by, recorded, fault_record};
+ghost use Rattle.cet_page.specs.Plays.{held_by};
 ghost use Rattle.cet_page.specs.Finish.{IsMade};
-ghost use Rattle.cet_page.specs.Gate.{stack_of};
 ghost use Rattle.cet_page.specs.Seen.{nothing_seen};
-ghost use Rattle.cet_cpu.specs.Code.{IsCode};
-ghost use Rattle.cet_cpu.specs.Cpu.{CameTo, CpuData, IsCpu, IsNext, KeepsCode};
+ghost use Rattle.cet_cpu.specs.Cpu.{awaited, CameTo, CpuData, IsCpu, IsNext, KeepsCode};
 
-use crate::fetches::{Code, code_at};
-use crate::gate::stack_of;
+use crate::fetches::Code;
+use crate::gate::{R11, RAX, RCX, SYSCALL_LENGTH};
 use crate::rows::row;
-use cet_decode::Decoded;
-use cet_isa::{Arch, End, Fault, Instr, Record, What};
-use cet_page::{Finish, Stop, Vals};
-use cet_words::{Access, FIRST_REGION_END, FIRST_REGION_START, Job, token, token_word};
+use cet_isa::{Arch, End, Fault, Record, What};
+use cet_page::{Finish, Mark, Stop, Vals};
+use cet_words::{Access, FIRST_REGION_END, FIRST_REGION_START, Job, token};
 use std::marker::Model;
 
 /// A guest thread between two of its accesses. Its records aren't kept here.
@@ -30,8 +27,8 @@ pub struct Cpu {
     arch: Arch,
     vals: Vals,
     over: Option<End>,
-    /// The access that it waits for.
-    next: Option<Access>,
+    /// The access that it waits for, with its mark.
+    next: Option<(Access, Mark)>,
     /// The code at RIP, once its row has read that.
     code: Option<Code>,
 }
@@ -51,6 +48,10 @@ pub struct Taken {
     pub child: Option<Cpu>,
     pub end: Option<End>,
 }
+
+const RSP: usize = 4;
+
+const RSI: usize = 6;
 
 /// The registers of thread 0: RSP stands below the end of the main stack.
 const FIRST_REGS: [u64; 16] = [0, 0, 0, 0, 0x7fff_ffc0, 0, 0, 0, 0, 0, 0, 0, 0, 0, 0, 0];
@@ -93,53 +94,53 @@ pub fn first(job: &Job) -> Cpu
     cpu
 }
 
-/// Whether the row of a thread goes through the gate into the kernel: that of a due fault, and SYSCALL.
-fn enters_kernel(job: &Job, arch: &Arch, code: &Option<Code>) -> bool
-    requires { IfSome code.now (IsCode job.now.image.segments arch.now.rip) }
-    ensures { result ≡ enters_kernel job.now arch.now }
+/// The supervisor stack that a thread holds after the answer to an access with this mark.
+fn held_by(mark: Mark, answer: u64, held: Option<u8>) -> Option<u8>
+    ensures { result ≡ held_by mark answer held }
 {
-    if arch.due.is_some() {
-        return true;
+    match mark {
+        Mark::Takes(k) => { if answer == token(k) { Some(k) } else { held } }
+        Mark::Gives => None,
+        Mark::Plain | Mark::Bears(_) => held,
     }
-    let here = match code {
-        Some(here) => *here,
-        None => code_at(job.image, arch.rip),
-    };
-    matches!(
-        here.decoded,
-        Decoded::Ok {
-            instr: Instr::Syscall,
-            ..
-        }
-    )
 }
 
-/// The supervisor stack that a thread holds after an access. The gate's exchanges alone change it: the
-/// first, where it finds the token free, takes the stack, and the last gives it back.
-fn held_after(
-    job: &Job,
-    arch: &Arch,
-    code: &Option<Code>,
-    access: Access,
-    answer: u64,
-) -> Option<u8>
-    requires { IfSome code.now (IsCode job.now.image.segments arch.now.rip) }
-    ensures { result ≡ gate_held (enters_kernel job.now arch.now) (stack_of job.now arch.now) access answer arch.now.held }
+fn awaited(next: Option<(Access, Mark)>) -> Option<Access>
+    ensures { result ≡ awaited next }
 {
-    let Access::CompareExchange(word, expected, _) = access else {
-        return arch.held;
-    };
-    let k = stack_of(job, arch);
-    if word != token_word(k) || !enters_kernel(job, arch, code) {
-        return arch.held;
+    match next {
+        Some((access, _)) => Some(access),
+        None => None,
     }
-    if expected != token(k) {
-        return None;
-    }
-    if answer == token(k) {
-        Some(k)
-    } else {
-        arch.held
+}
+
+/// The child of a clone, before its first access.
+fn child_at(parent: &Arch, child: u8, start: u64) -> Cpu
+    requires { start + 32768 < 2 ^ 64 }
+    ensures core { result.core ≡ child_core parent.now child start }
+    ensures waits { result.next ≡ None }
+    ensures code { result.code ≡ None }
+{
+    let next = parent.rip.wrapping_add(SYSCALL_LENGTH);
+    let mut arch = *parent;
+    arch.regs[RCX] = next;
+    arch.regs[R11] = parent.flags;
+    arch.regs[RAX] = 0;
+    arch.regs[RSP] = parent.regs[RSI];
+    arch.rip = next;
+    arch.ssp = start + 32768;
+    arch.count = 0;
+    arch.posted = 0;
+    arch.number = child;
+    arch.made = start;
+    arch.due = None;
+    arch.held = None;
+    Cpu {
+        arch,
+        vals: Vals::new(),
+        over: None,
+        next: None,
+        code: None,
     }
 }
 
@@ -171,7 +172,7 @@ impl Cpu {
     }
 
     /// The thread's next access, or none where it has ended.
-    #[tactic(auto, using(cet_page::proofs::WithinLaws::stops))]
+    #[tactic(auto, using(cet_page::proofs::WithinLaws::stops, cet_page::proofs::PlayLaws::wanted_range))]
     pub fn next(&self, job: &Job) -> Option<Access>
         requires state { IsCpu job.now self.now }
         ensures access { result ≡ next_access job.now self.now.core }
@@ -179,11 +180,11 @@ impl Cpu {
         ensures ended { (end : End) → self.now.core.over ≡ Some end → result ≡ None }
         ensures range { IfSome result InRange }
     {
-        self.next
+        awaited(self.next)
     }
 
     /// Takes the answer to the thread's next access.
-    #[tactic(auto, using(cet_page::proofs::WithinLaws::room, cet_page::proofs::WithinLaws::taken_at, cet_page::proofs::WithinLaws::no_child, cet_page::proofs::FaultLaws::faults_of))]
+    #[tactic(auto, using(cet_page::proofs::WithinLaws::room, cet_page::proofs::WithinLaws::taken_at, cet_page::proofs::FaultLaws::faults_of))]
     pub fn take(&mut self, job: &Job, answer: u64) -> Taken
         requires state { IsCpu job.now self.old }
         requires going { self.old.core.over ≡ None }
@@ -197,16 +198,49 @@ impl Cpu {
         // A faulting instruction changes no register, flag, SSP or word, and its fault is due.
         ensures fault { (r : Record) (name : FaultName) → result.noted ≡ Some r → r.what ≡ What.Fault name → Faults job.now self.old.core self.new.core answer r }
     {
+        let child = self.child(job, answer);
         let noted = self.answered(job, answer);
         self.wait(job);
         Taken {
             noted,
-            child: None,
+            child,
             end: self.over,
         }
     }
+
+    /// The thread that is born where the next access has this answer, with its first access.
+    #[tactic(auto, using(cet_page::proofs::WithinLaws::child_is))]
+    fn child(&self, job: &Job, answer: u64) -> Option<Cpu>
+        requires state { IsCpu job.now self.now }
+        requires going { self.now.core.over ≡ None }
+        ensures child { option_map (λ (child : CpuData). child.core) result ≡ (taken job.now self.now.core answer).child }
+        ensures born { IfSome result (IsCpu job.now) }
+    {
+        let mut child = self.unborn(job, answer)?;
+        child.wait(job);
+        Some(child)
+    }
+
+    /// The same before it waits.
+    #[tactic(auto, using(cet_page::proofs::WithinLaws::bears_made), unfolding(cet_page::specs::Core::taken, cet_page::specs::Core::next_access))]
+    fn unborn(&self, job: &Job, answer: u64) -> Option<Cpu>
+        requires state { IsCpu job.now self.now }
+        requires going { self.now.core.over ≡ None }
+        ensures child { option_map (λ (child : CpuData). child.core) result ≡ (taken job.now self.now.core answer).child }
+        ensures fresh { IfSome result (λ (child : CpuData). (child.next ≡ None) × (child.code ≡ None)) }
+    {
+        let (_, mark) = self.next?;
+        let Mark::Bears(start) = mark else {
+            return None;
+        };
+        if answer >= 32 {
+            return None;
+        }
+        Some(child_at(&self.arch, answer as u8, start))
+    }
+
     /// Keeps the access that the thread waits for.
-    #[tactic(auto, unfolding(cet_page::specs::Core::next_access))]
+    #[tactic(auto, using(cet_page::proofs::PlayLaws::wanted_access), unfolding(cet_page::specs::Core::next_access))]
     fn wait(&mut self, job: &Job)
         requires state { IsCore job.now self.old.core }
         requires waits { IfSome self.old.next (IsNext job.now self.old.core) }
@@ -217,8 +251,8 @@ impl Cpu {
         if self.next.is_some() || self.over.is_some() {
             return;
         }
-        if let Err(Stop::Access(access)) = self.play(job) {
-            self.next = Some(access);
+        if let Err(Stop::Access(access, mark)) = self.play(job) {
+            self.next = Some((access, mark));
         }
     }
 
@@ -241,18 +275,6 @@ impl Cpu {
         came
     }
 
-    /// The supervisor stack that the thread holds after the answer to its next access.
-    #[tactic(auto, using(cet_page::proofs::GatedLaws::held_is))]
-    fn held_after(&self, job: &Job, access: Access, answer: u64) -> Option<u8>
-        requires state { IsCore job.now self.now.core }
-        requires code { KeepsCode job.now self.now }
-        requires going { self.now.core.over ≡ None }
-        requires access { next_access job.now self.now.core ≡ Some access }
-        ensures { result ≡ next_held job.now self.now.core answer }
-    {
-        held_after(job, &self.arch, &self.code, access, answer)
-    }
-
     /// Takes the answer, and keeps the access that is waited for, but for the first one of a new row.
     #[tactic(auto, unfolding(cet_page::specs::Core::taken, cet_page::specs::Core::next_access))]
     fn answered(&mut self, job: &Job, answer: u64) -> Option<Record>
@@ -265,12 +287,12 @@ impl Cpu {
         ensures waits { IfSome self.new.next (IsNext job.now self.new.core) }
         ensures code { KeepsCode job.now self.new }
     {
-        let access = self.next?;
-        self.arch.held = self.held_after(job, access, answer);
+        let (access, mark) = self.next?;
+        self.arch.held = held_by(mark, answer, self.arch.held);
         self.vals.add(access, answer);
         match self.play(job) {
-            Err(Stop::Access(access)) => {
-                self.next = Some(access);
+            Err(Stop::Access(access, mark)) => {
+                self.next = Some((access, mark));
                 None
             }
             Err(Stop::Fault(fault)) => {
@@ -281,17 +303,17 @@ impl Cpu {
                 Some(noted)
             }
             Ok(Finish::Noted(next, noted)) => {
-                self.enter(next);
+                self.enter(&next);
                 self.settle(job);
                 Some(noted)
             }
             Ok(Finish::Posted(next)) => {
-                self.enter(next);
+                self.enter(&next);
                 self.begin(None);
                 None
             }
             Ok(Finish::Exited(next, noted, status)) => {
-                self.enter(next);
+                self.enter(&next);
                 self.begin(Some(End::Exit(status)));
                 Some(noted)
             }
@@ -303,11 +325,11 @@ impl Cpu {
     }
 
     /// The thread in another state, but for its number and the supervisor stack that it holds.
-    fn enter(&mut self, next: Arch)
-        ensures { self.new.core ≡ record self.old.core { arch = kept_by self.old.core.arch self.old.core.arch.held next } }
+    fn enter(&mut self, next: &Arch)
+        ensures { self.new.core ≡ record self.old.core { arch = kept_by self.old.core.arch self.old.core.arch.held next.now } }
     {
         let (number, held) = (self.arch.number, self.arch.held);
-        self.arch = next;
+        self.arch = *next;
         self.arch.number = number;
         self.arch.held = held;
     }

@@ -30,7 +30,7 @@ fn called(arch: &Arch, target: u64, sp: u64, ssp: u64) -> (Arch, Record)
 }
 
 /// A call that pushes the return address on both stacks.
-#[tactic(auto, using(cet_page::proofs::ScriptLaws::play_bind, cet_page::proofs::PartLaws::play_store_as), unfolding(cet_page::specs::Flow::call))]
+#[tactic(auto, using(cet_page::proofs::ScriptLaws::play_bind), unfolding(cet_page::specs::Flow::call, cet_page::specs::Parts::store_as))]
 fn call(arch: &Arch, back: u64, target: u64, at: &mut Cursor) -> Result<(Arch, Record), Stop>
     requires { arch.now.count < 2 ^ 32 - 1 }
     ensures { Comes (play (call arch.now back target) at.old.left at.old.rest.now) result at.new.left at.new.rest.now }

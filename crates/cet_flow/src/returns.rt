@@ -42,7 +42,7 @@ fn return_differs(word: u64, shadow_word: u64) -> Fault
 }
 
 /// A near return, which takes so many bytes more off the program stack.
-#[tactic(auto, using(cet_page::proofs::ScriptLaws::play_bind, cet_page::proofs::PartLaws::play_load_as), unfolding(cet_page::specs::Flow::ret))]
+#[tactic(auto, using(cet_page::proofs::ScriptLaws::play_bind), unfolding(cet_page::specs::Flow::ret, cet_page::specs::Parts::load_as))]
 pub fn ret(arch: &Arch, bytes: u16, at: &mut Cursor) -> Result<(Arch, Record), Stop>
     requires { arch.now.count < 2 ^ 32 - 1 }
     ensures { Comes (play (ret arch.now bytes) at.old.left at.old.rest.now) result at.new.left at.new.rest.now }

@@ -1,8 +1,9 @@
-ghost use Rattle.std.specs.Prelude.{◌≡◌, ◌-◌, ◌^◌, ◌<◌, false};
+ghost use Rattle.std.specs.Prelude.{◌≡◌, ◌-◌, ◌^◌, ◌<◌, [], All};
 ghost use Rattle.cet_isa.specs.declared.threads.Fault.{Fault};
 ghost use Rattle.cet_page.specs.Script.{play};
+ghost use Rattle.cet_page.specs.Trail.{trail};
 ghost use Rattle.cet_page.specs.Plays.{Comes, NextInRange, next_of};
-ghost use Rattle.cet_page.specs.Faults.{written};
+ghost use Rattle.cet_page.specs.Faults.{KeepsWords};
 ghost use Rattle.cet_page.specs.Row.{next_address};
 ghost use Rattle.cet_page.specs.Flow.{flow};
 
@@ -51,9 +52,9 @@ pub fn next(job: &Job, arch: &Arch, vals: &Vals, instr: &Instr) -> Next
     ensures range { NextInRange result }
 
     // An instruction that faults has changed no word.
-    ensures fault { (e : Fault) → result ≡ Next.Fault e → written false (flow arch.now instr.now (next_address job.now arch.now)) vals.now.count vals.now.kept ≡ false }
+    ensures fault { (e : Fault) → result ≡ Next.Fault e → All KeepsWords (trail vals.now.count (flow arch.now instr.now (next_address job.now arch.now)) vals.now.kept []) }
 {
-    Next::of(follow(
+    Next::noted(follow(
         arch,
         instr,
         next_address(job, arch, |bytes| instruction_length(bytes)),

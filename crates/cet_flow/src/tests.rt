@@ -2,7 +2,7 @@ ghost use Rattle.std.specs.Prelude.{◌<◌, ◌-◌, ◌^◌, ◌≤◌, length
 
 use super::*;
 use cet_isa::{Arch, Base, Cond, Fault, FaultName, Instr, Mem, Operand, Record, Reg, What};
-use cet_page::{Cursor, Next, Stop, Vals};
+use cet_page::{Cursor, Mark, Next, Stop, Vals};
 use cet_words::{Access, Bytes, Image, Job, NoMemory, Segment, Segments};
 use std::alloc::Global;
 use std::process::Abort;
@@ -65,7 +65,11 @@ fn accesses(
     for access in wanted {
         let rest = answers.get(..kept).expect(rt, "too few answers");
         let stop = follow(arch, instr, 0x40_1003, &mut Cursor { left, rest });
-        assert_eq!(rt; stop.err(), Some(Stop::Access(*access)), "{instr:?}");
+        assert_eq!(rt;
+            stop.err(),
+            Some(Stop::Access(*access, Mark::Plain)),
+            "{instr:?}"
+        );
         left = left.checked_add(1).expect(rt, "too many accesses");
         if !matches!(access, Access::Store(_, _)) {
             kept = kept.checked_add(1).expect(rt, "too many answers");

@@ -1,11 +1,11 @@
 -- What a thread claims of the gate's way in and way out. Source: own.
-use Rattle.std.proofs.Common.{◌≡◌, ℕ, ◌+◌, ◌-◌, ◌<◌, ◌≤◌, inl, inr, true, [], ◌∷◌, length, Option, Some, None, refl, sym, ◌∙◌, ap, arith, eqb, List}
+use Rattle.std.proofs.Common.{◌≡◌, ℕ, ◌+◌, ◌-◌, ◌<◌, ◌≤◌, inl, inr, true, length, Option, Some, None, refl, sym, ◌∙◌, ap, arith, eqb, List}
 use Rattle.std.specs.Prelude.{option_map, option_and_then}
 use Rattle.std.proofs.lemmas.Bool.{cases_lt}
 use Rattle.std.proofs.lemmas.Bool.Decides.{eqb_tells, nat_tests}
 use Rattle.cet_words.specs.Layout.{token, token_page, token_word, kernel_return}
 use Rattle.cet_words.specs.Job.{JobData}
-use Rattle.cet_words.specs.Change.{Busied, Freed, Ended}
+use Rattle.cet_words.specs.Change.{Busied, Freed}
 use Rattle.cet_isa.specs.declared.threads.Arch.{Arch}
 use Rattle.cet_book.specs.Book.{Lost, Book, region, top, stack_of, put_stack, current_of, book_after}
 use Rattle.cet_book.proofs.Shape.{StackShape}
@@ -15,6 +15,7 @@ use Rattle.cet_book.proofs.Supervisor.{stack_of-put_stack, current_of-put_stack}
 use Rattle.cet_book.proofs.Ways.{busied_way, freed_way, ended_way}
 use Rattle.cet_page.specs.Script.{Script, ◌>>=◌}
 use Rattle.cet_page.specs.Parts.{exchange_as, store, store_as, load, load_as}
+use Rattle.cet_page.specs.declared.finishes.Leaving.TheVariants as leaving
 use Rattle.cet_page.specs.Gate.{gate_in, gate_out}
 use Rattle.cet_own.specs.Stands.{busy}
 use Rattle.cet_own.proofs.Standing.{Stacked, HasNone}
@@ -112,10 +113,10 @@ module _ (job : JobData) (arch : Arch) (l : own_stack job arch.number < 8) where
       )))
 
   -- the way out
-  pub gate_out_then : {A : Type 0} {d : Progress} (Q : List Visit → State → State → A → Type 0) (past : List Visit) (before s : State) (f : Unit {0} → Script A) → Inside arch.number gate d (progress past) (left_in past (token_word gate - 1)) s.book arch.ssp → ((p : List Visit) (z n : State) → Resting arch.number d (progress p) n.book arch.ssp → Claim job arch Q p z n (f tt)) → Claim job arch Q past before s (gate_out [] gate >>= f)
+  pub gate_out_then : {A : Type 0} {d : Progress} (Q : List Visit → State → State → A → Type 0) (past : List Visit) (before s : State) (f : Unit {0} → Script A) → Inside arch.number gate d (progress past) (left_in past (token_word gate - 1)) s.book arch.ssp → ((p : List Visit) (z n : State) → Resting arch.number d (progress p) n.book arch.ssp → Claim job arch Q p z n (f tt)) → Claim job arch Q past before s (gate_out leaving.Back gate >>= f)
   unfolding gate_out exchange_as load_as
   gate_out_then {d = d} Q past before s f inside h =
-      claim_bind job arch Q past before s (gate_out [] gate) f
+      claim_bind job arch Q past before s (gate_out leaving.Back gate) f
       (claim_bind job arch (λ p z n x. Claim job arch Q p z n (f x)) past before s (load (token_word gate - 1)) _ (
         inside_stacked inside,
         λ now r v known.
@@ -144,10 +145,10 @@ module _ (job : JobData) (arch : Arch) (l : own_stack job arch.number < 8) where
       ))
 
   -- the way out of a thread that ends
-  pub exit_out_then : {A : Type 0} (Q : List Visit → State → State → A → Type 0) (past : List Visit) (before s : State) (f : Unit {0} → Script A) → Inside arch.number gate untouched (progress past) (left_in past (token_word gate - 1)) s.book arch.ssp → ((p : List Visit) (z n : State) → HasNone arch.number n.book → Claim job arch Q p z n (f tt)) → Claim job arch Q past before s (gate_out (Ended ∷ []) gate >>= f)
+  pub exit_out_then : {A : Type 0} (Q : List Visit → State → State → A → Type 0) (past : List Visit) (before s : State) (status : ℕ) (f : Unit {0} → Script A) → Inside arch.number gate untouched (progress past) (left_in past (token_word gate - 1)) s.book arch.ssp → ((p : List Visit) (z n : State) → HasNone arch.number n.book → Claim job arch Q p z n (f tt)) → Claim job arch Q past before s (gate_out (leaving.Ended status) gate >>= f)
   unfolding gate_out exchange_as load_as
-  exit_out_then Q past before s f inside h =
-      claim_bind job arch Q past before s (gate_out (Ended ∷ []) gate) f
+  exit_out_then Q past before s status f inside h =
+      claim_bind job arch Q past before s (gate_out (leaving.Ended status) gate) f
       (claim_bind job arch (λ p z n x. Claim job arch Q p z n (f x)) past before s (load (token_word gate - 1)) _ (
         inside_stacked inside,
         λ now r v known.

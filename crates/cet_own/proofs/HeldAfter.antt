@@ -6,7 +6,7 @@ use Rattle.cet_book.proofs.Shape.{IsBook}
 use Rattle.cet_book.proofs.Changes.{same_book, then_by}
 use Rattle.cet_book.proofs.Held.{Held, held_by_change, change_held}
 use Rattle.cet_book.proofs.Kept.{book_kept}
-use Rattle.cet_page.specs.Core.{held_after}
+use Rattle.cet_page.specs.Script.{held_after}
 
 -- what the first change makes of it, and then the others
 held_first : (c : Change) (cs : List Change) (held : Option ℕ) → held_after (c ∷ cs) held ≡ held_after cs (held_by_change c held)

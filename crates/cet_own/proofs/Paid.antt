@@ -17,19 +17,17 @@ use Rattle.cet_book.specs.Book.{Book}
 use Rattle.cet_book.specs.Facts.{one}
 use Rattle.cet_page.specs.Core.{Core, unheld, core_by}
 use Rattle.cet_page.specs.Machine.{Thread}
-use Rattle.cet_page.proofs.OrderlyLaws.{OnOver}
-use Rattle.cet_page.proofs.OrderlyRows.{Ends}
-use Rattle.cet_page.specs.Row.{row}
+use Rattle.cet_page.proofs.Walk.{OnOver}
+use Rattle.cet_page.proofs.WalkRows.{Ends}
 use Rattle.cet_page.specs.Script.{Came, Over, Faulted, Wants}
 use Rattle.cet_page.specs.Seen.{Seen}
 use Rattle.cet_page.specs.declared.finishes.Finish.{Finish}
 use Rattle.cet_page.specs.declared.finishes.Finish.TheVariants.{Noted, Posted, Exited, Stopped}
 use Rattle.cet_own.proofs.Calls as calls
-use Rattle.cet_page.specs.Trail.{trail_of, Visit}
+use Rattle.cet_page.specs.Trail.{Visit, row_trail, trail_of}
 use Rattle.cet_own.proofs.Frame.{OnCame}
 use Rattle.cet_own.proofs.Owed.{State, rules}
 use Rattle.cet_own.proofs.Parts.{During, Fails}
-use Rattle.cet_page.specs.Trail.{trail}
 use Rattle.cet_own.specs.Past.{draw_word, next_word, alters, is_draw, drew, is_number, numbered}
 use Rattle.cet_own.proofs.Counters.{CountsBy, no_count, draws_pages, bears_child, bears_nobody, CountersTell}
 use Rattle.cet_own.proofs.Standing.{HasNone}
@@ -106,11 +104,8 @@ pub record Pays (job : JobData) (arch : Arch) (past : List Visit) (next : Core) 
   pub count : next.arch.count ≤ arch.count + 1
   pub made : next.arch.made ≡ arch.made
 
-abbrev pub row_trail : JobData → Arch → Seen → List Visit
-row_trail job arch seen = trail seen.count (row job (unheld arch)) seen.kept []
-
-pub came_pays : (job : JobData) (arch : Arch) (held : Option ℕ) (seen : Seen) (before s : State) (c : Came Finish) → OnCame (rules job arch.number) (During (unheld arch)) (calls.Ends job (unheld arch)) (λ p. Fails job (unheld arch)) (trail seen.count (row job (unheld arch)) seen.kept []) before s c → OnOver (Ends (unheld arch)) c → Pays job arch (trail seen.count (row job (unheld arch)) seen.kept []) (core_by job arch held seen c)
-came_pays job arch held seen before s (Wants a) o k = record { draws = omega arith; nexts = omega arith; count = omega arith; made = refl }
+pub came_pays : (job : JobData) (arch : Arch) (held : Option ℕ) (seen : Seen) (before s : State) (c : Came Finish) → OnCame (rules job arch.number) (During (unheld arch)) (calls.Ends job (unheld arch)) (λ p. Fails job (unheld arch)) (row_trail job arch seen) before s c → OnOver (Ends (unheld arch)) c → Pays job arch (row_trail job arch seen) (core_by job arch held seen c)
+came_pays job arch held seen before s (Wants a changes) o k = record { draws = omega arith; nexts = omega arith; count = omega arith; made = refl }
 came_pays job arch held seen before s (Faulted e) o k = record {
   draws = (let l = one_most (drew (row_trail job arch seen)) in omega arith);
   nexts = (let l = one_most (numbered (row_trail job arch seen)) in omega arith);
@@ -118,21 +113,21 @@ came_pays job arch held seen before s (Faulted e) o k = record {
   made = refl;
 }
 came_pays job arch held seen before s (Over (Noted next r) left values) o k =
-    let same : next.count ≡ arch.count + 1 = k.0 in
+    let same : next.count ≡ arch.count + 1 = k.count in
     record {
       draws = (let l = one_most (drew (row_trail job arch seen)) in omega arith);
       nexts = (let l = one_most (numbered (row_trail job arch seen)) in omega arith);
       count = omega arith;
-      made = k.1;
+      made = k.made;
     }
 came_pays job arch held seen before s (Over (Posted next) left values) o k = absurd k
 came_pays job arch held seen before s (Over (Exited next r status) left values) o k =
-    let same : next.count ≡ arch.count + 1 = k.0 in
+    let same : next.count ≡ arch.count + 1 = k.count in
     record {
       draws = (let l = one_most (drew (row_trail job arch seen)) in omega arith);
       nexts = (let l = one_most (numbered (row_trail job arch seen)) in omega arith);
       count = omega arith;
-      made = k.1;
+      made = k.made;
     }
 came_pays job arch held seen before s (Over Stopped left values) o k =
     let none : one (drew (row_trail job arch seen)) ≡ 0 = ap one o.1 in

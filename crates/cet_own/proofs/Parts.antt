@@ -12,9 +12,9 @@ use Rattle.cet_isa.specs.declared.threads.Arch.{Arch}
 use Rattle.cet_isa.specs.declared.threads.Fault.{Fault}
 use Rattle.cet_book.specs.Book.{Book, book_after, region, top}
 use Rattle.cet_book.proofs.Relies.{Relies}
-use Rattle.cet_page.specs.Script.{Script, done, fault, ◌>>=◌}
+use Rattle.cet_page.specs.Script.{Script, done, fault, ◌>>=◌, silent}
 use Rattle.cet_page.specs.Page.{allows, page_fault}
-use Rattle.cet_page.specs.Parts.{tested, look_in, look, peek, load_as, load, store_as, store, exchange_as, exchange, swap, fetch_add_as, fetch_add, stores, alignment_check}
+use Rattle.cet_page.specs.Parts.{tested, tested_as, look_in_as, look, look_as, peek, load_as, load, store_as, store, exchange_as, exchange, swap, fetch_add_as, fetch_add, stores, alignment_check}
 use Rattle.cet_page.specs.Gate.{clears}
 use Rattle.cet_page.specs.declared.checks.Kind.{Kind}
 use Rattle.cet_page.specs.declared.checks.Kind.TheVariants as kind
@@ -57,7 +57,7 @@ module _ (job : JobData) (arch : Arch) where
   claim_cond Q past before s c p q x y = steady_cond (rules job arch.number) (During arch) Q (λ p. Fails job arch) past before s c p q x y
 
   pub tested_then : {A : Type 0} (Q : List Visit → State → State → A → Type 0) (past : List Visit) (before s : State) (addr size : ℕ) (f : Unit {0} → Script A) → Resting arch.number untouched (progress past) s.book arch.ssp → (canonical addr ≡ true → addr % size ≡ 0 → Claim job arch Q past before s (f tt)) → Claim job arch Q past before s (tested addr size >>= f)
-  unfolding tested
+  unfolding tested_as
   tested_then Q past before s addr size f rest h =
       claim_bind Q past before s (tested addr size) f
       (claim_cond (λ p z n x. Claim job arch Q p z n (f x)) past before s (canonical addr) _ _
@@ -65,8 +65,8 @@ module _ (job : JobData) (arch : Arch) where
       (λ e. h c (eqb-true (addr % size) 0 e)) (λ _. (rested rest, λ _. tt, tt)))
       (λ _. (rested rest, λ _. tt, tt)))
 
-  look_at : {A : Type 0} (Q : List Visit → State → State → A → Type 0) (past : List Visit) (before s : State) (at : Option ℕ) (w : Who) (kd : Kind) (addr : ℕ) (f : ℕ → Script A) → Resting arch.number untouched (progress past) s.book arch.ssp → ((now : State) → Relies arch.number s.book now.book → (page v : ℕ) → at ≡ Some page → Known job.image arch.number past now.book (access.Look page) v → allows v kd w ≡ true → Claim job arch Q (visit (access.Look page) v [] ∷ past) now now (f page)) → Claim job arch (λ p z n x. Claim job arch Q p z n (f x)) past before s (look_in at kd w addr)
-  unfolding look_in
+  look_at : {A : Type 0} (Q : List Visit → State → State → A → Type 0) (past : List Visit) (before s : State) (at : Option ℕ) (w : Who) (kd : Kind) (addr : ℕ) (f : ℕ → Script A) → Resting arch.number untouched (progress past) s.book arch.ssp → ((now : State) → Relies arch.number s.book now.book → (page v : ℕ) → at ≡ Some page → Known job.image arch.number past now.book (access.Look page) v → allows v kd w ≡ true → Claim job arch Q (visit (access.Look page) v [] ∷ past) now now (f page)) → Claim job arch (λ p z n x. Claim job arch Q p z n (f x)) past before s (look_in_as silent at kd w addr)
+  unfolding look_in_as
   look_at Q past before s None w kd addr f rest h = (rested rest, λ _. tt, tt)
   look_at Q past before s (Some page) w kd addr f rest h = (
     (rest_stacked rest),
@@ -81,7 +81,7 @@ module _ (job : JobData) (arch : Arch) where
 
   -- a look, with what it found
   pub look_then : {A : Type 0} (Q : List Visit → State → State → A → Type 0) (past : List Visit) (before s : State) (w : Who) (kd : Kind) (addr : ℕ) (f : ℕ → Script A) → Resting arch.number untouched (progress past) s.book arch.ssp → ((now : State) → Relies arch.number s.book now.book → (page v : ℕ) → page_at addr ≡ Some page → Known job.image arch.number past now.book (access.Look page) v → allows v kd w ≡ true → Claim job arch Q (visit (access.Look page) v [] ∷ past) now now (f page)) → Claim job arch Q past before s (look w kd addr >>= f)
-  unfolding look
+  unfolding look_as
   look_then Q past before s w kd addr f rest h = claim_bind Q past before s (look w kd addr) f (look_at Q past before s (page_at addr) w kd addr f rest h)
 
   -- the look of a store passes on pages of image, main stack and mmap area alone

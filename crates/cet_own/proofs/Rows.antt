@@ -6,7 +6,6 @@ use Rattle.cet_words.specs.Bytes.{code_byte}
 use Rattle.cet_words.proofs.ByteLaws.{code_place}
 use Rattle.cet_words.specs.Job.{JobData, IsJob}
 use Rattle.std.proofs.lemmas.Bool.Decides.{nat_tests}
-use Rattle.cet_words.specs.declared.accesses.Access.TheVariants as access
 use Rattle.cet_words.specs.Layout.{page_at, token_word, exit_word, pend_word, action_word, image_end, image_start}
 use Rattle.cet_isa.specs.Address.{canonical}
 use Rattle.cet_isa.specs.Reading.{Decoding, Read, Short, Unknown, decoded}
@@ -15,6 +14,7 @@ use Rattle.cet_isa.specs.declared.instructions.Instr.{Instr}
 use Rattle.cet_isa.specs.declared.instructions.Instr.TheVariants as instr
 use Rattle.cet_isa.specs.declared.threads.Arch.{Arch}
 use Rattle.cet_isa.specs.declared.threads.Fault.{Fault}
+use Rattle.cet_isa.specs.declared.threads.Record.{Record}
 use Rattle.cet_book.specs.Facts.{IsReturn}
 use Rattle.cet_page.specs.Script.{◌>>=◌}
 use Rattle.cet_page.specs.Fetch.{fetchable, joined, missing, missing_in}
@@ -23,7 +23,8 @@ use Rattle.cet_page.specs.Family.{family_of}
 use Rattle.cet_page.specs.Flow.{flow}
 use Rattle.cet_page.specs.declared.families.Family.{Family}
 use Rattle.cet_page.specs.declared.families.Family.TheVariants as families
-use Rattle.cet_page.specs.Gate.{exit_status, made_page, clears, exit, exit_group, no_call, service, syscall, inside, signal_of, kill, deliver}
+use Rattle.cet_page.specs.Gate.{exit_status, made_page, clears, enosys, serve, exit, exit_group, service, Work, inside, leave, entered, signal_of, is_masked, kill, delivery}
+use Rattle.cet_page.specs.declared.finishes.Leaving.{Leaving}
 use Rattle.cet_page.specs.Parts.{invalid_opcode}
 use Rattle.cet_page.specs.Row.{execute_family, fetched, instruction, instruction_bytes, boundary, row, row_from}
 use Rattle.cet_own.specs.Safe.{is_near_return, IsElsewhere, IsNearReturn}
@@ -39,7 +40,7 @@ use Rattle.cet_own.proofs.Calls.{Ends, EndsRow, call_relative_claim, call_indire
 use Rattle.cet_own.proofs.Returns.{ret_claim}
 use Rattle.cet_own.proofs.Steps.{push_claim, pop_claim, leave_claim, jump_indirect_claim, arithmetic_claim}
 use Rattle.cet_own.specs.Past.{Progress, progress, untouched, left_in}
-use Rattle.cet_page.specs.Trail.{Visit, visit}
+use Rattle.cet_page.specs.Trail.{Visit}
 use Rattle.cet_own.proofs.Resting.{Resting, rest_kept, Inside, inside_kept, inside_left, rest_stacked, inside_stacked, rested, row_starts}
 
 -- ---- where instructions lie
@@ -98,53 +99,58 @@ module _ (job : JobData) (j : IsJob job) (arch : Arch) where
 
   -- ---- kernel calls and the kill
 
-  exit_claim : (past : List Visit) (before s : State) → IsElsewhere job arch → IsMade arch.made → Inside arch.number (own_stack job arch.number) untouched (progress past) (left_in past (token_word (own_stack job arch.number) - 1)) s.book arch.ssp → Claim job arch (Ends job arch) past before s (exit arch (own_stack job arch.number))
+  -- the thread is in the kernel, and has left the kernel's return address below its token
+  abbrev pub Within : List Visit → State → Type 0
+  Within past s = Inside arch.number (own_stack job arch.number) untouched (progress past) (left_in past (token_word (own_stack job arch.number) - 1)) s.book arch.ssp
+
+  -- what a piece of the kernel's work leads to: the way out, and the end of the row
+  abbrev pub Leaves : List Visit → State → State → Arch × Record × Leaving → Type 0
+  Leaves past before s x = Claim job arch (Ends job arch) past before s (leave (own_stack job arch.number) x)
+
+  exit_claim : (past : List Visit) (before s : State) → IsElsewhere job arch → IsMade arch.made → Within past s → Claim job arch Leaves past before s (exit arch)
   unfolding exit
   exit_claim past before s free made inside =
       let low = made.low in
       let high = made.high in
-      claim_bind job arch (Ends job arch) past before s (clears 8 (made_page arch)) _
+      claim_bind job arch Leaves past before s (clears 8 (made_page arch)) _
       (clears_claim job arch (own_stack job arch.number) (stack_below job arch.number j) _ past before s 8 (made_page arch) (omega arith) (omega arith) inside (λ p z n inside'.
-      exit_out_then job arch (stack_below job arch.number j) (Ends job arch) p z n _ inside' (λ p' z' n' none. (none, λ held now. free, tt))))
+      exit_out_then job arch (stack_below job arch.number j) (Ends job arch) p z n (exit_status arch) _ inside' (λ p' z' n' none. (none, λ held now. free, tt))))
 
-  no_call_claim : (past : List Visit) (before s : State) (next : ℕ) → IsElsewhere job arch → Inside arch.number (own_stack job arch.number) untouched (progress past) (left_in past (token_word (own_stack job arch.number) - 1)) s.book arch.ssp → Claim job arch (Ends job arch) past before s (no_call arch next (own_stack job arch.number))
-  unfolding no_call
-  no_call_claim past before s next free inside =
-      gate_out_then job arch (stack_below job arch.number j) (Ends job arch) past before s _ inside (λ p z n rest. (rested rest, λ held now. free, tt))
+  serve_claim : (past : List Visit) (before s : State) (result : ℕ) → IsElsewhere job arch → Within past s → Leaves past before s (serve arch result)
+  serve_claim past before s result free within =
+      gate_out_then job arch (stack_below job arch.number j) (Ends job arch) past before s _ within (λ p z n rest. (rested rest, λ held now. free, tt))
 
-  exit_group_claim : (past : List Visit) (before s : State) (next : ℕ) → IsElsewhere job arch → Inside arch.number (own_stack job arch.number) untouched (progress past) (left_in past (token_word (own_stack job arch.number) - 1)) s.book arch.ssp → Claim job arch (Ends job arch) past before s (exit_group arch next (own_stack job arch.number))
+  exit_group_claim : (past : List Visit) (before s : State) → IsElsewhere job arch → Within past s → Claim job arch Leaves past before s (exit_group arch)
   unfolding exit_group
-  exit_group_claim past before s next free within =
-      end_then job arch (Ends job arch) past before s (0x100 + exit_status arch) _ (by_status (rdi arch)) (inside_stacked within) (λ now r found.
-      gate_out_then job arch (stack_below job arch.number j) (Ends job arch) _ now now _ (inside_left (rw (exit_apart (own_stack job arch.number)) refl) (inside_kept r within)) (λ p z n rest. (rested rest, λ held later. free, tt)))
+  exit_group_claim past before s free within =
+      end_then job arch Leaves past before s (0x100 + exit_status arch) _ (by_status (rdi arch)) (inside_stacked within) (λ now r found.
+      serve_claim _ now now (exit_status arch) free (inside_left (rw (exit_apart (own_stack job arch.number)) refl) (inside_kept r within)))
 
-  service_claim : (past : List Visit) (before s : State) (next : ℕ) → IsElsewhere job arch → IsMade arch.made → Inside arch.number (own_stack job arch.number) untouched (progress past) (left_in past (token_word (own_stack job arch.number) - 1)) s.book arch.ssp → Claim job arch (Ends job arch) past before s (service arch next (own_stack job arch.number))
-  service_claim past before s next free made within =
-      claim_cond job arch (Ends job arch) past before s (rax arch == 60) _ _ (λ _. exit_claim past before s free made within)
-      (λ _. claim_cond job arch (Ends job arch) past before s (rax arch == 231) _ _ (λ _. exit_group_claim past before s next free within)
-      (λ _. no_call_claim past before s next free within))
+  service_claim : (past : List Visit) (before s : State) → IsElsewhere job arch → IsMade arch.made → Within past s → Claim job arch Leaves past before s (service arch)
+  service_claim past before s free made within =
+      claim_cond job arch Leaves past before s (rax arch == 60) _ _ (λ _. exit_claim past before s free made within)
+      (λ _. claim_cond job arch Leaves past before s (rax arch == 231) _ _ (λ _. exit_group_claim past before s free within)
+      (λ _. serve_claim past before s enosys free within))
 
-  syscall_claim : (past : List Visit) (before s : State) (next : ℕ) → IsElsewhere job arch → IsMade arch.made → Resting arch.number untouched (progress past) s.book arch.ssp → Claim job arch (Ends job arch) past before s (syscall job arch next)
-  unfolding syscall
-  syscall_claim past before s next free made rest =
-      gate_in_then job arch (stack_below job arch.number j) (Ends job arch) past before s (inside arch (own_stack job arch.number) (service arch next (own_stack job arch.number))) rest
-      (λ p z n within. service_claim p z n next free made within)
-      (λ p z n found rest'. (rested rest', λ held now. tt, tt))
-
-  kill_claim : (past : List Visit) (before s : State) (signal : ℕ) → IsEnding (0x200 + signal) → Inside arch.number (own_stack job arch.number) untouched (progress past) (left_in past (token_word (own_stack job arch.number) - 1)) s.book arch.ssp → Claim job arch (Ends job arch) past before s (kill arch signal (own_stack job arch.number))
+  kill_claim : (past : List Visit) (before s : State) (signal : ℕ) → IsEnding (0x200 + signal) → Within past s → Claim job arch Leaves past before s (kill arch signal)
   unfolding kill
   kill_claim past before s signal is within =
-      load_then job arch (Ends job arch) past before s (action_word signal) _ (inside_stacked within) (λ now r v.
-      let within1 : Inside arch.number (own_stack job arch.number) untouched (progress past) (left_in (visit (access.Load (action_word signal)) v [] ∷ past) (token_word (own_stack job arch.number) - 1)) now.book arch.ssp
-      = inside_left (rw (handler_apart signal (own_stack job arch.number)) refl) (inside_kept r within) in
-      end_then job arch (Ends job arch) _ now now (0x200 + signal) _ is (inside_stacked within1) (λ now2 r2 found.
-      gate_out_then job arch (stack_below job arch.number j) (Ends job arch) _ now2 now2 _ (inside_left (rw (exit_apart (own_stack job arch.number)) refl) (inside_kept r2 within1)) (λ p z n rest. (rested rest, λ held later. tt, tt))))
+      end_then job arch Leaves past before s (0x200 + signal) _ is (inside_stacked within) (λ now r found.
+      gate_out_then job arch (stack_below job arch.number j) (Ends job arch) _ now now _ (inside_left (rw (exit_apart (own_stack job arch.number)) refl) (inside_kept r within)) (λ p z n rest. (rested rest, λ held later. tt, tt)))
 
-  deliver_claim : (past : List Visit) (before s : State) (e : Fault) → Resting arch.number untouched (progress past) s.book arch.ssp → Claim job arch (Ends job arch) past before s (deliver job arch e)
-  unfolding deliver
-  deliver_claim past before s e rest =
-      gate_in_then job arch (stack_below job arch.number j) (Ends job arch) past before s (inside arch (own_stack job arch.number) (kill arch (signal_of e.name) (own_stack job arch.number))) rest
-      (λ p z n within. kill_claim p z n (signal_of e.name) (by_signal e.name) within)
+  delivery_claim : (past : List Visit) (before s : State) (signal : ℕ) → IsEnding (0x200 + signal) → Within past s → Claim job arch Leaves past before s (delivery arch signal)
+  unfolding delivery
+  delivery_claim past before s signal is within =
+      claim_cond job arch Leaves past before s (is_masked arch.mask signal) _ _ (λ _. kill_claim past before s signal is within)
+      (λ _. load_then job arch Leaves past before s (action_word signal) _ (inside_stacked within) (λ now r v.
+      kill_claim _ now now signal is (inside_left (rw (handler_apart signal (own_stack job arch.number)) refl) (inside_kept r within))))
+
+  -- the kernel's entry round a piece of work
+  entered_claim : (past : List Visit) (before s : State) (work : Work) → Resting arch.number untouched (progress past) s.book arch.ssp → ((p : List Visit) (z n : State) → Within p n → Claim job arch Leaves p z n work) → Claim job arch (Ends job arch) past before s (entered job arch work)
+  unfolding entered
+  entered_claim past before s work rest h =
+      gate_in_then job arch (stack_below job arch.number j) (Ends job arch) past before s (inside arch (own_stack job arch.number) work) rest
+      (λ p z n within. claim_bind job arch (Ends job arch) p z n work (leave (own_stack job arch.number)) (h p z n within))
       (λ p z n found rest'. (rested rest', λ held now. tt, tt))
 
   -- ---- instructions
@@ -172,7 +178,7 @@ module _ (job : JobData) (j : IsJob job) (arch : Arch) where
       noted_claim past before s _ (arithmetic_claim job arch (elsewhere _ e (λ r. let t = returns_flow i r in cc)) past before s i (above arch.rip len) rest)
   family_claim past before s i len families.Flow f made rest e = noted_claim past before s _ (flow_claim past before s i len rest e)
   family_claim past before s i len families.SystemCall f made rest e =
-      syscall_claim past before s (above arch.rip len) (elsewhere _ e (λ r. let t = returns_flow i r in cc)) made rest
+      entered_claim past before s (service arch) rest (λ p z n within. service_claim p z n (elsewhere _ e (λ r. let t = returns_flow i r in cc)) made within)
   family_claim past before s i len families.Unbuilt f made rest e = no_return s _ rest e (λ r. let t = returns_flow i r in cc)
 
   missing_claim : (past : List Visit) (before s : State) (at : Option ℕ) (addr : ℕ) → Resting arch.number untouched (progress past) s.book arch.ssp → Claim job arch (Ends job arch) past before s (missing_in at addr)
@@ -201,7 +207,7 @@ module _ (job : JobData) (j : IsJob job) (arch : Arch) where
       (λ _. (rested rest1, ap (λ (x : Progress). x.drawing) rest1.level, ap (λ (x : Progress). x.numbering) rest1.level)))
 
   from_claim : (past : List Visit) (before s : State) (due : Option Fault) → IsMade arch.made → Resting arch.number untouched (progress past) s.book arch.ssp → Claim job arch (Ends job arch) past before s (row_from job arch due)
-  from_claim past before s (Some e) made rest = deliver_claim past before s e rest
+  from_claim past before s (Some e) made rest = entered_claim past before s (delivery arch (signal_of e.name)) rest (λ p z n within. delivery_claim p z n (signal_of e.name) (by_signal e.name) within)
   from_claim past before s None made rest = boundary_claim past before s made rest
 
   -- a thread at rest claims its whole next row

@@ -25,7 +25,7 @@ unfolding next_access
 turned_core job j m t s thread (Some e) st found at is h = subst (TurnedBy job m t s thread) (sym (ap (access_of job thread.core) is)) (stays job m t s thread st)
 turned_core job j m t s thread None st found at is h =
     let w = h.waits.waits in
-    subst (TurnedBy job m t s thread) (sym (ap (access_of job thread.core) is ∙ ap wanted w.1)) (acts job j m t s thread w.0 st found at h w.1)
+    subst (TurnedBy job m t s thread) (sym (ap (access_of job thread.core) is ∙ ap wanted w.2)) (acts job j m t s thread w.0 st found w.1 at h w.2)
 
 turned_by : (job : JobData) (j : IsJob job) (m : Machine) (t : ℕ) (s : State) (o : Option Thread) → Invariant job m s → slice_get m.threads t ≡ o → ThreadStands job t s o → Turned job m t s o
 turned_by job j m t s None st found at = record { next = s; is = refl; stands = st; returns = tt; restores = tt; counters = record { draws = refl; births = refl } }

@@ -17,8 +17,7 @@ use Rattle.cet_page.specs.declared.finishes.Finish.{Finish}
 use Rattle.cet_page.specs.declared.finishes.Finish.TheVariants.{Noted, Posted, Exited, Stopped}
 use Rattle.cet_own.specs.Safe.{NotedReturns}
 use Rattle.cet_own.specs.Restores.{NotedRestores}
-use Rattle.cet_page.specs.Trail.{Visit, trail_of}
-use Rattle.cet_page.specs.Trail.{trail}
+use Rattle.cet_page.specs.Trail.{Visit, trail, trail_of}
 use Rattle.cet_own.proofs.Still.{Still, still_none}
 use Rattle.cet_own.proofs.Frame.{SteadyAt, others_at, OnCame}
 use Rattle.cet_own.proofs.Standing.{stacked_kept, AtRest, rest_kept, HasNone, none_kept}
@@ -67,7 +66,7 @@ row_relies job t s now core r h =
       number = h.number;
       before = h.before;
       left = others_at (rules job core.arch.number) (During (unheld core.arch)) (Ends job (unheld core.arch)) (λ p. Fails job (unheld core.arch)) [] h.before s now
-          (row job (unheld core.arch)) core.seen.count core.seen.kept h.waits.waits.0 r' (λ p. stacked_kept r') h.left h.waits.waits.1;
+          (row job (unheld core.arch)) core.seen.count core.seen.kept h.waits.waits.0 h.waits.waits.1 r' (λ p. stacked_kept r') h.left h.waits.waits.2;
     }
 
 core_relies : (job : JobData) (t : ℕ) (s now : State) (core : Core) (over : Option End) → Relies t s.book now.book → CoreStands job t s core over → CoreStands job t now core over
@@ -91,7 +90,7 @@ abbrev pub left_by : JobData → Arch → Option ℕ → Seen → Came Finish �
 left_by job arch held seen c child = record { core = core_by job arch held seen c; noted = noted_by arch c; child = child }
 
 pub came_stands : (job : JobData) (core : Core) (held : Option ℕ) (seen : Seen) (past : List Visit) (before s : State) (child : Option Core) (c : Came Finish) → IsJob job → Left job (unheld core.arch) before s seen → OnCame (rules job core.arch.number) (During (unheld core.arch)) (Ends job (unheld core.arch)) (λ p. Fails job (unheld core.arch)) past before s c → IsCore job (core_by job core.arch held seen c) → CoreStands job core.arch.number s (core_by job core.arch held seen c) (core_by job core.arch held seen c).over × NotedReturns job (entries_of core.arch.number before.book) core (left_by job core.arch held seen c child) (noted_by core.arch c) × NotedRestores before.book s.book (noted_by core.arch c)
-came_stands job core held seen past before s child (Wants a) j l o w = (record { waits = w; number = refl; before = before; left = l }, tt, tt)
+came_stands job core held seen past before s child (Wants a changes) j l o w = (record { waits = w; number = refl; before = before; left = l }, tt, tt)
 came_stands job core held seen past before s child (Faulted e) j l o w =
     (recorded_stands job (kept_by core.arch held (faulted core.arch e)) s (core.arch.count + 1 == job.limit) j o.0 w, λ r. (o.1 r, refl, refl), o.2)
 came_stands job core held seen past before s child (Over (Noted next r) left values) j l o w =
@@ -102,7 +101,7 @@ came_stands job core held seen past before s child (Over Stopped left values) j 
 
 -- a row that goes on has its trail, and one that is over leaves none
 pub came_still : (job : JobData) (arch : Arch) (held : Option ℕ) (seen : Seen) (c : Came Finish) (words : List ℕ) (t : ℕ) (b : Book) → Still words t b (trail seen.count (row job (unheld arch)) seen.kept []) → Still words t b (trail_of job (core_by job arch held seen c))
-came_still job arch held seen (Wants a) words t b h = h
+came_still job arch held seen (Wants a changes) words t b h = h
 came_still job arch held seen (Faulted e) words t b h = still_none words t b
 came_still job arch held seen (Over (Noted next r) left values) words t b h = still_none words t b
 came_still job arch held seen (Over (Posted next) left values) words t b h = still_none words t b

@@ -7,26 +7,25 @@ use Rattle.cet_book.specs.Book.{Book, books_after}
 use Rattle.cet_book.proofs.Kept.{NoneBorn, others_rely}
 use Rattle.cet_book.proofs.Relies.{Relies}
 use Rattle.cet_isa.specs.declared.threads.Arch.{Arch}
-use Rattle.cet_page.specs.Script.{Came, Over, Faulted, Wants}
+use Rattle.cet_page.specs.Script.{Came, Over, Faulted, Wants, held_after}
 use Rattle.cet_page.specs.declared.finishes.Finish.{Finish}
 use Rattle.cet_page.specs.declared.finishes.Finish.TheVariants.{Noted, Posted, Exited, Stopped}
 use Rattle.cet_page.specs.Seen.{Seen, seen_after}
 use Rattle.cet_page.specs.Row.{row}
-use Rattle.cet_page.specs.Core.{Core, After, unheld, come, next_changes, next_held, core_by, answered, taken, child_of}
-use Rattle.cet_page.proofs.OrderlyRows.{Ends, orderly_row}
+use Rattle.cet_page.specs.Core.{Core, After, unheld, come, changes_of, next_changes, core_by, answered, taken, child_of}
+use Rattle.cet_page.proofs.WalkRows.{Ends, walk_row}
 use Rattle.std.specs.Prelude.{slice_index, ◌||◌}
 use Rattle.cet_book.specs.Facts.{one}
 use Rattle.cet_own.specs.Stands.{paid_draws, paid_births}
 use Rattle.cet_own.proofs.Paid.{counted, came_pays}
 use Rattle.cet_own.proofs.Counters.{CountsBy, no_count, draws_pages, bears_child, bears_nobody, none_born, CountersTell}
 use Rattle.cet_words.specs.Change.{Change}
-use Rattle.cet_page.proofs.OrderlyLaws.{Results, over_play}
+use Rattle.cet_page.proofs.Walk.{over_play}
 use Rattle.cet_page.specs.Within.{IsCore}
 use Rattle.cet_page.proofs.WithinLaws.{taken_is}
 use Rattle.cet_own.specs.Safe.{NotedReturns}
 use Rattle.cet_own.specs.Restores.{NotedRestores}
-use Rattle.cet_page.specs.Trail.{Visit, visit, trail_of}
-use Rattle.cet_page.specs.Trail.{trail}
+use Rattle.cet_page.specs.Trail.{Visit, visit, row_trail, trail_of}
 use Rattle.cet_own.specs.Past.{draw_word, next_word, drew, is_draw, numbered, is_number}
 use Rattle.cet_book.proofs.Comes.{changes_come, other_apart}
 use Rattle.cet_own.proofs.Still.{Still, still_own, still_kept}
@@ -59,15 +58,15 @@ pub record Led (job : JobData) (words : List ℕ) (t : ℕ) (s : State) (core : 
   pub returns : NotedReturns job (entries_of t s.book) core (taken job core (answer words a)) (taken job core (answer words a)).noted
   pub restores : NotedRestores s.book next.book (taken job core (answer words a)).noted
 
--- the same where the thread's next access is known
-pub record LedBy (job : JobData) (words : List ℕ) (s : State) (core : Core) (a : Access) (left : After) : Type 0 where
+-- the same where the thread's next access and its changes are known
+pub record LedBy (job : JobData) (words : List ℕ) (s : State) (core : Core) (a : Access) (changes : List Change) (left : After) : Type 0 where
   pub next : State
-  pub owed : Owed job.image core.arch.number (own_stack job core.arch.number) (trail_of job core) s.book a (answer words a) (next_changes job core (answer words a))
-  pub is : books_after core.arch.number s.book (next_changes job core (answer words a)) ≡ Some next.book
+  pub owed : Owed job.image core.arch.number (own_stack job core.arch.number) (trail_of job core) s.book a (answer words a) changes
+  pub is : books_after core.arch.number s.book changes ≡ Some next.book
   pub holds : Holds job.image (after words a) next.book
-  pub others : (y : ℕ) → core.arch.number ≢ y → NoneBorn (next_changes job core (answer words a)) y → Relies y s.book next.book
+  pub others : (y : ℕ) → core.arch.number ≢ y → NoneBorn changes y → Relies y s.book next.book
   pub still : Still (after words a) core.arch.number next.book (trail_of job left.core)
-  pub spared : (y : ℕ) → core.arch.number ≢ y → NoneBorn (next_changes job core (answer words a)) y → (past : List Visit) → Still words y s.book past → Still (after words a) y next.book past
+  pub spared : (y : ℕ) → core.arch.number ≢ y → NoneBorn changes y → (past : List Visit) → Still words y s.book past → Still (after words a) y next.book past
   pub held : Held core.arch.number next.book left.core.arch.held
   pub draws : slice_index (after words a) draw_word + 1023 * paid_draws job core ≤ slice_index words draw_word + 1023 * paid_draws job left.core
   pub nexts : slice_index (after words a) next_word + paid_births job core ≤ slice_index words next_word + paid_births job left.core
@@ -79,7 +78,7 @@ pub record LedBy (job : JobData) (words : List ℕ) (s : State) (core : Core) (a
 
 -- a thread holds what its access left it
 held_by : (job : JobData) (arch : Arch) (held : Option ℕ) (seen : Seen) (c : Came Finish) → (core_by job arch held seen c).arch.held ≡ held
-held_by job arch held seen (Wants a) = refl
+held_by job arch held seen (Wants a changes) = refl
 held_by job arch held seen (Faulted e) = refl
 held_by job arch held seen (Over (Noted next r) left values) = refl
 held_by job arch held seen (Over (Posted next) left values) = refl
@@ -102,20 +101,24 @@ own_unborn {t = t} {v = v} {a = a} words is counters_tell (bears_child s start e
     subst (λ cs. NoneBorn cs t) (sym ev) (λ z. counters_tell.other (omega arith) (sym z ∙ w), tt)
 own_unborn {t = t} {changes = changes} words is counters_tell (bears_nobody e many once none) = none_born changes t none
 
-led_wants : (job : JobData) (j : IsJob job) (words : List ℕ) (s : State) (core : Core) (a : Access) → CountersTell words core.arch.number s.book → Holds job.image words s.book → Still words core.arch.number s.book (trail_of job core) → Held core.arch.number s.book core.arch.held → InRow job core.arch.number s core → come job core.arch core.seen ≡ Wants a → IsCore job (answered job core (answer words a) (Wants a)).core → LedBy job words s core a (answered job core (answer words a) (Wants a))
-led_wants job j words s core a few h still held r w is_core =
-    let g = goes (rules job core.arch.number) (During (unheld core.arch)) (calls.Ends job (unheld core.arch)) (λ p. Fails job (unheld core.arch)) (Results (Ends (unheld core.arch))) false 4096 31 words [] r.before s
-    (row job (unheld core.arch)) core.seen.count core.seen.kept a (orderly_row job (unheld core.arch)) r.left w (known job.image core.arch.number words (trail_of job core) s.book a few h still) in
-    let is = after_book core.arch.number s g.next (books_after core.arch.number s.book (next_changes job core (answer words a))) g.is in
-    let grown : trail (core.seen.count + 1) (row job (unheld core.arch)) (seen_by core words a).kept [] ≡ visit a (answer words a) (next_changes job core (answer words a)) ∷ trail_of job core = rw add-one g.grown in
+led_wants : (job : JobData) (j : IsJob job) (words : List ℕ) (s : State) (core : Core) (a : Access) (own : ℕ → List Change) → CountersTell words core.arch.number s.book → Holds job.image words s.book → Still words core.arch.number s.book (trail_of job core) → Held core.arch.number s.book core.arch.held → InRow job core.arch.number s core → come job core.arch core.seen ≡ Wants a own → IsCore job (answered job core (answer words a) (Wants a own)).core → LedBy job words s core a (own (answer words a)) (answered job core (answer words a) (Wants a own))
+led_wants job j words s core a own few h still held r w is_core =
+    let changes = own (answer words a) in
+    let holding = held_after changes core.arch.held in
+    let shown = row_trail job core.arch (seen_by core words a) in
+    let walks = (walk_row job (unheld core.arch)).walks in
+    let g = goes (rules job core.arch.number) (During (unheld core.arch)) (calls.Ends job (unheld core.arch)) (λ p. Fails job (unheld core.arch)) (Ends (unheld core.arch)) false 0 0 words [] r.before s
+    (row job (unheld core.arch)) core.seen.count core.seen.kept a own walks r.left w (known job.image core.arch.number words (trail_of job core) s.book a few h still) in
+    let is = after_book core.arch.number s g.next (books_after core.arch.number s.book changes) g.is in
+    let grown : shown ≡ visit a (answer words a) changes ∷ trail_of job core = rw add-one g.grown in
     let left : Left job (unheld core.arch) s g.next (seen_by core words a) = rw add-one g.left in
     let came = on_came (rules job core.arch.number) (During (unheld core.arch)) (calls.Ends job (unheld core.arch)) (λ p. Fails job (unheld core.arch)) [] s g.next
     (row job (unheld core.arch)) (core.seen.count + 1) (seen_by core words a).kept left in
-    let over = over_play (Ends (unheld core.arch)) false (row job (unheld core.arch)) 4096 31 (seen_by core words a).count (seen_by core words a).kept (orderly_row job (unheld core.arch)) in
-    let came' : OnCame (rules job core.arch.number) (During (unheld core.arch)) (calls.Ends job (unheld core.arch)) (λ p. Fails job (unheld core.arch)) (trail (seen_by core words a).count (row job (unheld core.arch)) (seen_by core words a).kept []) s g.next (come_to job core words a) = came in
-    let pays = came_pays job core.arch (next_held job core (answer words a)) (seen_by core words a) s g.next (come_to job core words a) came' over in
-    let now : drew (trail (seen_by core words a).count (row job (unheld core.arch)) (seen_by core words a).kept []) ≡ (is_draw a || drew (trail_of job core)) = ap drew grown in
-    let now' : numbered (trail (seen_by core words a).count (row job (unheld core.arch)) (seen_by core words a).kept []) ≡ (is_number a || numbered (trail_of job core)) = ap numbered grown in
+    let over = over_play (Ends (unheld core.arch)) false (row job (unheld core.arch)) 0 0 (seen_by core words a).count (seen_by core words a).kept walks in
+    let came' : OnCame (rules job core.arch.number) (During (unheld core.arch)) (calls.Ends job (unheld core.arch)) (λ p. Fails job (unheld core.arch)) shown s g.next (come_to job core words a) = came in
+    let pays = came_pays job core.arch holding (seen_by core words a) s g.next (come_to job core words a) came' over in
+    let now : drew shown ≡ (is_draw a || drew (trail_of job core)) = ap drew grown in
+    let now' : numbered shown ≡ (is_number a || numbered (trail_of job core)) = ap numbered grown in
     let counts = g.owed.counts words refl h in
     let step = counted words a (trail_of job core) h.size counts in
     let draws_now = step.draws in
@@ -124,24 +127,24 @@ led_wants job j words s core a few h still held r w is_core =
     let all' = pays.nexts in
     let one_now = ap one now in
     let one_now' = ap one now' in
-    let k = came_stands job core (next_held job core (answer words a)) (seen_by core words a) (trail (core.seen.count + 1) (row job (unheld core.arch)) (seen_by core words a).kept []) s g.next
-    (child_of core.arch (next_changes job core (answer words a))) (come_to job core words a) j left came is_core in
+    let k = came_stands job core holding (seen_by core words a) shown s g.next
+    (child_of core.arch changes) (come_to job core words a) j left came is_core in
     record {
       next = g.next;
       owed = g.owed;
       is = is;
       holds = g.owed.keeps words g.next.book refl h still is;
-      others = λ y n none. others_rely core.arch.number y (next_changes job core (answer words a)) s.book g.next.book h.sound.book is n none;
-      still = came_still job core.arch (next_held job core (answer words a)) (seen_by core words a) (come_to job core words a) (after words a) core.arch.number g.next.book
+      others = λ y n none. others_rely core.arch.number y changes s.book g.next.book h.sound.book is n none;
+      still = came_still job core.arch holding (seen_by core words a) (come_to job core words a) (after words a) core.arch.number g.next.book
           (subst (Still (after words a) core.arch.number g.next.book) (sym grown)
-          (still_own words core.arch.number s.book g.next.book (trail_of job core) a (next_changes job core (answer words a)) h.size h.restorers (g.owed.restorers words refl h) h.sound.book (own_unborn words refl few counts) is still));
+          (still_own words core.arch.number s.book g.next.book (trail_of job core) a changes h.size h.restorers (g.owed.restorers words refl h) h.sound.book (own_unborn words refl few counts) is still));
       spared = λ y n none past old.
           still_kept words y s.book g.next.book past a
-          (changes_come core.arch.number y (next_changes job core (answer words a)) s.book g.next.book h.sound.book is none (other_apart core.arch.number y (next_changes job core (answer words a)) n))
+          (changes_come core.arch.number y changes s.book g.next.book h.sound.book is none (other_apart core.arch.number y changes n))
           (λ w own. g.owed.spares words refl h y n w own) (g.owed.restorers words refl h) old;
       held = subst (Held core.arch.number g.next.book)
-          (sym (held_by job core.arch (next_held job core (answer words a)) (seen_by core words a) (come_to job core words a)))
-          (changes_held core.arch.number (next_changes job core (answer words a)) s.book g.next.book core.arch.held h.sound.book is held);
+          (sym (held_by job core.arch holding (seen_by core words a) (come_to job core words a)))
+          (changes_held core.arch.number changes s.book g.next.book core.arch.held h.sound.book is held);
       draws = omega (arith, draws_now, all, one_now);
       nexts = omega (arith, nexts_now, all', one_now');
       made = pays.made;
@@ -151,15 +154,16 @@ led_wants job j words s core a few h still held r w is_core =
       restores = k.2;
     }
 
-led_come : (job : JobData) (j : IsJob job) (words : List ℕ) (s : State) (core : Core) (a : Access) → CountersTell words core.arch.number s.book → Holds job.image words s.book → Still words core.arch.number s.book (trail_of job core) → Held core.arch.number s.book core.arch.held → InRow job core.arch.number s core → come job core.arch core.seen ≡ Wants a → LedBy job words s core a (taken job core (answer words a))
+led_come : (job : JobData) (j : IsJob job) (words : List ℕ) (s : State) (core : Core) (a : Access) (own : ℕ → List Change) → CountersTell words core.arch.number s.book → Holds job.image words s.book → Still words core.arch.number s.book (trail_of job core) → Held core.arch.number s.book core.arch.held → InRow job core.arch.number s core → come job core.arch core.seen ≡ Wants a own → LedBy job words s core a (own (answer words a)) (taken job core (answer words a))
 unfolding taken
-led_come job j words s core a few h still held r w =
-    let is_core : IsCore job (answered job core (answer words a) (Wants a)).core = subst (λ c. IsCore job (answered job core (answer words a) c).core) w (taken_is job core (answer words a) r.waits) in
-    subst (λ c. LedBy job words s core a (answered job core (answer words a) c)) (sym w) (led_wants job j words s core a few h still held r w is_core)
+led_come job j words s core a own few h still held r w =
+    let is_core : IsCore job (answered job core (answer words a) (Wants a own)).core = subst (λ c. IsCore job (answered job core (answer words a) c).core) w (taken_is job core (answer words a) r.waits) in
+    subst (λ c. LedBy job words s core a (own (answer words a)) (answered job core (answer words a) c)) (sym w) (led_wants job j words s core a own few h still held r w is_core)
 
 -- an access of a thread that waits for it
-pub led : (job : JobData) (j : IsJob job) (words : List ℕ) (t : ℕ) (s : State) (core : Core) (a : Access) → CountersTell words t s.book → Holds job.image words s.book → Still words t s.book (trail_of job core) → Held t s.book core.arch.held → InRow job t s core → come job core.arch core.seen ≡ Wants a → Led job words t s core a
-led job j words t s core a few h still held r w =
+pub led : (job : JobData) (j : IsJob job) (words : List ℕ) (t : ℕ) (s : State) (core : Core) (a : Access) (own : ℕ → List Change) → CountersTell words t s.book → Holds job.image words s.book → Still words t s.book (trail_of job core) → Held t s.book core.arch.held → InRow job t s core → come job core.arch core.seen ≡ Wants a own → Led job words t s core a
+led job j words t s core a own few h still held r w =
+    let same : own (answer words a) ≡ next_changes job core (answer words a) = sym (ap (λ c. changes_of c (answer words a)) w) in
     subst (λ n. Led job words n s core a) r.number
-    (let d = led_come job j words s core a (subst (λ n. CountersTell words n s.book) (sym r.number) few) h (subst (λ n. Still words n s.book (trail_of job core)) (sym r.number) still) (subst (λ n. Held n s.book core.arch.held) (sym r.number) held) (subst (λ n. InRow job n s core) (sym r.number) r) w in
+    (let d = subst (λ l. LedBy job words s core a l (taken job core (answer words a))) same (led_come job j words s core a own (subst (λ n. CountersTell words n s.book) (sym r.number) few) h (subst (λ n. Still words n s.book (trail_of job core)) (sym r.number) still) (subst (λ n. Held n s.book core.arch.held) (sym r.number) held) (subst (λ n. InRow job n s core) (sym r.number) r) w) in
     record { next = d.next; owed = d.owed; is = d.is; holds = d.holds; others = d.others; still = d.still; spared = d.spared; held = d.held; draws = d.draws; nexts = d.nexts; made = d.made; count = d.count; stands = d.stands; returns = d.returns; restores = d.restores })

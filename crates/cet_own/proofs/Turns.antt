@@ -28,7 +28,7 @@ use Rattle.cet_page.specs.Row.{row}
 use Rattle.cet_page.specs.Script.{Wants, birth}
 use Rattle.cet_page.specs.Machine.{Thread, Machine, machine, thread_after, with_child, act, step_by}
 use Rattle.cet_page.specs.Within.{Waits}
-use Rattle.cet_page.proofs.ChildLaws.{ChildAt, child_waits, child_taken}
+use Rattle.cet_page.proofs.ChildLaws.{ChildAt, child_at, child_taken}
 use Rattle.cet_own.specs.Event.{access_changes, thread_changes}
 use Rattle.cet_own.specs.Safe.{AccessReturns, ThreadReturns, KeepsStack, HasStack, IsSafeAt}
 use Rattle.cet_own.specs.Restores.{AccessRestores, ThreadRestores}
@@ -75,7 +75,7 @@ row_stacked : (job : JobData) (t : ℕ) (s : State) (core : Core) → InRow job 
 row_stacked job t s core r =
     subst (λ n. Stacked n s.book (in_force job core)) r.number
     (during_at (rules job core.arch.number) (During (unheld core.arch)) (Ends job (unheld core.arch)) (λ p. Fails job (unheld core.arch)) [] r.before s
-    (row job (unheld core.arch)) core.seen.count core.seen.kept r.waits.waits.0 r.left r.waits.waits.1)
+    (row job (unheld core.arch)) core.seen.count core.seen.kept r.waits.waits.0 r.waits.waits.1 r.left r.waits.waits.2)
 
 -- out of a row the pointer in force is SSP
 ended_stacked : (job : JobData) (t : ℕ) (s : State) (core : Core) → Ended job t s core → Stacked t s.book (in_force job core)
@@ -332,15 +332,15 @@ module _ (job : JobData) (j : IsJob job) (m : Machine) (t : ℕ) (s : State) (th
       made_by d p y x (other n q none) = p.bounds x.core.arch.made (st.made y x q)
       made_by d p y x (comer c) = c.made
 
-  pub acts : ThreadStands job t s (Some thread) → InRow job t s thread.core → come job thread.core.arch thread.core.seen ≡ Wants a → TurnedBy job m t s thread (Some a)
-  acts at r w =
+  pub acts : (own : ℕ → List Change) → ThreadStands job t s (Some thread) → InRow job t s thread.core → come job thread.core.arch thread.core.seen ≡ Wants a own → TurnedBy job m t s thread (Some a)
+  acts own at r w =
       let inside = slice_get_within m.threads t thread e in
       let before = counters_tell job m.words m.threads t thread s.book j st.paid e (λ y q. subst (ThreadStands job y s) q (st.threads y)) in
-      let d = led job j m.words t s thread.core a before st.holds (st.still t thread e) at.0 r w in
+      let d = led job j m.words t s thread.core a own before st.holds (st.still t thread e) at.0 r w in
       let size = st.holds.size in
       let uncounted = d.owed.uncounted m.words refl st.holds in
-      let bore = child_taken job thread.core (answer m.words a) a w in
-      let waits = subst (ChildAt job) bore (child_waits job thread.core (answer m.words a) j) in
+      let bore = child_taken job thread.core (answer m.words a) a own w in
+      let waits = subst (ChildAt job) bore (child_at job thread.core (answer m.words a) r.waits) in
       let p = enlisted job j (after m.words a) s d.next m.threads t moved inside m.words a thread.core.arch (trail_of job thread.core) changes_now refl size st.holds.sound.book.shape d.is st.paid.least before.nexts st.paid.number d.others waits (d.owed.counts m.words refl st.holds) in
       record {
         next = d.next;

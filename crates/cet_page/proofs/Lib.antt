@@ -1,12 +1,14 @@
 pub mod Fetching
 pub mod Runs
-pub mod OrderlyRows
+pub mod Walk
+pub mod WalkRows
 pub mod FaultLaws
-pub mod GatedLaws
 pub mod LeftLaws
-pub mod OrderlyLaws
 pub mod PartLaws
+pub mod GateLaws
 pub mod PlayLaws
 pub mod ScriptLaws
+pub mod TrailLaws
 pub mod WithinLaws
+pub mod RowLaws
 pub mod ChildLaws

@@ -1,31 +1,12 @@
 -- What the parts of a script come to, one by one. Source: own.
 use Rattle.std.proofs.Common.{zero, suc, arith, ap, ◌∙◌, mul-suc}
-use Rattle.std.specs.Prelude.{◌≡◌, ℕ, ◌+◌, ◌-◌, ◌*◌, ◌<◌, ◌≤◌, List, [], ◌∷◌, refl}
+use Rattle.std.specs.Prelude.{◌≡◌, ℕ, ◌+◌, ◌-◌, ◌*◌, ◌<◌, ◌≤◌, List}
 use Rattle.cet_words.specs.declared.accesses.Access.TheVariants as access
-use Rattle.cet_words.specs.Change.{Change}
-use Rattle.cet_page.specs.Script.{play, Came, Over, Wants}
-use Rattle.cet_page.specs.Parts.{load_as, load, store_as, store, exchange_as, exchange, stores}
-
--- The changes don't matter for the accesses.
-pub play_load_as : (changes : ℕ → List Change) (word n : ℕ) (values : List ℕ) → play (load_as changes word) n values ≡ play (load word) n values
-unfolding load_as
-play_load_as changes word zero values = refl
-play_load_as changes word (suc n) [] = refl
-play_load_as changes word (suc n) (value ∷ values) = refl
-
-pub play_store_as : (changes : List Change) (word value n : ℕ) (values : List ℕ) → play (store_as changes word value) n values ≡ play (store word value) n values
-unfolding store_as
-play_store_as changes word value zero values = refl
-play_store_as changes word value (suc n) values = refl
-
-pub play_exchange_as : (changes : ℕ → List Change) (word expected value n : ℕ) (values : List ℕ) → play (exchange_as changes word expected value) n values ≡ play (exchange word expected value) n values
-unfolding exchange_as
-play_exchange_as changes word expected value zero values = refl
-play_exchange_as changes word expected value (suc n) [] = refl
-play_exchange_as changes word expected value (suc n) (v ∷ values) = refl
+use Rattle.cet_page.specs.Script.{play, silent, Came, Over, Wants}
+use Rattle.cet_page.specs.Parts.{stores}
 
 abbrev pub wants_store : (word value : ℕ) → Came (Unit {0})
-wants_store word value = Wants (access.Store word value)
+wants_store word value = Wants (access.Store word value) silent
 
 abbrev pub stored : (left : ℕ) → List ℕ → Came (Unit {0})
 stored left values = Over tt left values

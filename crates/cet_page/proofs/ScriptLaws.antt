@@ -6,7 +6,7 @@ use Rattle.cet_page.specs.Script.{Script, ◌>>=◌, Came, play, done, fault, as
 abbrev pub resume : {A B : Type 0} → Came A → (A → Script B) → Came B
 resume (Over x n values) f = play (f x) n values
 resume (Faulted e) f = Faulted e
-resume (Wants a) f = Wants a
+resume (Wants a changes) f = Wants a changes
 
 -- the second script goes on where the first is over
 pub play_bind : {A B : Type 0} (m : Script A) (f : A → Script B) (n : ℕ) (values : List ℕ) → play (m >>= f) n values ≡ resume (play m n values) f

@@ -9,10 +9,10 @@ use Rattle.cet_isa.specs.declared.threads.What.TheVariants as what
 use Rattle.cet_isa.specs.declared.threads.Arch.{Arch}
 use Rattle.cet_isa.specs.declared.threads.End.{End}
 use Rattle.cet_isa.specs.declared.threads.End.TheVariants as ending
-use Rattle.cet_words.specs.Change.{Change, Called, Returned, Raised, Acquired, Released, Claimed, Seeded, Born, Pushed, Popped, Ended, Busied, Freed}
-use Rattle.cet_page.specs.Script.{Came, Over, Faulted, Wants, play, changes_at, birth}
+use Rattle.cet_words.specs.Change.{Change}
+use Rattle.cet_page.specs.Script.{Came, Over, Faulted, Wants, play, birth, held_after}
 use Rattle.cet_page.specs.Seen.{Seen, nothing_seen, seen_after}
-use Rattle.cet_page.specs.Finish.{above}
+use Rattle.cet_page.specs.Gate.{after_syscall}
 use Rattle.cet_page.specs.Row.{row}
 use Rattle.cet_page.specs.declared.finishes.Finish.{Finish}
 use Rattle.cet_page.specs.declared.finishes.Finish.TheVariants.{Noted, Posted, Exited, Stopped}
@@ -65,7 +65,7 @@ abbrev pub come : JobData → Arch → Seen → Came Finish
 come job arch seen = play (row job (unheld arch)) seen.count seen.kept
 
 abbrev pub wanted : Came Finish → Option Access
-wanted (Wants a) = Some a
+wanted (Wants a changes) = Some a
 wanted (Faulted e) = None
 wanted (Over x left values) = None
 
@@ -77,36 +77,20 @@ access_of job core None = wanted (come job core.arch core.seen)
 unfoldable pub next_access : JobData → Core → Option Access
 next_access job core = access_of job core core.over
 
--- The supervisor stack that a thread holds after an access with these changes: the gate's first exchange takes it where the
--- token is free, and the gate's last exchange gives it back.
-abbrev pub held_after : List Change → Option ℕ → Option ℕ
-held_after [] held = held
-held_after (Busied k ∷ changes) held = held_after changes (Some k)
-held_after (Freed k ∷ changes) held = held_after changes None
-held_after (Called back ∷ changes) held = held_after changes held
-held_after (Returned ∷ changes) held = held_after changes held
-held_after (Raised count ∷ changes) held = held_after changes held
-held_after (Acquired at ∷ changes) held = held_after changes held
-held_after (Released ∷ changes) held = held_after changes held
-held_after (Claimed start pages maker ∷ changes) held = held_after changes held
-held_after (Seeded start blanks ∷ changes) held = held_after changes held
-held_after (Born child start ∷ changes) held = held_after changes held
-held_after (Pushed restorer ∷ changes) held = held_after changes held
-held_after (Popped ∷ changes) held = held_after changes held
-held_after (Ended ∷ changes) held = held_after changes held
+-- the changes that come with a wanted access, where it gives this answer
+abbrev pub changes_of : Came Finish → (answer : ℕ) → List Change
+changes_of (Wants a changes) answer = changes answer
+changes_of (Faulted e) answer = []
+changes_of (Over x left values) answer = []
 
--- the changes that come with the next access of a thread
 abbrev pub next_changes : JobData → Core → (answer : ℕ) → List Change
-next_changes job core answer = changes_at (row job (unheld core.arch)) core.seen.count core.seen.kept answer
-
-abbrev pub next_held : JobData → Core → (answer : ℕ) → Option ℕ
-next_held job core answer = held_after (next_changes job core answer) core.arch.held
+next_changes job core answer = changes_of (come job core.arch core.seen) answer
 
 -- the child of a clone: the parent's registers after SYSCALL with RAX 0 and the stack of RSI, and its own shadow stack
 abbrev pub child_arch : Arch → (child start : ℕ) → Arch
 child_arch arch child start = record arch {
-  regs = slice_set (slice_set (slice_set (slice_set arch.regs 1 (above arch.rip 2)) 11 arch.flags) 0 0) 4 (slice_index arch.regs 6);
-  rip = above arch.rip 2;
+  regs = slice_set (slice_set (slice_set (slice_set arch.regs 1 (after_syscall arch)) 11 arch.flags) 0 0) 4 (slice_index arch.regs 6);
+  rip = after_syscall arch;
   ssp = start + 32768;
   count = 0;
   posted = 0;
@@ -144,7 +128,7 @@ faulted arch e = record arch { due = Some e; count = arch.count + 1 }
 
 -- the thread, by what its row has come to
 abbrev pub core_by : JobData → Arch → Option ℕ → Seen → Came Finish → Core
-core_by job arch held seen (Wants a) = record { arch = kept_by arch held arch; seen = seen; over = None }
+core_by job arch held seen (Wants a changes) = record { arch = kept_by arch held arch; seen = seen; over = None }
 core_by job arch held seen (Faulted e) = recorded job (kept_by arch held (faulted arch e))
 core_by job arch held seen (Over (Noted next noted) left values) = recorded job (kept_by arch held next)
 core_by job arch held seen (Over (Posted next) left values) = record { arch = kept_by arch held next; seen = nothing_seen; over = None }
@@ -154,7 +138,7 @@ core_by job arch held seen (Over Stopped left values) = record { arch = kept_by 
 
 -- the record that came with it
 abbrev pub noted_by : Arch → Came Finish → Option Record
-noted_by arch (Wants a) = None
+noted_by arch (Wants a changes) = None
 noted_by arch (Faulted e) = Some (fault_record arch e)
 noted_by arch (Over (Noted next noted) left values) = Some noted
 noted_by arch (Over (Posted next) left values) = None
@@ -163,10 +147,10 @@ noted_by arch (Over Stopped left values) = None
 
 -- what the answer to a wanted access leaves
 abbrev pub answered : JobData → Core → (answer : ℕ) → Came Finish → After
-answered job core answer (Wants a) = record {
-  core = core_by job core.arch (next_held job core answer) (seen_after core.seen a answer) (come job core.arch (seen_after core.seen a answer));
+answered job core answer (Wants a changes) = record {
+  core = core_by job core.arch (held_after (changes answer) core.arch.held) (seen_after core.seen a answer) (come job core.arch (seen_after core.seen a answer));
   noted = noted_by core.arch (come job core.arch (seen_after core.seen a answer));
-  child = child_of core.arch (next_changes job core answer);
+  child = child_of core.arch (changes answer);
 }
 answered job core answer (Faulted e) = record { core = core; noted = None; child = None }
 answered job core answer (Over x left values) = record { core = core; noted = None; child = None }

@@ -4,7 +4,7 @@ use Rattle.cet_isa.specs.declared.instructions.Instr.TheVariants as instr
 use Rattle.cet_page.specs.declared.families.Family.{Family}
 use Rattle.cet_page.specs.declared.families.Family.TheVariants as families
 
--- the instructions of shadow stacks aren't built
+-- The eight instructions of shadow stacks aren't built. Every other one has a family.
 abbrev pub family_of : Instr → Family
 family_of (instr.CallRel disp) = families.Flow
 family_of (instr.CallInd target notrack) = families.Flow

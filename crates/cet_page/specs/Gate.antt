@@ -1,6 +1,6 @@
--- The gate into the kernel, its services, and the kill. Source: Intel SDM volume 1 (supervisor shadow-stack tokens,
--- SETSSBSY and CLRSSBSY) for the token; Linux for the calls' numbers and errors; the fixed order is own.
-use Rattle.std.specs.Prelude.{ℕ, ◌+◌, ◌-◌, ◌/◌, ◌%◌, ◌^◌, List, [], ◌∷◌, ◌++◌, Option, Some, None, ◌==◌, if◌then◌else◌, slice_set}
+-- The gate into the kernel, its services, the delivery of a fault and the kill. Source: Intel SDM volume 1 (supervisor
+-- shadow-stack tokens, SETSSBSY and CLRSSBSY) for the token; Linux for the calls' numbers and errors; the fixed order is own.
+use Rattle.std.specs.Prelude.{ℕ, ◌+◌, ◌-◌, ◌*◌, ◌/◌, ◌%◌, ◌^◌, Bool, List, [], ◌∷◌, Option, Some, None, ◌==◌, if◌then◌else◌, slice_set}
 use Rattle.cet_words.specs.Layout.{entry_word, first_shadow_page, shadow_start, exit_word, action_word, token, token_page, token_word, kernel_return}
 use Rattle.cet_words.specs.Job.{JobData}
 use Rattle.cet_isa.specs.declared.threads.Fault.{Fault}
@@ -9,12 +9,14 @@ use Rattle.cet_isa.specs.declared.threads.FaultName.TheVariants.{Ud, Gp, Pf, Ac,
 use Rattle.cet_isa.specs.declared.threads.Record.{Record}
 use Rattle.cet_isa.specs.declared.threads.What.TheVariants as what
 use Rattle.cet_isa.specs.declared.threads.Arch.{Arch}
-use Rattle.cet_words.specs.Change.{Change, Busied, Freed, Ended}
+use Rattle.cet_words.specs.Change.{Change, Popped, Busied, Freed, Ended}
 use Rattle.cet_page.specs.Script.{Script, done, ◌>>=◌}
 use Rattle.cet_page.specs.Parts.{peek, load, store, stores, exchange, exchange_as}
-use Rattle.cet_page.specs.Finish.{rax, rdi, counted}
+use Rattle.cet_page.specs.Finish.{rax, rdi, counted, above}
 use Rattle.cet_page.specs.declared.finishes.Finish.{Finish}
 use Rattle.cet_page.specs.declared.finishes.Finish.TheVariants as finish
+use Rattle.cet_page.specs.declared.finishes.Leaving.{Leaving}
+use Rattle.cet_page.specs.declared.finishes.Leaving.TheVariants as leaving
 
 -- ---- the gate
 
@@ -36,22 +38,51 @@ gate_in k = do
         done None)
       else done (Some found)
 
--- the way out, after what ends with it; what follows is the same whatever it finds
-unfoldable pub gate_out : List Change → (k : ℕ) → Script (Unit {0})
+-- the changes with the last exchange of the way out
+abbrev pub freed : Leaving → (k : ℕ) → List Change
+freed leaving.Back k = Freed k ∷ []
+freed leaving.Popped k = Popped ∷ Freed k ∷ []
+freed (leaving.Ended status) k = Ended ∷ Freed k ∷ []
+
+-- the way out; what follows is the same whatever it finds
+unfoldable pub gate_out : Leaving → (k : ℕ) → Script (Unit {0})
 gate_out ends k = do
   _ ← load (token_word k - 1)
-  _ ← exchange_as (λ found. ends ++ Freed k ∷ []) (token_word k) (token k + 1) (token k)
+  _ ← exchange_as (λ found. freed ends k) (token_word k) (token k + 1) (token k)
   done tt
+
+-- ---- work of the kernel
+
+-- a piece of work without the gate: the state after it, its record, and what ends with the way out
+abbrev pub Work : Type 0
+Work = Script (Arch × Record × Leaving)
+
+abbrev pub finish_of : Arch → Record → Leaving → Finish
+finish_of next noted leaving.Back = finish.Noted next noted
+finish_of next noted leaving.Popped = finish.Noted next noted
+finish_of next noted (leaving.Ended status) = finish.Exited next noted status
 
 -- a busy supervisor stack: nothing else has changed, and the instruction, fault or delivery starts anew
 abbrev pub found_busy : Arch → (k found : ℕ) → Finish
 found_busy arch k found =
     finish.Noted (counted arch) (record { rip = arch.rip; what = what.Busy; code = 0; a = token k; b = found })
 
--- what is done within the gate, where the way in succeeded
-abbrev pub inside : Arch → (k : ℕ) → Script Finish → Option ℕ → Script Finish
+-- the way out after a piece of work
+abbrev pub leave : (k : ℕ) → Arch × Record × Leaving → Script Finish
+leave k came = do
+  _ ← gate_out came.2 k
+  done (finish_of came.0 came.1 came.2)
+
+-- what is done after the way in: the work and the way out, where the stack was free
+abbrev pub inside : Arch → (k : ℕ) → Work → Option ℕ → Script Finish
 inside arch k work (Some found) = done (found_busy arch k found)
-inside arch k work None = work
+inside arch k work None = work >>= leave k
+
+-- the kernel's entry: the gate round a piece of work
+unfoldable pub entered : JobData → Arch → Work → Script Finish
+entered job arch work = do
+  busy ← gate_in (stack_of job arch)
+  inside arch (stack_of job arch) work busy
 
 -- ---- kernel calls
 
@@ -62,10 +93,21 @@ sys_record arch result = record { rip = arch.rip; what = what.Sys; code = 0; a =
 abbrev pub enosys : ℕ
 enosys = 2 ^ 64 - 38
 
--- SYSCALL leaves the next RIP in RCX and RFLAGS in R11, and the result stands in RAX
-abbrev pub served : Arch → (next result : ℕ) → Arch
-served arch next result =
-    record arch { regs = slice_set (slice_set (slice_set arch.regs 1 next) 11 arch.flags) 0 result; rip = next; count = arch.count + 1 }
+-- the address after SYSCALL, which is two bytes long
+abbrev pub after_syscall : Arch → ℕ
+after_syscall arch = above arch.rip 2
+
+-- SYSCALL leaves the address after it in RCX and RFLAGS in R11, and the result stands in RAX
+abbrev pub served : Arch → (result : ℕ) → Arch
+served arch result = record arch {
+  regs = slice_set (slice_set (slice_set arch.regs 1 (after_syscall arch)) 11 arch.flags) 0 result;
+  rip = after_syscall arch;
+  count = arch.count + 1;
+}
+
+-- a service that goes back to the thread with a result
+abbrev pub serve : Arch → (result : ℕ) → Arch × Record × Leaving
+serve arch result = (served arch result, sys_record arch result, leaving.Back)
 
 -- stores of 0 to the entries of so many pages, the lowest first
 abbrev pub clears : (count page : ℕ) → Script (Unit {0})
@@ -79,40 +121,43 @@ abbrev pub exit_status : Arch → ℕ
 exit_status arch = rdi arch % 256
 
 -- exit (60)
-unfoldable pub exit : Arch → (k : ℕ) → Script Finish
-exit arch k = do
+unfoldable pub exit : Arch → Work
+exit arch = do
   _ ← clears 8 (made_page arch)
-  _ ← gate_out (Ended ∷ []) k
-  done (finish.Exited (counted arch) (sys_record arch (exit_status arch)) (exit_status arch))
+  done (counted arch, sys_record arch (exit_status arch), leaving.Ended (exit_status arch))
 
--- The process ends with the low byte of the status: EXIT becomes that byte and 256, where no thread has ended the process before.
--- The thread goes on to its next boundary.
-unfoldable pub exit_group : Arch → (next k : ℕ) → Script Finish
-exit_group arch next k = do
+-- exit_group (231): the process ends with the low byte of the status. EXIT becomes that byte and 256, where no thread has
+-- ended the process before. The thread goes on to its next boundary.
+unfoldable pub exit_group : Arch → Work
+exit_group arch = do
   _ ← exchange exit_word 0 (0x100 + exit_status arch)
-  _ ← gate_out [] k
-  done (finish.Noted (served arch next (exit_status arch)) (sys_record arch (exit_status arch)))
+  done (serve arch (exit_status arch))
 
--- every number that isn't built
-unfoldable pub no_call : Arch → (next k : ℕ) → Script Finish
-no_call arch next k = do
-  _ ← gate_out [] k
-  done (finish.Noted (served arch next enosys) (sys_record arch enosys))
-
--- the service whose number is in RAX
-abbrev pub service : Arch → (next k : ℕ) → Script Finish
-service arch next k =
-    if rax arch == 60 then exit arch k
-    else if rax arch == 231 then exit_group arch next k
-    else no_call arch next k
+-- the service whose number is in RAX; every number that isn't built is no call
+abbrev pub service : Arch → Work
+service arch =
+    if rax arch == 60 then exit arch
+    else if rax arch == 231 then exit_group arch
+    else done (serve arch enosys)
 
 -- SYSCALL
-unfoldable pub syscall : JobData → Arch → (next : ℕ) → Script Finish
-syscall job arch next = do
-  busy ← gate_in (stack_of job arch)
-  inside arch (stack_of job arch) (service arch next (stack_of job arch)) busy
+abbrev pub syscall : JobData → Arch → Script Finish
+syscall job arch = entered job arch (service arch)
 
--- ---- the delivery of a due fault
+-- ---- the kill, and the delivery of a due fault
+
+abbrev pub killed : Arch → (signal before : ℕ) → Arch × Record × Leaving
+killed arch signal before = (
+  record arch { due = None; count = arch.count + 1 },
+  record { rip = arch.rip; what = what.Kill; code = 0; a = signal; b = before },
+  leaving.Back,
+)
+
+-- the kill of the process by a signal, where no thread has ended the process before
+unfoldable pub kill : Arch → (signal : ℕ) → Work
+kill arch signal = do
+  before ← exchange exit_word 0 (0x200 + signal)
+  done (killed arch signal before)
 
 -- SIGILL 4 for #UD, SIGSEGV 11 for all others
 abbrev pub signal_of : FaultName → ℕ
@@ -122,20 +167,20 @@ signal_of Pf = 11
 signal_of Ac = 11
 signal_of Cp = 11
 
-abbrev pub killed : Arch → (signal before : ℕ) → Finish
-killed arch signal before =
-    finish.Noted (record arch { due = None; count = arch.count + 1 }) (record { rip = arch.rip; what = what.Kill; code = 0; a = signal; b = before })
+-- bit s - 1 of a mask is signal s
+abbrev pub is_masked : (mask signal : ℕ) → Bool
+is_masked mask signal = mask / 2 ^ (signal - 1) % 2 == 1
 
--- The handler is loaded, and the process is killed by the signal whatever the handler is, and also where the signal is
--- masked, while handlers aren't built.
-unfoldable pub kill : Arch → (signal k : ℕ) → Script Finish
-kill arch signal k = do
-  _ ← load (action_word signal)
-  before ← exchange exit_word 0 (0x200 + signal)
-  _ ← gate_out [] k
-  done (killed arch signal before)
+-- The signal of a due fault kills the process at once where it is masked. Else the handler is loaded; and while handlers
+-- aren't built, the process is killed whatever the handler is.
+unfoldable pub delivery : Arch → (signal : ℕ) → Work
+delivery arch signal =
+    if is_masked arch.mask signal
+    then kill arch signal
+    else (do
+      _ ← load (action_word signal)
+      kill arch signal)
 
-unfoldable pub deliver : JobData → Arch → Fault → Script Finish
-deliver job arch e = do
-  busy ← gate_in (stack_of job arch)
-  inside arch (stack_of job arch) (kill arch (signal_of e.name) (stack_of job arch)) busy
+-- the delivery of a due fault
+abbrev pub deliver : JobData → Arch → Fault → Script Finish
+deliver job arch e = entered job arch (delivery arch (signal_of e.name))

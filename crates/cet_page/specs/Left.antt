@@ -4,8 +4,8 @@ use Rattle.cet_words.specs.Job.{JobData}
 use Rattle.cet_isa.specs.declared.threads.End.{End}
 use Rattle.cet_page.specs.Core.{Core}
 
--- the accesses that a thread may still make, at most: 4,096 for each record that it may still make, less those of the
--- present row
+-- A bound on the accesses that a thread may still make: 4,096 for each record that it may still make and 4,096 more, less
+-- those of the present row.
 abbrev pub left_of : JobData → Core → Option End → ℕ
 left_of job core (Some e) = 0
 left_of job core None = 4096 * (job.limit - core.arch.count) + (4096 - core.seen.count)

@@ -15,9 +15,8 @@ pub mod Row
 pub mod Core
 pub mod Trail
 pub mod Plays
-pub mod Orderly
 pub mod Faults
 pub mod Within
 pub mod Machine
 pub mod Left
-pub mod Gated
+pub mod PartsOfRow

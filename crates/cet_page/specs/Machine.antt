@@ -32,15 +32,15 @@ with_child threads None = threads
 with_child threads (Some core) = threads ++ record { core = core; trace = [] } ∷ []
 
 -- thread t makes this access
-abbrev pub made_by : JobData → Machine → (t : ℕ) → Thread → Access → Machine
-made_by job m t thread a = record {
+abbrev pub accessed : JobData → Machine → (t : ℕ) → Thread → Access → Machine
+accessed job m t thread a = record {
   words = after m.words a;
   threads = with_child (slice_set m.threads t (thread_after thread (taken job thread.core (answer m.words a)))) (taken job thread.core (answer m.words a)).child;
 }
 
 abbrev pub act : JobData → Machine → (t : ℕ) → Thread → Option Access → Machine
 act job m t thread None = m
-act job m t thread (Some a) = made_by job m t thread a
+act job m t thread (Some a) = accessed job m t thread a
 
 abbrev pub step_by : JobData → Machine → (t : ℕ) → Option Thread → Machine
 step_by job m t None = m

@@ -1,7 +1,7 @@
 -- The parts that scripts are made of. Source: own; the faults are those of the Intel SDM (volume 3A, the chapter on
 -- interrupts and exceptions), but a stack address that isn't canonical is #GP too, and every data access is aligned.
 use Rattle.std.proofs.Common.{zero, suc}
-use Rattle.std.specs.Prelude.{ℕ, ◌+◌, ◌%◌, List, [], Option, Some, None, ◌==◌, if◌then◌else◌}
+use Rattle.std.specs.Prelude.{ℕ, ◌+◌, ◌%◌, List, [], ◌∷◌, Option, Some, None, ◌==◌, if◌then◌else◌}
 use Rattle.cet_words.specs.Layout.{page_at}
 use Rattle.cet_words.specs.declared.accesses.Access.TheVariants as access
 use Rattle.cet_isa.specs.Address.{canonical}
@@ -22,23 +22,39 @@ invalid_opcode = record { name = Ud; code = 0; a = 0; b = 0 }
 abbrev pub alignment_check : ℕ → Fault
 alignment_check addr = record { name = Ac; code = 0; a = addr; b = 0 }
 
--- the canonical test, and then the test for a multiple of the size
-unfoldable pub tested : (addr size : ℕ) → Script (Unit {0})
-tested addr size =
+-- the canonical test, and then the test for a multiple of the size, which fails with this fault
+unfoldable pub tested_as : Fault → (addr size : ℕ) → Script (Unit {0})
+tested_as misaligned addr size =
     if canonical addr
-    then (if addr % size == 0 then done tt else fault (alignment_check addr))
+    then (if addr % size == 0 then done tt else fault misaligned)
     else fault general_protection
 
--- the look at a page and the page check, with the page's number as result; an address on no page counts as entry 0 and costs
--- no access
-unfoldable pub look_in : Option ℕ → Kind → Who → (addr : ℕ) → Script ℕ
-look_in None k w addr = fault (page_fault 0 k w addr)
-look_in (Some page) k w addr =
-    ask (access.Look page) silent (λ entry. if allows entry k w then done page else fault (page_fault entry k w addr))
+-- of data
+abbrev pub tested : (addr size : ℕ) → Script (Unit {0})
+tested addr size = tested_as (alignment_check addr) addr size
+
+-- The look at a page and the page check, with the look's changes for each entry and the page's number as result; an address
+-- on no page counts as entry 0 and costs no access.
+unfoldable pub look_in_as : (ℕ → List Change) → Option ℕ → Kind → Who → (addr : ℕ) → Script ℕ
+look_in_as changes None k w addr = fault (page_fault 0 k w addr)
+look_in_as changes (Some page) k w addr =
+    ask (access.Look page) changes (λ entry. if allows entry k w then done page else fault (page_fault entry k w addr))
 
 -- the look at the page of an address
-unfoldable pub look : Who → Kind → (addr : ℕ) → Script ℕ
-look w k addr = look_in (page_at addr) k w addr
+unfoldable pub look_as : (ℕ → List Change) → Who → Kind → (addr : ℕ) → Script ℕ
+look_as changes w k addr = look_in_as changes (page_at addr) k w addr
+
+abbrev pub look : Who → Kind → (addr : ℕ) → Script ℕ
+look w k addr = look_as silent w k addr
+
+-- The look of a call that goes on where the page check fails: the page's number, or none. An address on no page costs no
+-- access.
+unfoldable pub probe_in : Option ℕ → Kind → Who → Script (Option ℕ)
+probe_in None k w = done None
+probe_in (Some page) k w = ask (access.Look page) silent (λ entry. done (if allows entry k w then Some page else None))
+
+unfoldable pub probe : Who → Kind → (addr : ℕ) → Script (Option ℕ)
+probe w k addr = probe_in (page_at addr) k w
 
 -- the look at a page of which no test is made
 unfoldable pub peek : (page : ℕ) → Script ℕ
@@ -87,3 +103,8 @@ fetch_and word value = ask (access.FetchAnd word value) silent done
 unfoldable pub stores : (count word value step : ℕ) → Script (Unit {0})
 stores zero word value step = done tt
 stores (suc count) word value step = tell word value [] (stores count (word + 1) (value + step) step)
+
+-- the stores of these values, to a word and those above it
+unfoldable pub store_each : (word : ℕ) → List ℕ → Script (Unit {0})
+store_each word [] = done tt
+store_each word (value ∷ values) = tell word value [] (store_each (word + 1) values)

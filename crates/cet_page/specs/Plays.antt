@@ -1,17 +1,48 @@
 -- What a function over a cursor comes to is what a script comes to. Source: own.
-use Rattle.std.specs.Prelude.{◌≡◌, ℕ, List, Some, Result, Ok, Err}
+use Rattle.std.specs.Prelude.{◌≡◌, ℕ, List, Option, Some, None, Result, Ok, Err, ◌==◌, nat_lt, if◌then◌else◌}
+use Rattle.cet_words.specs.Layout.{token}
+use Rattle.cet_words.specs.Change.{Change}
+use Rattle.cet_words.specs.declared.accesses.Access.{Access}
 use Rattle.cet_isa.specs.declared.threads.Arch.{Arch}
 use Rattle.cet_isa.specs.declared.threads.Record.{Record}
 use Rattle.cet_words.specs.Access.{InRange}
-use Rattle.cet_page.specs.Script.{Came, Over, Faulted, Wants}
+use Rattle.cet_page.specs.Script.{Came, Over, Faulted, Wants, ask, done, play, silent, birth, held_after}
+use Rattle.cet_page.specs.declared.cursors.Mark.{Mark}
+use Rattle.cet_page.specs.declared.cursors.Mark.TheVariants as marks
 use Rattle.cet_page.specs.declared.cursors.Stop.{Stop}
 use Rattle.cet_page.specs.declared.cursors.Stop.TheVariants as stop
 use Rattle.cet_page.specs.declared.nexts.Next.{Next}
 use Rattle.cet_page.specs.declared.nexts.Next.TheVariants as nexts
 
--- a stop at a wanted access, which is in range, or at a fault
+-- The supervisor stack that a thread holds after an access with this mark: one that takes a stack does so where it finds
+-- the token free.
+abbrev pub held_by : Mark → (answer : ℕ) → Option ℕ → Option ℕ
+held_by marks.Plain answer held = held
+held_by (marks.Takes k) answer held = if answer == token k then Some k else held
+held_by marks.Gives answer held = None
+held_by (marks.Bears start) answer held = held
+
+-- the thread that is born at an access with this mark: the answer is its number
+abbrev pub birth_by : Mark → (answer : ℕ) → Option (ℕ × ℕ)
+birth_by marks.Plain answer = None
+birth_by (marks.Takes k) answer = None
+birth_by marks.Gives answer = None
+birth_by (marks.Bears start) answer = if nat_lt answer 32 then Some (answer, start) else None
+
+-- the mark tells what the changes do to the supervisor stack that is held, and who is born
+abbrev pub Marks : Mark → (ℕ → List Change) → Type 0
+Marks mark changes =
+    ((answer : ℕ) (held : Option ℕ) → held_after (changes answer) held ≡ held_by mark answer held) × ((answer : ℕ) → birth (changes answer) ≡ birth_by mark answer)
+
+-- the script wants this access, which is in range, with changes that the mark tells
+abbrev pub Wanted : {A : Type 0} → Came A → Access → Mark → Type 0
+Wanted (Wants b changes) a mark = (b ≡ a) × Marks mark changes × InRange a
+Wanted (Faulted e) a mark = ⊥
+Wanted (Over x left values) a mark = ⊥
+
+-- a stop at a wanted access or at a fault
 abbrev pub Stopped : {A : Type 0} → Came A → Stop → Type 0
-Stopped came (stop.Access a) = (came ≡ Wants a) × InRange a
+Stopped came (stop.Access a mark) = Wanted came a mark
 Stopped came (stop.Fault e) = came ≡ Faulted e
 
 -- what was returned, seen by view, and the place of the cursor afterwards
@@ -22,11 +53,24 @@ ComesBy view came (Err s) left values = Stopped came s
 abbrev pub Comes : {A : Type 0} → Came A → Result A Stop → (left : ℕ) → List ℕ → Type 0
 Comes came result left values = ComesBy (λ x. x) came result left values
 
--- what an instruction does next: an access, its result with the record, or its fault
+-- what an access comes to whose value is kept, whatever its changes are: its value, or a stop at it with this mark
+abbrev pub Asks : Access → Mark → (before : ℕ) → List ℕ → Result ℕ Stop → (left : ℕ) → List ℕ → Type 0
+Asks a mark before seen (Ok value) left values = play (ask a silent done) before seen ≡ Over value left values
+Asks a mark before seen (Err s) left values = (play (ask a silent done) before seen ≡ Wants a silent) × (s ≡ stop.Access a mark) × InRange a
+
+-- What a part of a row does next: an access, its fault, or its result. The view tells the state after it and its record, if
+-- there is one.
+abbrev pub next_by : {A : Type 0} → (A → Arch × Option Record) → Came A → Next
+next_by view (Wants a changes) = nexts.Access a
+next_by view (Faulted e) = nexts.Fault e
+next_by view (Over x left values) = nexts.Done (view x).0 (view x).1
+
+-- an instruction ends with a record
+abbrev pub with_record : Arch × Record → Arch × Option Record
+with_record x = (x.0, Some x.1)
+
 abbrev pub next_of : Came (Arch × Record) → Next
-next_of (Wants a) = nexts.Access a
-next_of (Faulted e) = nexts.Fault e
-next_of (Over x left values) = nexts.Done x.0 (Some x.1)
+next_of came = next_by with_record came
 
 -- the page or word of an access is in range
 abbrev pub NextInRange : Next → Type 0
@@ -35,7 +79,7 @@ NextInRange (nexts.Done arch noted) = Unit {0}
 NextInRange (nexts.Fault e) = Unit {0}
 
 -- the same of what was returned over a cursor
-abbrev pub next_after : Result (Arch × Record) Stop → Next
-next_after (Ok x) = nexts.Done x.0 (Some x.1)
-next_after (Err (stop.Access a)) = nexts.Access a
-next_after (Err (stop.Fault e)) = nexts.Fault e
+abbrev pub next_after : {A : Type 0} → (A → Arch × Option Record) → Result A Stop → Next
+next_after view (Ok x) = nexts.Done (view x).0 (view x).1
+next_after view (Err (stop.Access a mark)) = nexts.Access a
+next_after view (Err (stop.Fault e)) = nexts.Fault e

@@ -24,7 +24,7 @@ use Rattle.cet_page.specs.declared.finishes.Finish.TheVariants as finish
 abbrev pub execute_family : JobData → Arch → Instr → (next : ℕ) → Family → Script Finish
 execute_family job arch i next families.Arithmetic = arithmetic arch i next >>= noted
 execute_family job arch i next families.Flow = flow arch i next >>= noted
-execute_family job arch i next families.SystemCall = syscall job arch next
+execute_family job arch i next families.SystemCall = syscall job arch
 execute_family job arch i next families.Unbuilt = fault invalid_opcode
 
 -- An instruction, with the address of the next one. One that isn't built is an invalid opcode.

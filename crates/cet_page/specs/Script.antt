@@ -30,28 +30,18 @@ pub data Came (A : Type 0) : Type 0 where
   -- it was over before this number of accesses and these answers were used
   Over : A → (left : ℕ) → List ℕ → Came A
   Faulted : Fault → Came A
-  -- it wants this access next
-  Wants : Access → Came A
+  -- it wants this access next, which comes with these changes for each answer
+  Wants : Access → (ℕ → List Change) → Came A
 
 -- what a script has come to after so many accesses, of which those that are no store gave these answers
 abbrev pub play : {A : Type 0} → Script A → ℕ → List ℕ → Came A
 play (done x) n values = Over x n values
 play (fault e) n values = Faulted e
-play (ask a changes k) zero values = Wants a
-play (ask a changes k) (suc n) [] = Wants a
+play (ask a changes k) zero values = Wants a changes
+play (ask a changes k) (suc n) [] = Wants a changes
 play (ask a changes k) (suc n) (value ∷ values) = play (k value) n values
-play (tell word value changes k) zero values = Wants (access.Store word value)
+play (tell word value changes k) zero values = Wants (access.Store word value) (λ answer. changes)
 play (tell word value changes k) (suc n) values = play k n values
-
--- the changes that come with the next access, where it gives this answer
-abbrev pub changes_at : {A : Type 0} → Script A → ℕ → List ℕ → ℕ → List Change
-changes_at (done x) n values answer = []
-changes_at (fault e) n values answer = []
-changes_at (ask a changes k) zero values answer = changes answer
-changes_at (ask a changes k) (suc n) [] answer = []
-changes_at (ask a changes k) (suc n) (value ∷ values) answer = changes_at (k value) n values answer
-changes_at (tell word value changes k) zero values answer = changes
-changes_at (tell word value changes k) (suc n) values answer = changes_at k n values answer
 
 -- nothing changes, whatever the access answers
 abbrev pub silent : ℕ → List Change
@@ -73,3 +63,21 @@ birth (Popped ∷ changes) = birth changes
 birth (Ended ∷ changes) = birth changes
 birth (Busied stack ∷ changes) = birth changes
 birth (Freed stack ∷ changes) = birth changes
+
+-- The supervisor stack that a thread holds after an access with these changes: the gate's first exchange takes it where the
+-- token is free, and the gate's last exchange gives it back.
+abbrev pub held_after : List Change → Option ℕ → Option ℕ
+held_after [] held = held
+held_after (Busied k ∷ changes) held = held_after changes (Some k)
+held_after (Freed k ∷ changes) held = held_after changes None
+held_after (Called back ∷ changes) held = held_after changes held
+held_after (Returned ∷ changes) held = held_after changes held
+held_after (Raised count ∷ changes) held = held_after changes held
+held_after (Acquired at ∷ changes) held = held_after changes held
+held_after (Released ∷ changes) held = held_after changes held
+held_after (Claimed start pages maker ∷ changes) held = held_after changes held
+held_after (Seeded start blanks ∷ changes) held = held_after changes held
+held_after (Born child start ∷ changes) held = held_after changes held
+held_after (Pushed restorer ∷ changes) held = held_after changes held
+held_after (Popped ∷ changes) held = held_after changes held
+held_after (Ended ∷ changes) held = held_after changes held

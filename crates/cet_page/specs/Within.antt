@@ -1,14 +1,15 @@
 -- What holds of a thread of a job between two of its accesses. Source: own.
-use Rattle.std.specs.Prelude.{◌≡◌, ◌<◌, ◌≤◌, Option, Some, None}
+use Rattle.std.specs.Prelude.{◌≡◌, ℕ, ◌<◌, ◌≤◌, List, Option, Some, None}
 use Rattle.cet_words.specs.declared.accesses.Access.{Access}
+use Rattle.cet_words.specs.Change.{Change}
 use Rattle.cet_words.specs.Job.{JobData}
 use Rattle.cet_isa.specs.declared.threads.Arch.{Arch}
 use Rattle.cet_isa.specs.declared.threads.End.{End}
 use Rattle.cet_page.specs.Script.{Wants}
+use Rattle.cet_page.specs.Seen.{nothing_seen}
 use Rattle.cet_page.specs.Finish.{IsMade}
-use Rattle.cet_page.specs.Row.{row}
-use Rattle.cet_page.specs.Core.{Core, unheld, come}
-use Rattle.cet_page.specs.Orderly.{Spent}
+use Rattle.cet_page.specs.Core.{Core, come}
+use Rattle.cet_page.specs.Trail.{seen_of, trail_of}
 
 -- the thread has a number, and eight pages that the kernel made for it
 pub record IsState (arch : Arch) : Type 0 where
@@ -20,11 +21,17 @@ pub record Waits (job : JobData) (core : Core) : Type 0 where
   pub state : IsState core.arch
   pub count : core.arch.count < job.limit
   pub limit : job.limit ≤ 100000
-  pub spent : Spent (row job (unheld core.arch)) core.seen.count core.seen.kept
-  pub waits : (a : Access) × (come job core.arch core.seen ≡ Wants a)
+  pub seen : seen_of (trail_of job core) ≡ core.seen
+  pub waits : (a : Access) × (changes : ℕ → List Change) × (come job core.arch core.seen ≡ Wants a changes)
+
+-- the thread is at an end: it has made at most as many records as the limit says, and has seen nothing of a further row
+pub record Rests (job : JobData) (core : Core) : Type 0 where
+  pub state : IsState core.arch
+  pub count : core.arch.count ≤ job.limit
+  pub seen : core.seen ≡ nothing_seen
 
 abbrev pub CoreAt : JobData → Core → Option End → Type 0
-CoreAt job core (Some e) = Unit {0}
+CoreAt job core (Some e) = Rests job core
 CoreAt job core None = Waits job core
 
 -- a thread of the job: it has ended, or it waits

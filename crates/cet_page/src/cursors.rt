@@ -1,20 +1,33 @@
 //! A place in a row, and the parts that rows are made of.
 
-ghost use Rattle.std.specs.Prelude.{◌≡◌, ◌+◌, ◌*◌, ◌/◌, ◌%◌, ◌^◌, ◌<◌, ◌≤◌, [], IfOk, Some};
+ghost use Rattle.std.specs.Prelude.{◌≡◌, ◌+◌, ◌*◌, ◌/◌, ◌%◌, ◌^◌, ◌<◌, ◌≤◌, [], IfOk, IfSome, Some};
 ghost use Rattle.cet_words.specs.Access.{InRange};
 ghost use Rattle.cet_words.specs.Layout.{word_in, page_count, word_count};
 ghost use Rattle.cet_page.specs.Script.{play, ask, tell, done, silent};
-ghost use Rattle.cet_page.specs.Plays.{Comes};
-ghost use Rattle.cet_page.specs.Parts.{general_protection, invalid_opcode, tested, look, look_in, peek, load, store, stores, exchange, swap, fetch_add, fetch_or, fetch_and};
+ghost use Rattle.cet_page.specs.Plays.{Comes, Asks};
+ghost use Rattle.cet_page.specs.Parts.{general_protection, invalid_opcode, tested, tested_as, look, look_in_as, probe, probe_in, peek, load, store, stores, exchange, swap, fetch_add, fetch_or, fetch_and};
 
 use crate::checks::{Kind, Who, check, page_fault};
 use cet_isa::{Fault, FaultName, is_canonical};
 use cet_words::{Access, page_of};
 
+/// What an access means for the thread itself.
+#[derive(Clone, Copy, Debug, PartialEq, Eq)]
+pub enum Mark {
+    /// Nothing.
+    Plain,
+    /// It takes this supervisor stack, where it finds the token free.
+    Takes(u8),
+    /// It gives the supervisor stack back that the thread holds.
+    Gives,
+    /// It bears the thread whose number is the answer, with its shadow stack from this address on.
+    Bears(u64),
+}
+
 /// Why a row goes no further: it wants an access, or has a fault.
 #[derive(Clone, Copy, Debug, PartialEq, Eq)]
 pub enum Stop {
-    Access(Access),
+    Access(Access, Mark),
     Fault(Fault),
 }
 
@@ -64,11 +77,19 @@ impl<'a> Cursor<'a> {
         requires { InRange access }
         ensures { Comes (play (ask access silent done) self.old.left self.old.rest.now) result self.new.left self.new.rest.now }
     {
+        self.ask_as(access, Mark::Plain)
+    }
+
+    /// An access whose value is kept, with its mark.
+    pub fn ask_as(&mut self, access: Access, mark: Mark) -> Result<u64, Stop>
+        requires { InRange access }
+        ensures { Asks access mark self.old.left self.old.rest.now result self.new.left self.new.rest.now }
+    {
         if self.left == 0 {
-            return Err(Stop::Access(access));
+            return Err(Stop::Access(access, mark));
         }
         let [value, rest @ ..] = self.rest else {
-            return Err(Stop::Access(access));
+            return Err(Stop::Access(access, mark));
         };
         self.left -= 1;
         self.rest = rest;
@@ -82,7 +103,7 @@ impl<'a> Cursor<'a> {
         ensures { Comes (play (store word value) self.old.left self.old.rest.now) result self.new.left self.new.rest.now }
     {
         if self.left == 0 {
-            return Err(Stop::Access(Access::Store(word, value)));
+            return Err(Stop::Access(Access::Store(word, value), Mark::Plain));
         }
         self.left -= 1;
         Ok(())
@@ -155,7 +176,10 @@ impl<'a> Cursor<'a> {
             return Ok(());
         }
         let at = self.left;
-        Err(Stop::Access(Access::Store(word + at, value + step * u64::from(at))))
+        Err(Stop::Access(
+            Access::Store(word + at, value + step * u64::from(at)),
+            Mark::Plain,
+        ))
     }
 
     /// The look at a page of which no test is made.
@@ -168,7 +192,7 @@ impl<'a> Cursor<'a> {
     }
 
     /// The canonical test, and then the test for a multiple of the size in bytes.
-    #[tactic(auto, unfolding(crate::specs::Parts::tested))]
+    #[tactic(auto, unfolding(crate::specs::Parts::tested_as))]
     pub fn tested(&mut self, addr: u64, size: u64) -> Result<(), Stop>
         requires { 0 < size }
         ensures { Comes (play (tested addr size) self.old.left self.old.rest.now) result self.new.left self.new.rest.now }
@@ -187,8 +211,20 @@ impl<'a> Cursor<'a> {
         Ok(())
     }
 
+    /// The canonical test and the test for a multiple of the size in bytes, which both fail with #GP(0).
+    #[tactic(auto, unfolding(crate::specs::Parts::tested_as))]
+    pub fn tested_gp(&mut self, addr: u64, size: u64) -> Result<(), Stop>
+        requires { 0 < size }
+        ensures { Comes (play (tested_as general_protection addr size) self.old.left self.old.rest.now) result self.new.left self.new.rest.now }
+    {
+        if !is_canonical(addr) || addr % size != 0 {
+            return Err(general_protection());
+        }
+        Ok(())
+    }
+
     /// The look at the page of an address, with the page check; the answer is the page's number.
-    #[tactic(auto, unfolding(crate::specs::Parts::look, crate::specs::Parts::look_in))]
+    #[tactic(auto, unfolding(crate::specs::Parts::look_as, crate::specs::Parts::look_in_as))]
     pub fn look(&mut self, who: Who, kind: Kind, addr: u64) -> Result<u32, Stop>
         ensures comes { Comes (play (look who kind addr) self.old.left self.old.rest.now) result self.new.left self.new.rest.now }
         ensures range { IfOk result (λ page. page < page_count) }
@@ -199,16 +235,43 @@ impl<'a> Cursor<'a> {
         self.look_in(page, who, kind, addr)
     }
 
-    #[tactic(auto, using(crate::proofs::ScriptLaws::play_bind), unfolding(crate::specs::Parts::look_in))]
+    #[tactic(auto, using(crate::proofs::ScriptLaws::play_bind), unfolding(crate::specs::Parts::look_in_as))]
     fn look_in(&mut self, page: u32, who: Who, kind: Kind, addr: u64) -> Result<u32, Stop>
         requires { page < page_count }
-        ensures comes { Comes (play (look_in (Some page) kind who addr) self.old.left self.old.rest.now) result self.new.left self.new.rest.now }
+        ensures comes { Comes (play (look_in_as silent (Some page) kind who addr) self.old.left self.old.rest.now) result self.new.left self.new.rest.now }
         ensures range { IfOk result (λ page. page < page_count) }
     {
         let entry = self.ask(Access::Look(page))?;
         match check(entry, kind, who, addr) {
             Ok(()) => Ok(page),
             Err(fault) => Err(Stop::Fault(fault)),
+        }
+    }
+
+    /// The look at the page of an address where nothing faults: the page's number, or none where the
+    /// page check fails.
+    #[tactic(auto, unfolding(crate::specs::Parts::probe, crate::specs::Parts::probe_in))]
+    pub fn probe(&mut self, who: Who, kind: Kind, addr: u64) -> Result<Option<u32>, Stop>
+        ensures comes { Comes (play (probe who kind addr) self.old.left self.old.rest.now) result self.new.left self.new.rest.now }
+        ensures range { IfOk result (λ found. IfSome found (λ page. page < page_count)) }
+    {
+        let Some(page) = page_of(addr) else {
+            return Ok(None);
+        };
+        self.probe_in(page, who, kind, addr)
+    }
+
+    #[tactic(auto, using(crate::proofs::ScriptLaws::play_bind), unfolding(crate::specs::Parts::probe_in))]
+    fn probe_in(&mut self, page: u32, who: Who, kind: Kind, addr: u64) -> Result<Option<u32>, Stop>
+        requires { page < page_count }
+        ensures comes { Comes (play (probe_in (Some page) kind who) self.old.left self.old.rest.now) result self.new.left self.new.rest.now }
+        ensures range { IfOk result (λ found. IfSome found (λ page. page < page_count)) }
+    {
+        let entry = self.ask(Access::Look(page))?;
+        if check(entry, kind, who, addr).is_ok() {
+            Ok(Some(page))
+        } else {
+            Ok(None)
         }
     }
 }

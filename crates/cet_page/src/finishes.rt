@@ -12,3 +12,14 @@ pub enum Finish {
     /// The process has ended.
     Stopped,
 }
+
+/// What ends with the way out of the kernel.
+#[derive(Clone, Copy, Debug, PartialEq, Eq)]
+pub enum Leaving {
+    /// Nothing: the thread goes on as it was.
+    Back,
+    /// The frame of a signal, which is popped from the thread's shadow stack.
+    Popped,
+    /// The thread, with this status.
+    Ended(u8),
+}

@@ -12,6 +12,7 @@ mod families;
 mod fetches;
 mod finishes;
 mod flags;
+mod laws;
 mod nexts;
 mod operands;
 #[cfg(test)]
@@ -19,11 +20,12 @@ mod tests;
 mod vals;
 
 pub use checks::{Kind, Who, check, index_of, page_fault};
-pub use cursors::{Cursor, Stop, general_protection, invalid_opcode, word_in};
+pub use cursors::{Cursor, Mark, Stop, general_protection, invalid_opcode, word_in};
 pub use families::{Family, family_of};
 pub use fetches::{fetch, missing, next_address};
-pub use finishes::Finish;
+pub use finishes::{Finish, Leaving};
 pub use flags::{Computed, StatusFlags};
+pub use laws::parts_are_in_their_rows;
 pub use nexts::Next;
 pub use operands::{
     assigned, compared, effective, register, register_of, settled, stepped, truncated,

@@ -14,16 +14,27 @@ pub enum Next {
 }
 
 impl Next {
-    ghost use Rattle.cet_page.specs.Plays.{next_after};
+    ghost use Rattle.cet_page.specs.Plays.{next_after, with_record};
 
-    /// What an instruction with a record does next, by how far its accesses have led.
-    pub fn of(reached: Result<(Arch, Record), Stop>) -> Next
-        ensures { result ≡ next_after reached }
+    /// What a part of a row does next, by how far its accesses have led: a state with a record, or
+    /// with none.
+    pub fn of(reached: Result<(Arch, Option<Record>), Stop>) -> Next
+        ensures { result ≡ next_after (λ x. x) reached }
     {
         match reached {
-            Ok((arch, noted)) => Next::Done(arch, Some(noted)),
-            Err(Stop::Access(access)) => Next::Access(access),
+            Ok((arch, noted)) => Next::Done(arch, noted),
+            Err(Stop::Access(access, _)) => Next::Access(access),
             Err(Stop::Fault(fault)) => Next::Fault(fault),
+        }
+    }
+
+    /// The same of an instruction, which ends with a record.
+    pub fn noted(reached: Result<(Arch, Record), Stop>) -> Next
+        ensures { result ≡ next_after with_record reached }
+    {
+        match reached {
+            Ok((arch, noted)) => Next::of(Ok((arch, Some(noted)))),
+            Err(stop) => Next::of(Err(stop)),
         }
     }
 }

@@ -11,7 +11,7 @@ use Rattle.cet_isa.specs.declared.threads.What.{What}
 use Rattle.cet_isa.specs.declared.threads.What.TheVariants as what
 use Rattle.cet_page.specs.Core.{Core, next_access, taken}
 use Rattle.cet_page.specs.Machine.{Machine, Thread, Starts, traced, thread_after, with_child, act, step_by, step, run}
-use Rattle.cet_page.proofs.OrderlyRows.{names_no_stack}
+use Rattle.cet_page.proofs.WalkRows.{names_no_stack}
 use Rattle.cet_page.proofs.WithinLaws.{NamesNoStack, taken_plain, no_child}
 use Rattle.cet_top.specs.Shown.{started}
 

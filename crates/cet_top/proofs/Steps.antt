@@ -9,7 +9,7 @@ use Rattle.cet_words.specs.declared.accesses.Access.{Access}
 use Rattle.cet_words.specs.Job.{JobData}
 use Rattle.cet_page.specs.Core.{Core, next_access, taken}
 use Rattle.cet_page.proofs.LeftLaws.{falls}
-use Rattle.cet_page.specs.Machine.{Machine, Thread, machine, thread_after, with_child, act, made_by, step_by, step, run}
+use Rattle.cet_page.specs.Machine.{Machine, Thread, machine, thread_after, with_child, act, accessed, step_by, step, run}
 use Rattle.cet_page.specs.Within.{Waits}
 use Rattle.cet_page.proofs.WithinLaws.{no_child, waiting}
 use Rattle.cet_cpu.specs.Cpu.{IsCpu}
@@ -21,7 +21,7 @@ use Rattle.cet_top.proofs.TurnLaws.{Leads}
 turn_step : (job : JobData) (words words' : List ℕ) (threads : List Thread) (t : ℕ) (thread thread' : Thread) (a : Access) → slice_get threads t ≡ Some thread → next_access job thread.core ≡ Some a → words' ≡ after words a → thread' ≡ thread_after thread (taken job thread.core (answer words a)) → machine words' (slice_set threads t thread') ≡ step job (machine words threads) t
 unfolding step
 turn_step job words words' threads t thread thread' a i n w e =
-    let made : machine words' (slice_set threads t thread') ≡ made_by job (machine words threads) t thread a =
+    let made : machine words' (slice_set threads t thread') ≡ accessed job (machine words threads) t thread a =
     rw (w, e) (ap (λ (o : Option Core). machine (after words a) (with_child (slice_set threads t (thread_after thread (taken job thread.core (answer words a)))) o)) (sym (no_child job thread.core (answer words a)))) in
     made ∙ sym (ap (step_by job (machine words threads) t) i ∙ ap (act job (machine words threads) t thread) n)
 

@@ -139,7 +139,6 @@ pub fn action_word(signal: u8) -> u32
 
 /// The address of the token of supervisor stack k, which is the token itself when free.
 pub fn token(k: u8) -> u64
-    requires { k < 8 }
     ensures { result ≡ token k }
 {
     0xffff_8000_0000_2ff8 + 8192 * u64::from(k)

@@ -5,7 +5,7 @@ use cet_isa::AluOp::{Adc, Add, Cmp};
 use cet_isa::Operand::Imm;
 use cet_isa::Size::{Dword, Qword};
 use cet_isa::{AluOp, Cond, Operand, Size};
-use cet_page::{Kind, Vals};
+use cet_page::{Kind, Mark, Vals};
 use cet_words::Access;
 
 /// The entry of a page that the user may write.
@@ -37,7 +37,7 @@ fn expect_accesses(
     let mut vals = Vals::new();
     for (access, answer) in accesses {
         let at = &mut vals.start();
-        let wants = Err(Stop::Access(*access));
+        let wants = Err(Stop::Access(*access, Mark::Plain));
         assert_eq!(rt; follow(arch, &instr, NEXT, at), wants, "{instr:?}");
         assert!(rt; vals.count() < 32 && vals.done() < 4096);
         vals.add(*access, *answer);

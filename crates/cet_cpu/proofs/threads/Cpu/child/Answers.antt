@@ -1,0 +1,7 @@
+use Rattle.std.proofs.Common.{sym}
+use Rattle.cet_page.proofs.WithinLaws.{child_is}
+use Rattle.cet_cpu.proofs.threads.Cpu.child.Goals as goal
+
+pub wait-requires-clause-state : goal.wait-requires-clause-state
+wait-requires-clause-state c =
+    child_is c.args.job.now c.args.self.now.core c.in_ok-child.child.core c.args.answer c.requires.state.state c.requires.going (sym c.in_ok-child.ensures.child)

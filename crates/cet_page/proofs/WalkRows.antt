@@ -1,0 +1,195 @@
+-- Every row walks within the bounds, and begins with an access. Source: own.
+use Rattle.std.proofs.Common.{true, false, cond, refl}
+use Rattle.std.specs.Prelude.{◌≡◌, ℕ, ◌+◌, Bool, List, [], length, Option, Some, None}
+use Rattle.cet_words.specs.Job.{JobData}
+use Rattle.cet_words.specs.Layout.{page_at}
+use Rattle.cet_words.specs.Change.{Change}
+use Rattle.cet_words.specs.declared.accesses.Access.{Access}
+use Rattle.cet_isa.specs.Reading.{Decoding, Read, Short, Unknown}
+use Rattle.cet_isa.specs.declared.instructions.AluOp.{AluOp}
+use Rattle.cet_isa.specs.declared.instructions.AluOp.TheVariants as ops
+use Rattle.cet_isa.specs.declared.instructions.Reg.{Reg}
+use Rattle.cet_isa.specs.declared.instructions.Instr.{Instr}
+use Rattle.cet_isa.specs.declared.instructions.Instr.TheVariants as instr
+use Rattle.cet_isa.specs.declared.instructions.Operand.{Operand}
+use Rattle.cet_isa.specs.declared.instructions.Operand.TheVariants as operand
+use Rattle.cet_isa.specs.declared.instructions.Size.{Size}
+use Rattle.cet_isa.specs.declared.instructions.Size.TheVariants as size
+use Rattle.cet_isa.specs.declared.threads.Fault.{Fault}
+use Rattle.cet_isa.specs.declared.threads.Record.{Record}
+use Rattle.cet_isa.specs.declared.threads.Arch.{Arch}
+use Rattle.cet_isa.specs.declared.threads.What.{What}
+use Rattle.cet_isa.specs.declared.threads.What.TheVariants as what
+use Rattle.cet_page.specs.Script.{done, fault, ask, tell, ◌>>=◌, Wants, play}
+use Rattle.cet_page.specs.Parts.{load_as, peek}
+use Rattle.cet_page.specs.Finish.{Row, noted, above}
+use Rattle.cet_page.specs.declared.families.Family.{Family}
+use Rattle.cet_page.specs.declared.families.Family.TheVariants as families
+use Rattle.cet_page.specs.declared.flags.Computed.{Computed}
+use Rattle.cet_page.specs.Family.{family_of}
+use Rattle.cet_page.specs.Arithmetic.{operated, alu, test, multiply, move, movzx, movsxd, cmov, xchg, lock_xadd, lock_cmpxchg, arithmetic}
+use Rattle.cet_page.specs.Flow.{call, call_next, call_indirect, ret, push, pop, leave, jump_indirect, flow}
+use Rattle.cet_page.specs.Gate.{gate_in, entered, exit, exit_group, syscall, kill, delivery, deliver}
+use Rattle.cet_page.specs.Fetch.{missing, missing_in}
+use Rattle.cet_page.specs.Row.{execute_family, fetched, instruction, boundary, row, row_from}
+use Rattle.cet_page.proofs.Walk.{Walks, Walk, acted, walk_fault, no_birth, walk_rules}
+use Rattle.cet_page.specs.declared.finishes.Finish.{Finish}
+use Rattle.cet_page.specs.declared.finishes.Finish.TheVariants.{Noted, Posted, Exited, Stopped}
+
+-- the record tells of no new shadow stack
+abbrev pub names_no_stack : What → Bool
+names_no_stack what.Claim = false
+names_no_stack what.Born = false
+names_no_stack what.Step = true
+names_no_stack what.Call = true
+names_no_stack what.Ret = true
+names_no_stack what.Raise = true
+names_no_stack what.Take = true
+names_no_stack what.Save = true
+names_no_stack what.Busy = true
+names_no_stack what.Sys = true
+names_no_stack what.Wrote = true
+names_no_stack what.Signal = true
+names_no_stack what.Ignore = true
+names_no_stack what.SigReturn = true
+names_no_stack (what.Fault name) = true
+names_no_stack what.Kill = true
+
+-- the record tells of what was done, and of no new shadow stack
+abbrev pub tells : What → Bool
+tells (what.Fault name) = false
+tells what.Claim = false
+tells what.Born = false
+tells what.Step = true
+tells what.Call = true
+tells what.Ret = true
+tells what.Raise = true
+tells what.Take = true
+tells what.Save = true
+tells what.Busy = true
+tells what.Sys = true
+tells what.Wrote = true
+tells what.Signal = true
+tells what.Ignore = true
+tells what.SigReturn = true
+tells what.Kill = true
+
+pub tells_no_stack : (w : What) → tells w ≡ true → names_no_stack w ≡ true
+tells_no_stack (what.Fault name) e = refl
+tells_no_stack what.Claim e = cc
+tells_no_stack what.Born e = cc
+tells_no_stack w e = refl
+
+-- ---- what a row ends in
+
+-- A record raises the count by one, and nothing changes where the kernel-made shadow stack is.
+pub record EndsRow (arch : Arch) (x : Arch × Record) : Type 0 where
+  pub count : x.0.count ≡ arch.count + 1
+  pub made : x.0.made ≡ arch.made
+  pub tells : tells x.1.what ≡ true
+
+abbrev pub Ends : Arch → Finish → Type 0
+Ends arch (Noted next noted) = EndsRow arch (next, noted)
+Ends arch (Posted next) = ⊥
+Ends arch (Exited next noted status) = EndsRow arch (next, noted)
+Ends arch Stopped = Unit {0}
+
+pub ends_row : {arch : Arch} {x : Arch × Record} → x.0.count ≡ arch.count + 1 → x.0.made ≡ arch.made → tells x.1.what ≡ true → EndsRow arch x
+ends_row p q r = record { count = p; made = q; tells = r }
+
+pub ends_if : {arch : Arch} (b : Bool) (x y : Arch × Record) → EndsRow arch x → EndsRow arch y → EndsRow arch (cond b x y)
+ends_if true x y p q = p
+ends_if false x y p q = q
+
+ruleset rules = (walk_rules, ends_row, ends_if)
+
+walk_operated : (arch : Arch) (op : AluOp) (dst : Operand) (c : Computed) (next : ℕ) → Walk 6 6 false (EndsRow arch) (operated arch op dst c next)
+walk_operated arch ops.Cmp dst c next = search rules depth 99 fits 9000
+walk_operated arch op (operand.Reg r) c next = search rules depth 99 fits 9000
+walk_operated arch op dst c next = search rules depth 99 fits 9000
+
+walk_move : (arch : Arch) (s : Size) (dst src : Operand) (next : ℕ) → Walk 2 2 false (EndsRow arch) (move arch s dst src next)
+unfolding move
+walk_move arch s (operand.Reg r) src next = search rules depth 99 fits 9000
+walk_move arch size.Qword (operand.Mem m) src next = search rules depth 99 fits 9000
+walk_move arch s dst src next = search rules depth 99 fits 9000
+
+walk_xchg : (arch : Arch) (dst : Operand) (r : Reg) (next : ℕ) → Walk 2 2 false (EndsRow arch) (xchg arch dst r next)
+unfolding xchg
+walk_xchg arch (operand.Reg d) r next = search rules depth 99 fits 9000
+walk_xchg arch (operand.Mem m) r next = search rules depth 99 fits 9000
+walk_xchg arch (operand.Imm z) r next = search rules depth 99 fits 9000
+
+ruleset arithmetic_rules = (rules, walk_operated, walk_move, walk_xchg)
+
+pub walk_arithmetic : (arch : Arch) (i : Instr) (next : ℕ) → Walk 2 2 false (EndsRow arch) (arithmetic arch i next)
+unfolding alu test multiply movzx movsxd cmov lock_xadd lock_cmpxchg
+walk_arithmetic arch (instr.Mov s dst src) next = search arithmetic_rules depth 99 fits 9000
+walk_arithmetic arch i next = search arithmetic_rules depth 99 fits 9000
+
+pub walk_flow : (arch : Arch) (i : Instr) (next : ℕ) → Walk 2 2 false (EndsRow arch) (flow arch i next)
+unfolding call call_next call_indirect ret push pop leave jump_indirect
+walk_flow arch (instr.CallRel disp) next = search rules depth 99 fits 9000
+walk_flow arch i next = search rules depth 99 fits 9000
+
+-- ---- the kernel
+
+pub walk_syscall : (job : JobData) (arch : Arch) → Walk 2 2 false (Ends arch) (syscall job arch)
+unfolding entered exit exit_group
+walk_syscall job arch = search rules depth 99 fits 9000
+
+pub walk_deliver : (job : JobData) (arch : Arch) (e : Fault) → Walk 0 0 false (Ends arch) (deliver job arch e)
+unfolding entered delivery kill
+walk_deliver job arch e = search rules depth 99 fits 9000
+
+-- ---- the instruction and the boundary
+
+noted_walks : (n k : ℕ) (w : Bool) (arch : Arch) (m : Row) → Walks n k w (EndsRow arch) m → Walks n k w (Ends arch) (m >>= noted)
+unfolding ◌>>=◌
+noted_walks n k w arch (done x) h = (h.0, record { count = h.1.count; made = h.1.made; tells = h.1.tells })
+noted_walks n k w arch (fault e) h = h
+noted_walks n k w arch (ask a changes c) h = (h.0, λ v. let g = h.1 v in (g.0, noted_walks (n + 1) (k + 1) (acted w a v (changes v)) arch (c v) g.1))
+noted_walks n k w arch (tell word value changes s) h = (h.0, noted_walks (n + 1) k true arch s h.1)
+
+walk_noted : {n k : ℕ} {w : Bool} {arch : Arch} (m : Row) → Walk n k w (EndsRow arch) m → Walk n k w (Ends arch) (m >>= noted)
+walk_noted {n} {k} {w} {arch} m h = record { walks = noted_walks n k w arch m h.walks }
+
+walk_family : (job : JobData) (arch : Arch) (i : Instr) (next : ℕ) (p : Family) → Walk 2 2 false (Ends arch) (execute_family job arch i next p)
+walk_family job arch i next families.Arithmetic = walk_noted _ (walk_arithmetic arch i next)
+walk_family job arch i next families.Flow = walk_noted _ (walk_flow arch i next)
+walk_family job arch i next families.SystemCall = walk_syscall job arch
+walk_family job arch i next families.Unbuilt = walk_fault refl refl
+
+walk_missing : (arch : Arch) (at : Option ℕ) (addr : ℕ) → Walk 2 2 false (Ends arch) (missing_in at addr)
+walk_missing arch None addr = walk_fault refl refl
+walk_missing arch (Some page) addr = record { walks = (refl, λ v. (no_birth [] refl, (refl, refl))) }
+
+walk_fetched : (job : JobData) (arch : Arch) (bytes : List ℕ) (d : Decoding) → Walk 2 2 false (Ends arch) (fetched job arch bytes d)
+unfolding missing
+walk_fetched job arch bytes (Read i len) = walk_family job arch i (above arch.rip len) (family_of i)
+walk_fetched job arch bytes Short = walk_missing arch (page_at (arch.rip + length bytes)) (arch.rip + length bytes)
+walk_fetched job arch bytes Unknown = walk_fault refl refl
+
+walk_instruction : (job : JobData) (arch : Arch) → Walk 2 2 false (Ends arch) (instruction job arch)
+unfolding instruction
+walk_instruction job arch = search (rules, walk_fetched) depth 99 fits 9000
+
+walk_boundary : (job : JobData) (arch : Arch) → Walk 0 0 false (Ends arch) (boundary job arch)
+unfolding boundary
+walk_boundary job arch = search (rules, walk_instruction) depth 99 fits 9000
+
+walk_from : (job : JobData) (arch : Arch) (due : Option Fault) → Walk 0 0 false (Ends arch) (row_from job arch due)
+walk_from job arch (Some e) = walk_deliver job arch e
+walk_from job arch None = walk_boundary job arch
+
+pub walk_row : (job : JobData) (arch : Arch) → Walk 0 0 false (Ends arch) (row job arch)
+walk_row job arch = walk_from job arch arch.due
+
+begins_from : (job : JobData) (arch : Arch) (due : Option Fault) → (a : Access) × (changes : ℕ → List Change) × (play (row_from job arch due) 0 [] ≡ Wants a changes)
+unfolding boundary entered gate_in load_as peek ◌>>=◌
+begins_from job arch (Some e) = (_, _, refl)
+begins_from job arch None = (_, _, refl)
+
+-- a row with nothing seen wants an access
+pub row_begins : (job : JobData) (arch : Arch) → (a : Access) × (changes : ℕ → List Change) × (play (row job arch) 0 [] ≡ Wants a changes)
+row_begins job arch = begins_from job arch arch.due
