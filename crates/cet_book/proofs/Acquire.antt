@@ -5,7 +5,7 @@ use Rattle.std.proofs.lemmas.Bool.Decides.{eqb_tells, nat_tests}
 use Rattle.std.proofs.lemmas.List.Sums.{passes_at_first}
 use Rattle.cet_book.specs.Book.{Previous, Holder, Maker, Current, Parked, Left, Lost, Region, Book, nowhere, region, put, top, is_parked, has_token, parked_at, is_current, current_of, acquire}
 use Rattle.cet_book.proofs.Shape.{HolderFits, Fits, is_left, one, links, Shape}
-use Rattle.cet_book.proofs.Edits.{Owned, owned_there, owned_only, is_there, put_all, put2_all, SameBounds, same-put2, some_same, bounds_same, apart_same, current_of-put, current_of_is}
+use Rattle.cet_book.proofs.Edits.{Owned, owned_there, owned_only, is_there, put_all, put2_all, SameBounds, same-put2, bounds_same, apart_same, current_of-put, current_of_is}
 
 parked_true : (h : Holder) → is_parked h ≡ true → h ≡ Parked
 parked_true (Maker x) e = absurd (false≢true e)
@@ -141,7 +141,6 @@ module _ {t m q : ℕ} {b : Book} (k : Takes t m q b) where
 
   pub acquire_shape : Shape (acquire t m q b)
   acquire_shape = record {
-    some = some_same acquire_same k.owned.shape;
     bounds = bounds_same acquire_same k.owned.shape;
     fits = fits_now;
     apart = apart_same acquire_same k.owned.shape;

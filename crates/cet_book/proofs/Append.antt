@@ -1,6 +1,6 @@
 -- A region is claimed: it stands after the others. Source: own.
 use Rattle.std.proofs.Common.{◌≡◌, ◌≢◌, ℕ, ◌+◌, ◌-◌, ◌<◌, ◌≤◌, ◌⊎◌, inl, inr, true, false, List, [], ◌∷◌, ◌++◌, length, refl, sym, ◌∙◌, ap, subst, eqb, arith, length-append}
-use Rattle.std.specs.Prelude.{not}
+use Rattle.std.specs.Prelude.{not, nat_lt}
 use Rattle.std.proofs.lemmas.Bool.{cases_lt}
 use Rattle.std.proofs.lemmas.Bool.Decides.{eqb_tells, nat_tests}
 use Rattle.std.proofs.lemmas.List.{get_or_past, get_or_append_left}
@@ -83,7 +83,6 @@ module _ {r : Region} {b : Book} (a : Appends r b) where
 
   pub append_shape : Bounds r.start r.end → ((i : ℕ) → (region b i).end < r.start) → Shape (append r b)
   append_shape bounds above = record {
-    some = let e = append_length in omega arith;
     bounds = λ i inside. elim (eqb_tells i (length b.regions)) [
       | inl e ↦
           subst (λ j. Bounds (region (append r b) j).start (region (append r b) j).end) (sym e.1)
@@ -117,17 +116,38 @@ module _ {r : Region} {b : Book} (a : Appends r b) where
         (λ q n. a.shape.chain q s) q);
   }
 
+-- the last region's end, where there is one
+last_end_is : (b : Book) → 0 < length b.regions → last_end b ≡ (region b (length b.regions - 1)).end
+last_end_is b l = let some : nat_lt 0 (length b.regions) ≡ true = grind (arith, nat_tests) in rw some refl
+
+pub last_end_low : (b : Book) → Shape b → 0x200000000 ≤ last_end b
+last_end_low b h = elim (cases_lt 0 (length b.regions)) [
+  | inl l ↦
+      let inside : length b.regions - 1 < length b.regions = omega arith in
+      let bounds = h.bounds (length b.regions - 1) inside in
+      let low = bounds.low in
+      let full = bounds.full in
+      let is = last_end_is b l in
+      omega arith
+  | inr g ↦ let none : nat_lt 0 (length b.regions) ≡ false = grind (arith, nat_tests) in rw none (omega arith)
+]
+
 -- every region ends at or below the last one's end
 pub end_le_last : (b : Book) → Shape b → (i : ℕ) → (region b i).end ≤ last_end b
-end_le_last b h i = elim (cases_lt (i + 1) (length b.regions)) [
-  | inl l ↦
-      let order : i < length b.regions - 1 = omega arith in
-      let inside : length b.regions - 1 < length b.regions = omega arith in
-      let apart = h.apart i (length b.regions - 1) order inside in
-      let full = (h.bounds (length b.regions - 1) inside).full in
-      omega arith
-  | inr g ↦ elim (cases_lt i (length b.regions)) [
-    | inl l ↦ let e : i ≡ length b.regions - 1 = omega arith in subst (λ j. (region b i).end ≤ (region b j).end) e (omega arith)
-    | inr past ↦ let e : (region b i).end ≡ 0 = ap (λ (x : Region). x.end) (get_or_past b.regions i nowhere past) in omega arith
-  ]
+end_le_last b h i = elim (cases_lt i (length b.regions)) [
+  | inr past ↦ let e : (region b i).end ≡ 0 = ap (λ (x : Region). x.end) (get_or_past b.regions i nowhere past) in omega arith
+  | inl inside ↦
+      let is = last_end_is b (omega arith) in
+      elim (cases_lt (i + 1) (length b.regions)) [
+        | inl l ↦
+            let order : i < length b.regions - 1 = omega arith in
+            let there : length b.regions - 1 < length b.regions = omega arith in
+            let apart = h.apart i (length b.regions - 1) order there in
+            let full = (h.bounds (length b.regions - 1) there).full in
+            omega arith
+        | inr g ↦
+            let e : i ≡ length b.regions - 1 = omega arith in
+            let same : (region b i).end ≡ (region b (length b.regions - 1)).end = ap (λ j. (region b j).end) e in
+            omega arith
+      ]
 ]

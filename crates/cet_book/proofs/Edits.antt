@@ -56,9 +56,6 @@ same-put2 b m k rm rk in_m in_k sm em sk ek = record {
   end = put2_all b m k rm rk in_m in_k (λ i q. q.end ≡ (region b i).end) ek em (λ i n n'. refl);
 }
 
-pub some_same : {b next : Book} → SameBounds b next → Shape b → 0 < length next.regions
-some_same s h = let l = h.some in let e = s.len in omega arith
-
 pub bounds_same : {b next : Book} → SameBounds b next → Shape b → (i : ℕ) → i < length next.regions → Bounds (region next i).start (region next i).end
 bounds_same {b = b} s h i inside =
     let old : i < length b.regions = (let e = s.len in omega arith) in

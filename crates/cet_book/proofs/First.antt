@@ -16,7 +16,6 @@ first_current = current_of_is 0 first_book 0 refl (first_all (λ i r. r.holder �
 
 pub first_shape : Shape first_book
 first_shape = record {
-  some = omega arith;
   bounds = λ i l.
       first_all (λ i r. i < 1 → Bounds r.start r.end)
       (λ _. record { low = omega arith; full = omega arith; high = omega arith; first = refl; last = refl })

@@ -4,7 +4,7 @@ use Rattle.std.proofs.lemmas.List.{length-replicate}
 use Rattle.std.proofs.lemmas.Bool.Decides.{eqb_tells, nat_tests}
 use Rattle.cet_book.specs.Book.{Entry, Blank, Holder, Maker, Current, Parked, Lost, Region, Book, region, put, is_current, current_of}
 use Rattle.cet_book.proofs.Shape.{HolderFits, Fits, is_left, one, links, Shape}
-use Rattle.cet_book.proofs.Edits.{Owned, owned_there, owned_only, is_there, put_all, SameBounds, same-put, some_same, bounds_same, apart_same, current_of-put, current_of_is}
+use Rattle.cet_book.proofs.Edits.{Owned, owned_there, owned_only, is_there, put_all, SameBounds, same-put, bounds_same, apart_same, current_of-put, current_of_is}
 
 -- region s has the list es and the holder g
 abbrev pub hand : ℕ → List Entry → Holder → Book → Book
@@ -39,7 +39,6 @@ module _ {s : ℕ} {es : List Entry} {g : Holder} {b : Book} (h : Hands s es g b
 
   pub hand_shape : Fits now → ((y i : ℕ) → (region (hand s es g b) i).holder ≡ Current y → current_of y (hand s es g b) ≡ i) → Shape (hand s es g b)
   hand_shape fits alone = record {
-    some = some_same hand_same h.shape;
     bounds = bounds_same hand_same h.shape;
     fits = hand_all (λ i r. Fits r) fits (λ i n. h.shape.fits i);
     apart = apart_same hand_same h.shape;

@@ -1,16 +1,17 @@
 -- Every change keeps what holds of a book. Source: own.
-use Rattle.std.proofs.Common.{◌≡◌, ◌≢◌, ℕ, suc, ◌+◌, ◌-◌, ◌*◌, ◌<◌, ◌≤◌, ◌⊎◌, inl, inr, Bool, true, false, ◌&&◌, List, [], ◌∷◌, length, Option, Some, None, refl, sym, ◌∙◌, ap, subst, arith}
-use Rattle.std.specs.Prelude.{nat_lt, nat_le, option_and_then}
+use Rattle.std.proofs.Common.{◌≡◌, ◌≢◌, ℕ, suc, ◌+◌, ◌*◌, ◌<◌, ◌≤◌, ◌⊎◌, inl, inr, Bool, true, false, ◌&&◌, List, [], ◌∷◌, length, Option, Some, None, refl, sym, ◌∙◌, ap, subst, arith}
+use Rattle.std.specs.Prelude.{nat_lt, nat_le}
 use Rattle.std.proofs.lemmas.Bool.Decides.{nat_tests}
 use Rattle.cet_words.specs.Change.{Change, Called, Returned, Raised, Acquired, Released, Claimed, Seeded, Born, Pushed, Popped, Ended, Busied, Freed}
 use Rattle.cet_book.specs.Book.{Entry, Call, Restorer, Frame, Previous, Blank, Maker, Parked, Lost, Region, Book, region, capacity, is_maker, current_of, parked_at, starting_at, held_by, stack_of, holds_stack, is_free, with_current, relist, unlink, called, returned, raised, acquired, released, claim, can_claim, claimed, seeded, born, pushed, popped, ended, busied, freed, book_after, books_after}
+use Rattle.cet_book.proofs.Changes.{then_by}
 use Rattle.cet_book.proofs.Shape.{Bounds, links, Shape, StackShape, IsBook}
 use Rattle.cet_book.proofs.Edits.{Owned, owned, owned_there}
 use Rattle.cet_book.proofs.Relist.{relist_shape}
 use Rattle.cet_book.proofs.Unlink.{Gone, parked, Linked, left_there, unlink_shape}
 use Rattle.cet_book.proofs.Acquire.{parked_at_holds, Takes, acquire_shape}
 use Rattle.cet_book.proofs.Hand.{Made, made_there, seeds, seed_shape, bears, born_shape, ends, end_shape}
-use Rattle.cet_book.proofs.Append.{Appends, append_shape, end_le_last}
+use Rattle.cet_book.proofs.Append.{Appends, append_shape, end_le_last, last_end_low}
 use Rattle.cet_book.proofs.Removes.{returned_is, shortened, raised_shortened}
 use Rattle.cet_book.proofs.Relies.{Relies, relies_same, relies_then, relist_relies, unlink_relies, acquire_relies, seed_relies, born_relies, end_relies, append_relies, removal_relies, raised_relies, stack_relies}
 use Rattle.cet_book.proofs.Addresses.{ChangeReturns, Returns, older_return, relist_returns, unlink_returns, acquire_returns, hand_returns, append_returns, blanks_return, removal_returns, raised_returns}
@@ -33,9 +34,21 @@ NotBorn Ended y = Unit {0}
 NotBorn (Busied k) y = Unit {0}
 NotBorn (Freed k) y = Unit {0}
 
+-- a change other than a gate's leaves the holders of supervisor stacks
+abbrev pub SameHolders : Change → (old new : List (Option ℕ)) → Type 0
+SameHolders (Busied k) old new = Unit {0}
+SameHolders (Freed k) old new = Unit {0}
+SameHolders c old new = new ≡ old
+
+same_holders : (c : Change) (old new : List (Option ℕ)) → new ≡ old → SameHolders c old new
+same_holders (Busied k) old new e = tt
+same_holders (Freed k) old new e = tt
+same_holders c old new e = e
+
 -- a change by t leads from one book to the next, and other threads can rely on what was theirs
 pub record Kept (t : ℕ) (c : Change) (b next : Book) : Type 0 where
   pub book : IsBook next
+  pub holders : SameHolders c b.stacks next.stacks
   pub others : (y : ℕ) → t ≢ y → NotBorn c y → Relies y b next
   pub returns : ChangeReturns c → Returns b → Returns next
 
@@ -142,8 +155,8 @@ claims t start pages maker b h = record { shape = h; empty = refl; holder = clai
 
 pub claim_bounds : (start pages : ℕ) (b : Book) → Shape b → CanClaim start pages b → Bounds start (start + 4096 * pages)
 claim_bounds start pages b h c =
-    let inside : length b.regions - 1 < length b.regions = (let s = h.some in omega arith) in
-    let last = h.bounds (length b.regions - 1) inside in
+    let least = last_end_low b h in
+    let above = c.above in
     record { low = omega arith; full = omega arith; high = c.high; first = c.aligned; last = (let a = c.aligned in omega arith) }
 
 pub claimed_kept : (t start pages : ℕ) (maker : Bool) (b next : Book) → Shape b → claimed t start pages maker b ≡ Some next → Keeps t (Claimed start pages maker) b next
@@ -175,6 +188,7 @@ owned_by t change b next f h e keeps =
 by_regions : (t : ℕ) (c : Change) (b next : Book) → IsBook b → Keeps t c b next → Kept t c b next
 by_regions t c b next h k = record {
   book = record { shape = k.shape; stacks = subst StackShape (sym k.stacks) h.stacks };
+  holders = same_holders c b.stacks next.stacks k.stacks;
   others = k.others;
   returns = k.returns;
 }
@@ -192,6 +206,7 @@ busied_kept t k b next h e =
     let past : length b.stacks ≤ held_by t b = grind (arith, nat_tests) in
     subst (Kept t (Busied k) b) (let s = c.1 in cc) (record {
       book = record { shape = put_stack_shape k (Some t) b h.shape; stacks = busied_stacks t k b h.stacks inside (none_held t b past) };
+      holders = tt;
       others = λ y n _. stack_relies y k (Some t) b there (λ z. cc) (λ z. n (cc));
       returns = λ _ old. old;
     })
@@ -202,6 +217,7 @@ freed_kept t k b next h e =
     let held = holds_true t (stack_of b k) c.0 in
     subst (Kept t (Freed k) b) (let s = c.1 in cc) (record {
       book = record { shape = put_stack_shape k None b h.shape; stacks = freed_stacks t k b h.stacks held };
+      holders = tt;
       others = λ y n _. stack_relies y k None b (stack_there t k b held) (λ z. n (cc)) (λ z. cc);
       returns = λ _ old. old;
     })
@@ -221,14 +237,10 @@ book_kept t Ended b next h e = by_regions t Ended b next h (owned_by t Ended b n
 book_kept t (Busied k) b next h e = busied_kept t k b next h e
 book_kept t (Freed k) b next h e = freed_kept t k b next h e
 
-then_books : (t : ℕ) (cs : List Change) (o : Option Book) (next : Book) → option_and_then (λ b. books_after t b cs) o ≡ Some next → (mid : Book) × (o ≡ Some mid) × (books_after t mid cs ≡ Some next)
-then_books t cs None next e = cc
-then_books t cs (Some mid) next e = (mid, refl, e)
-
 pub books_kept : (t : ℕ) (cs : List Change) (b next : Book) → IsBook b → books_after t b cs ≡ Some next → IsBook next
 books_kept t [] b next h e = subst IsBook (cc) h
 books_kept t (c ∷ cs) b next h e =
-    let step = then_books t cs (book_after t b c) next e in
+    let step = then_by t (book_after t b c) next cs e in
     books_kept t cs step.0 next (book_kept t c b step.0 h step.1).book step.2
 
 abbrev pub NoneBorn : List Change → ℕ → Type 0
@@ -238,6 +250,6 @@ NoneBorn (c ∷ cs) y = NotBorn c y × NoneBorn cs y
 pub others_rely : (t y : ℕ) (cs : List Change) (b next : Book) → IsBook b → books_after t b cs ≡ Some next → t ≢ y → NoneBorn cs y → Relies y b next
 others_rely t y [] b next h e n none = subst (Relies y b) (cc) (relies_same y b)
 others_rely t y (c ∷ cs) b next h e n none =
-    let step = then_books t cs (book_after t b c) next e in
+    let step = then_by t (book_after t b c) next cs e in
     let first = book_kept t c b step.0 h step.1 in
     relies_then (first.others y n none.0) (others_rely t y cs step.0 next first.book step.2 n none.1)

@@ -11,7 +11,13 @@ pub mod First
 pub mod Relies
 pub mod Addresses
 pub mod Cases
+pub mod Changes
 pub mod Kept
+pub mod Edited
+pub mod Comes
+pub mod LostStays
+pub mod Held
+pub mod EventLaws
 pub mod Ways
 pub mod Top
 pub mod StackLaws

@@ -2,7 +2,7 @@
 use Rattle.std.proofs.Common.{◌≡◌, ◌≢◌, ℕ, ◌+◌, ◌*◌, ◌≤◌, List, length, refl, sym, ◌∙◌, subst}
 use Rattle.cet_book.specs.Book.{Entry, Region, Book, region, current_of, relist}
 use Rattle.cet_book.proofs.Shape.{HolderFits, Fits, is_left, one, links, Shape}
-use Rattle.cet_book.proofs.Edits.{Owned, owned_there, put_all, SameBounds, same-put, some_same, bounds_same, apart_same, current_of-put}
+use Rattle.cet_book.proofs.Edits.{Owned, owned_there, put_all, SameBounds, same-put, bounds_same, apart_same, current_of-put}
 
 module _ {t m : ℕ} {b : Book} (o : Owned t m b) (es : List Entry) where
   abbrev pub now : Region
@@ -28,7 +28,6 @@ module _ {t m : ℕ} {b : Book} (o : Owned t m b) (es : List Entry) where
 
   pub relist_shape : (region b m).start + 8 * length es ≤ (region b m).end → ((s : ℕ) → links s es ≡ links s (region b m).entries) → Shape (relist m es b)
   relist_shape room same = record {
-    some = some_same relist_same o.shape;
     bounds = bounds_same relist_same o.shape;
     fits = relist_all (λ i r. Fits r)
         (record { room = room; held = subst (HolderFits now) (sym o.current) tt }) (λ i n. o.shape.fits i);

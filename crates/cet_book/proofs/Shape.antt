@@ -47,7 +47,6 @@ links s (e ∷ es) = one (is_previous s e) + links s es
 
 -- the facts on regions
 pub record Shape (b : Book) : Type 0 where
-  pub some : 0 < length b.regions
   pub bounds : (i : ℕ) → i < length b.regions → Bounds (region b i).start (region b i).end
   pub fits : (i : ℕ) → Fits (region b i)
   -- a later region lies above, so between two there is a page of neither

@@ -98,7 +98,6 @@ current_of-put_stack y k o b = refl
 
 pub put_stack_shape : (k : ℕ) (o : Option ℕ) (b : Book) → Shape b → Shape (put_stack b k o)
 put_stack_shape k o b h = record {
-  some = h.some;
   bounds = h.bounds;
   fits = h.fits;
   apart = h.apart;

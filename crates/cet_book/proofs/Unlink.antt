@@ -4,7 +4,7 @@ use Rattle.std.proofs.lemmas.Bool.{false≢true}
 use Rattle.std.proofs.lemmas.Bool.Decides.{eqb_tells, nat_tests}
 use Rattle.cet_book.specs.Book.{Entry, Previous, Holder, Maker, Current, Parked, Left, Lost, Region, Book, region, top, is_current, current_of, relist, unlink}
 use Rattle.cet_book.proofs.Shape.{HolderFits, Fits, is_left, one, links, Shape}
-use Rattle.cet_book.proofs.Edits.{Owned, owned_there, is_there, put_all, put2_all, SameBounds, same-put2, some_same, bounds_same, apart_same, current_of-put}
+use Rattle.cet_book.proofs.Edits.{Owned, owned_there, is_there, put_all, put2_all, SameBounds, same-put2, bounds_same, apart_same, current_of-put}
 
 pub left_true : (q : ℕ) (h : Holder) → is_left q h ≡ true → h ≡ Left q
 left_true q (Maker x) e = absurd (false≢true e)
@@ -124,7 +124,6 @@ module _ {t m s : ℕ} {es : List Entry} {b : Book} (l : Linked t m s es b) {g :
 
   pub unlink_shape : HolderFits (region b s) g → Shape (unlink m s es g b)
   unlink_shape held = record {
-    some = some_same (unlink_same l g) l.owned.shape;
     bounds = bounds_same (unlink_same l g) l.owned.shape;
     fits = unlink_all l g (λ i r. Fits r)
         (record { room = (l.owned.shape.fits s).room; held = gone_fits (region b s) g d held })

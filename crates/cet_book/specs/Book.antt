@@ -172,8 +172,9 @@ abbrev pub claim : ℕ → ℕ → ℕ → Bool → Region
 claim t start pages maker =
     record { start = start; end = start + 4096 * pages; entries = []; holder = if maker then Maker t else Lost }
 
+-- the end of the last region, or the start of the shadow area where there is no region
 abbrev pub last_end : Book → ℕ
-last_end b = (region b (length b.regions - 1)).end
+last_end b = if nat_lt 0 (length b.regions) then (region b (length b.regions - 1)).end else 0x200000000
 
 abbrev pub can_claim : ℕ → ℕ → Book → Bool
 can_claim start pages b =

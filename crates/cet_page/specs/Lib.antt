@@ -13,6 +13,7 @@ pub mod Gate
 pub mod Fetch
 pub mod Row
 pub mod Core
+pub mod Trail
 pub mod Plays
 pub mod Orderly
 pub mod Faults

@@ -1,0 +1,34 @@
+-- The trail of a row: the accesses that a thread has made in it so far, with what they answered and what they changed in
+-- the book. All that is said of the past of a row is read off its trail. Source: own.
+use Rattle.std.proofs.Common.{zero, suc}
+use Rattle.std.specs.Prelude.{ℕ, ◌-◌, Bool, true, false, ◌||◌, List, [], ◌∷◌, if◌then◌else◌}
+use Rattle.cet_words.specs.Change.{Change, Called, Returned, Raised, Acquired, Released, Claimed, Seeded, Born, Pushed, Popped, Ended, Busied, Freed}
+use Rattle.cet_words.specs.Job.{JobData}
+use Rattle.cet_words.specs.declared.accesses.Access.{Access}
+use Rattle.cet_words.specs.declared.accesses.Access.TheVariants as access
+use Rattle.cet_page.specs.Script.{Script, done, fault, ask, tell}
+use Rattle.cet_page.specs.Row.{row}
+use Rattle.cet_page.specs.Core.{Core, unheld}
+
+-- an access that was made, its answer (0 for a store), and its changes
+pub record Visit : Type 0 where
+  pub access : Access
+  pub answer : ℕ
+  pub changes : List Change
+
+abbrev pub visit : Access → (answer : ℕ) → List Change → Visit
+visit a answer changes = record { access = a; answer = answer; changes = changes }
+
+-- The trail after so many more accesses, which go the way of a script, where those that are no store answered these values.
+-- The newest stands first, before what was made earlier.
+abbrev pub trail : {A : Type 0} → ℕ → Script A → List ℕ → List Visit → List Visit
+trail zero s values past = past
+trail (suc n) (done x) values past = past
+trail (suc n) (fault e) values past = past
+trail (suc n) (ask a changes k) [] past = past
+trail (suc n) (ask a changes k) (value ∷ values) past = trail n (k value) values (visit a value (changes value) ∷ past)
+trail (suc n) (tell word value changes k) values past = trail n k values (visit (access.Store word value) 0 changes ∷ past)
+
+-- the trail of a thread's present row
+abbrev pub trail_of : JobData → Core → List Visit
+trail_of job core = trail core.seen.count (row job (unheld core.arch)) core.seen.kept []
