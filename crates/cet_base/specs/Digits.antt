@@ -11,5 +11,9 @@ abbrev pub hex_digits : ℕ → ℕ → List ℕ
 hex_digits zero n = []
 hex_digits (suc count) n = hex_digit_at n count ∷ hex_digits count n
 
+-- the two digits of a byte
+abbrev pub hex2 : ℕ → List ℕ
+hex2 byte = hex_digits 2 byte
+
 unfoldable pub hex16 : ℕ → List ℕ
 hex16 n = hex_digits 16 n

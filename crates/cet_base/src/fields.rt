@@ -1,3 +1,5 @@
+//! Little-endian fields of 2, 4 and 8 bytes.
+
 ghost use Rattle.std.specs.Prelude.{◌≡◌};
 ghost use Rattle.std.specs.Int.{w16, w32, w64};
 ghost use Rattle.cet_base.specs.Fields.{field_at};

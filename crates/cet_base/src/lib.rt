@@ -9,4 +9,4 @@ mod write;
 
 pub use fields::{get_u16, get_u32, get_u64};
 pub use read::read_u64;
-pub use write::{hex16, put_bytes, put_decimal, put_hex};
+pub use write::{hex2, hex16, put_bytes, put_decimal, put_hex};

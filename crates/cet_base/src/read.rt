@@ -1,3 +1,5 @@
+//! The number that a text writes.
+
 ghost use Rattle.std.specs.Prelude.{◌≡◌, ◌≤◌};
 ghost use Rattle.cet_base.specs.Numbers.{digits_number, numeral, number_of};
 

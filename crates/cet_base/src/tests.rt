@@ -1,3 +1,5 @@
+//! Worked values of numbers, texts and fields.
+
 use super::*;
 use cet_words::{Bytes, NoMemory};
 

@@ -1,6 +1,8 @@
+//! Numbers as text, in decimal and hexadecimal digits.
+
 ghost use Rattle.std.specs.Prelude.{◌≡◌, ◌++◌, ◌<◌, ◌≤◌, false, OnOk, OnErr, drop};
 ghost use Rattle.std.specs.Fmt.{decimal, digit_glyph, digits};
-ghost use Rattle.cet_base.specs.Digits.{hex_digit_at, hex16};
+ghost use Rattle.cet_base.specs.Digits.{hex_digit_at, hex2, hex16};
 
 use cet_words::{Bytes, NoMemory};
 use std::alloc::Global;
@@ -23,6 +25,13 @@ fn hex_digit_at(value: u64, place: u32) -> u8
     ensures { result ≡ hex_digit_at value place }
 {
     digit_glyph(((value >> (4 * place)) % 16) as u8)
+}
+
+/// The two lower-case hexadecimal digits of a byte.
+pub fn hex2(byte: u8) -> [u8; 2]
+    ensures { result ≡ hex2 byte }
+{
+    [digit_glyph(byte / 16), digit_glyph(byte % 16)]
 }
 
 /// The sixteen lower-case hexadecimal digits of a number, leading zeros among them.

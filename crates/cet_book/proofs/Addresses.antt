@@ -1,5 +1,6 @@
 -- The addresses that calls and signals are to return to lie in the image, or at its end. Source: own.
 use Rattle.std.proofs.Common.{◌≡◌, ℕ, zero, suc, ◌≤◌, List, [], ◌∷◌, Some, replicate, sym, subst}
+use Rattle.cet_words.specs.Layout.{image_end, image_start}
 use Rattle.cet_words.specs.Change.{Change, Called, Returned, Raised, Acquired, Released, Claimed, Seeded, Born, Pushed, Popped, Ended, Busied, Freed}
 use Rattle.cet_book.specs.Book.{Entry, Call, Restorer, Frame, Previous, Blank, Holder, Region, Book, region, relist, unlink, acquire, raised, first_book}
 use Rattle.cet_book.proofs.Edits.{Owned}
@@ -12,7 +13,7 @@ use Rattle.cet_book.proofs.Removes.{Removal, plain, linked, raised_all}
 use Rattle.cet_book.proofs.First.{first_empty}
 
 abbrev pub IsReturn : ℕ → Type 0
-IsReturn x = (0x400000 ≤ x) × (x ≤ 0x800000)
+IsReturn x = (image_start ≤ x) × (x ≤ image_end)
 
 abbrev pub EntryReturns : Entry → Type 0
 EntryReturns (Call x) = IsReturn x

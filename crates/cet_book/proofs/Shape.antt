@@ -1,10 +1,11 @@
 -- What holds of every book that changes lead to, without any word of memory. Source: own.
 use Rattle.std.specs.Prelude.{◌≡◌, ℕ, ◌+◌, ◌*◌, ◌%◌, ◌<◌, ◌≤◌, Bool, false, ◌==◌, if◌then◌else◌, List, [], ◌∷◌, length, slice_index_or, Option, Some, None}
+use Rattle.cet_words.specs.Layout.{first_region_start}
 use Rattle.cet_book.specs.Book.{Entry, Call, Restorer, Frame, Previous, Blank, Holder, Maker, Current, Parked, Left, Lost, Region, Book, region, top, current_of}
 
 -- a region has whole pages, between the first and the last page of the shadow area
 pub record Bounds (start end : ℕ) : Type 0 where
-  pub low : 0x200001000 ≤ start
+  pub low : first_region_start ≤ start
   pub full : start + 4096 ≤ end
   pub high : end ≤ 0x2003ff000
   pub first : start % 4096 ≡ 0

@@ -3,6 +3,7 @@
 use Rattle.std.proofs.Common.{zero, suc}
 use Rattle.std.specs.Prelude.{ℕ, ◌+◌, ◌-◌, ◌*◌, ◌/◌, ◌%◌, Bool, true, false, ◌&&◌, ◌==◌, nat_lt, nat_le, if◌then◌else◌, List, [], ◌∷◌, ◌++◌, length, replicate, slice_index_or, slice_set, Option, Some, None, option_and_then}
 use Rattle.std.specs.List.{position_or_len}
+use Rattle.cet_words.specs.Layout.{first_region_end, first_region_start}
 use Rattle.cet_words.specs.Change.{Change, Called, Returned, Raised, Acquired, Released, Claimed, Seeded, Born, Pushed, Popped, Ended, Busied, Freed}
 
 pub data Entry : Type 0 where
@@ -241,6 +242,6 @@ books_after t b (c ∷ cs) = option_and_then (λ next. books_after t next cs) (b
 -- the book at the start: thread 0 on a region of eight pages
 abbrev pub first_book : Book
 first_book = record {
-  regions = record { start = 0x200001000; end = 0x200009000; entries = []; holder = Current 0 } ∷ [];
+  regions = record { start = first_region_start; end = first_region_end; entries = []; holder = Current 0 } ∷ [];
   stacks = None ∷ None ∷ None ∷ None ∷ None ∷ None ∷ None ∷ None ∷ [];
 }

@@ -1,11 +1,12 @@
 -- The words that a shadow stack has in memory. Source: Intel SDM volume 1, chapter on CET (return addresses and
 -- previous-SSP tokens); a signal's frame is that of Linux, Documentation/arch/x86/shstk.rst (bit 63 and an address).
 use Rattle.std.specs.Prelude.{ℕ, ◌+◌, ◌-◌, ◌/◌, ◌^◌, List, [], ◌∷◌, slice_index}
+use Rattle.cet_words.specs.Layout.{first_shadow_word, shadow_start}
 use Rattle.cet_book.specs.Book.{Entry, Call, Restorer, Frame, Previous, Blank, Book, region, top}
 
 -- the number of the word at an address of the shadow area
 abbrev pub slot : (addr : ℕ) → ℕ
-slot addr = 1081344 + (addr - 0x200000000) / 8
+slot addr = first_shadow_word + (addr - shadow_start) / 8
 
 abbrev pub slot_word : (words : List ℕ) → (addr : ℕ) → ℕ
 slot_word words addr = slice_index words (slot addr)

@@ -1,15 +1,19 @@
 //! The gate into the kernel, the services exit and exit_group, and the kill.
 
 ghost use Rattle.std.specs.Prelude.{◌≡◌, ◌+◌, ◌-◌, ◌*◌, ◌%◌, ◌^◌, ◌<◌, ◌≤◌, [], ◌∷◌};
+ghost use Rattle.cet_words.specs.Layout.{token, token_page, token_word};
 ghost use Rattle.cet_words.specs.Change.{Ended};
 ghost use Rattle.cet_page.specs.Script.{play};
 ghost use Rattle.cet_page.specs.Plays.{Comes};
 ghost use Rattle.cet_page.specs.Finish.{IsMade, counted};
-ghost use Rattle.cet_page.specs.Gate.{token, token_page, token_word, stack_of, gate_in, gate_out, found_busy, sys_record, served, clears, made_page, exit_status, exit, exit_group, no_call, service, syscall, signal_of, killed, kill, deliver};
+ghost use Rattle.cet_page.specs.Gate.{stack_of, gate_in, gate_out, found_busy, sys_record, served, clears, made_page, exit_status, exit, exit_group, no_call, service, syscall, signal_of, killed, kill, deliver};
 
 use cet_isa::{Arch, Fault, FaultName, Record, What};
 use cet_page::{Cursor, Finish, Stop};
-use cet_words::Job;
+use cet_words::{
+    EXIT_WORD, FIRST_ENTRY_WORD, FIRST_SHADOW_PAGE, Job, KERNEL_RETURN, SHADOW_START, action_word,
+    token, token_page, token_word,
+};
 
 const RAX: usize = 0;
 
@@ -18,21 +22,6 @@ const RCX: usize = 1;
 const RDI: usize = 7;
 
 const R11: usize = 11;
-
-/// The word that tells whether the process has ended.
-pub const EXIT_WORD: u32 = 1_605_632;
-
-/// The first of 32 words of pending signals, one for each thread.
-pub const FIRST_PEND_WORD: u32 = 1_605_664;
-
-/// The word of the handler of signal 0, if there were one; four words for each signal.
-const FIRST_HANDLER_WORD: u32 = 1_605_696;
-
-/// The word of page 0's entry.
-const FIRST_ENTRY_WORD: u32 = 1_614_848;
-
-/// What the kernel's entry leaves below a held token.
-const KERNEL_RETURN: u64 = 0xffff_8000_0010_0000;
 
 /// The number of the service exit.
 const EXIT: u64 = 60;
@@ -51,29 +40,13 @@ pub fn stack_of(job: &Job, arch: &Arch) -> u8
     arch.number % job.procs
 }
 
-/// The address of the token of supervisor stack k, which is the token itself when free.
-pub fn token(k: u8) -> u64
-    requires { k < 8 }
-    ensures { result ≡ token k }
-{
-    0xffff_8000_0000_2ff8 + 8192 * u64::from(k)
-}
-
-/// The number of the word of the token of supervisor stack k.
-pub fn token_word(k: u8) -> u32
-    requires { k < 8 }
-    ensures { result ≡ token_word k }
-{
-    1_607_167 + 1024 * u32::from(k)
-}
-
 /// The gate's way in. Where the supervisor stack is busy, the word found.
 #[tactic(auto, using(cet_page::proofs::ScriptLaws::play_bind, cet_page::proofs::PartLaws::play_exchange_as), unfolding(cet_page::specs::Gate::gate_in))]
 fn gate_in(k: u8, at: &mut Cursor) -> Result<Option<u64>, Stop>
     requires { k < 8 }
     ensures { Comes (play (gate_in k) at.old.left at.old.rest.now) result at.new.left at.new.rest.now }
 {
-    at.peek(3138 + 2 * u32::from(k))?;
+    at.peek(token_page(k))?;
     let free = token(k);
     let found = at.exchange(token_word(k), free, free + 1)?;
     if found != free {
@@ -161,7 +134,7 @@ fn exit(arch: &Arch, k: u8, at: &mut Cursor) -> Result<Finish, Stop>
     requires made { IsMade arch.now.made }
     ensures { Comes (play (exit arch.now k) at.old.left at.old.rest.now) result at.new.left at.new.rest.now }
 {
-    let page = 2112 + ((arch.made - 0x2_0000_0000) / 4096) as u32;
+    let page = FIRST_SHADOW_PAGE + ((arch.made - SHADOW_START) / 4096) as u32;
     at.stores(8, FIRST_ENTRY_WORD + page, 0, 0)?;
     gate_out(k, at)?;
     let status = exit_status(arch);
@@ -258,7 +231,7 @@ fn kill(arch: &Arch, signal: u8, k: u8, at: &mut Cursor) -> Result<Finish, Stop>
     requires count { arch.now.count < 2 ^ 32 - 1 }
     ensures { Comes (play (kill arch.now signal k) at.old.left at.old.rest.now) result at.new.left at.new.rest.now }
 {
-    at.load(FIRST_HANDLER_WORD + 4 * u32::from(signal))?;
+    at.load(action_word(signal))?;
     let before = at.exchange(EXIT_WORD, 0, 0x200 + u64::from(signal))?;
     gate_out(k, at)?;
     Ok(killed(arch, signal, before))

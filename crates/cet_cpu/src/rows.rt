@@ -9,13 +9,13 @@ ghost use Rattle.cet_page.specs.Row.{row, row_from, boundary, instruction, fetch
 ghost use Rattle.cet_cpu.specs.Code.{IsCode};
 
 use crate::fetches::{Code, code_at};
-use crate::gate::{EXIT_WORD, FIRST_PEND_WORD, deliver, syscall};
+use crate::gate::{deliver, syscall};
 use cet_decode::Decoded;
 use cet_isa::{Arch, Instr, is_canonical};
 use cet_page::{
     Cursor, Family, Finish, Stop, family_of, general_protection, invalid_opcode, missing,
 };
-use cet_words::Job;
+use cet_words::{EXIT_WORD, Job, pend_word};
 
 /// An instruction, with the address of the next one.
 #[tactic(auto, using(cet_page::proofs::ScriptLaws::play_bind))]
@@ -105,7 +105,7 @@ fn boundary(
     if ending != 0 {
         return Ok(Finish::Stopped);
     }
-    at.load(FIRST_PEND_WORD + u32::from(arch.number))?;
+    at.load(pend_word(arch.number))?;
     instruction(job, arch, code, at)
 }
 

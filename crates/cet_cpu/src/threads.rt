@@ -16,12 +16,12 @@ ghost use Rattle.cet_cpu.specs.Code.{IsCode};
 ghost use Rattle.cet_cpu.specs.Cpu.{CameTo, CpuData, IsCpu, IsNext, KeepsCode};
 
 use crate::fetches::{Code, code_at};
-use crate::gate::{stack_of, token, token_word};
+use crate::gate::stack_of;
 use crate::rows::row;
 use cet_decode::Decoded;
 use cet_isa::{Arch, End, Fault, Instr, Record, What};
 use cet_page::{Finish, Stop, Vals};
-use cet_words::{Access, Job};
+use cet_words::{Access, FIRST_REGION_END, FIRST_REGION_START, Job, token, token_word};
 use std::marker::Model;
 
 /// A guest thread between two of its accesses. Its records aren't kept here.
@@ -64,12 +64,12 @@ fn thread_at(entry: u64) -> Cpu
         regs: FIRST_REGS,
         rip: entry,
         flags: 2,
-        ssp: 0x2_0000_9000,
+        ssp: FIRST_REGION_END,
         mask: 0,
         count: 0,
         posted: 0,
         number: 0,
-        made: 0x2_0000_1000,
+        made: FIRST_REGION_START,
         due: None,
         held: None,
     };

@@ -11,6 +11,7 @@ use Rattle.std.proofs.lemmas.List.Kept.{AllPairs-cons, AllPairs-filter}
 use Rattle.std.proofs.lemmas.List.Folds.{Any-from_list_any, list_any_at}
 use Rattle.std.proofs.lemmas.List.FromFn.{get_or-map-range_with_len, length-map-range_with_len}
 use Rattle.std.specs.List.{AllByRecursion}
+use Rattle.cet_words.specs.Layout.{image_end, image_start}
 use Rattle.cet_words.specs.Job.{IsSegment, SharesNoPage, IsEntry, IsImage}
 use Rattle.cet_words.specs.declared.images.Segment.{Segment}
 use Rattle.cet_elf.specs.Headers.{header_at, headers_from, headers, xword, half, is_load, is_writable, is_executable}
@@ -49,7 +50,7 @@ filled n h e = (grind (arith, nat_tests), grind (arith, nat_tests))
 pub all_filled : (n : ℕ) (hs : List ProgramHeader) → load_breach (is_filled n) hs ≡ None → All (λ h. is_load h ≡ true → h.offset + h.file_size ≤ n) hs
 all_filled n hs e = let all = loads_hold (is_filled n) hs e in λ k d small load. (filled n (get_or hs k d) (all k d small load)).0
 
-placed : (h : ProgramHeader) → is_placed h ≡ true → (0x400000 ≤ h.address) × (h.address + h.memory_size ≤ 0x800000)
+placed : (h : ProgramHeader) → is_placed h ≡ true → (image_start ≤ h.address) × (h.address + h.memory_size ≤ image_end)
 placed h e = (grind (arith, nat_tests), grind (arith, nat_tests))
 
 guarded : (a b : Bool) → not (a && b) ≡ true → (a && b) ≡ false

@@ -3,7 +3,6 @@ pub mod HeaderLemmas
 pub mod ImageLemmas
 pub mod NoteLemmas
 pub mod RuleLemmas
-pub mod WriterLemmas
 pub mod WrittenHeaders
 pub mod WrittenImage
 pub mod WrittenLoads

@@ -4,10 +4,11 @@ use Rattle.std.specs.Int.{w32, to_le_bytes}
 use Rattle.std.proofs.Math.Seq.{drop-append-add}
 use Rattle.std.proofs.lemmas.Bool.{le-leb}
 use Rattle.std.proofs.lemmas.Nat.{from_le_bytes-to_le_bytes_4}
+use Rattle.cet_words.specs.Layout.{page_up}
 use Rattle.cet_elf.specs.Headers.{half, word, xword, header_at, headers_from, headers}
 use Rattle.cet_elf.specs.Notes.{feature, is_note, description, note_feature}
 use Rattle.cet_elf.specs.Rules.{magic_breach, class_breach}
-use Rattle.cet_elf.specs.Written.{text_address, rounded, file_header, text_header, data_header, note_header, property_note}
+use Rattle.cet_elf.specs.Written.{text_address, file_header, text_header, data_header, note_header, property_note}
 use Rattle.cet_elf.specs.declared.headers.ProgramHeader.{ProgramHeader}
 use Rattle.cet_elf.proofs.FieldLemmas.{field_here, half_here, word_here, xword_here, word_behind, header_behind}
 use Rattle.cet_elf.proofs.NoteLemmas.{found_here}
@@ -69,10 +70,10 @@ pub text_behind : (front back : List ℕ) (size : ℕ) → length front ≡ 64 �
 unfolding text_header
 text_behind front back size place small = header_behind front back 64 1 5 4096 text_address size 4096 place (lit< tt) (lit< tt) (lit< tt) (lit< tt) small
 
-pub data_behind : (front back : List ℕ) (text size : ℕ) → length front ≡ 120 → rounded text < 2 ^ 63 → size < 2 ^ 64 → header_at (front ++ (data_header text size ++ back)) 120 ≡ data_read (rounded text) size
+pub data_behind : (front back : List ℕ) (text size : ℕ) → length front ≡ 120 → page_up text < 2 ^ 63 → size < 2 ^ 64 → header_at (front ++ (data_header text size ++ back)) 120 ≡ data_read (page_up text) size
 unfolding data_header
 data_behind front back text size place room small =
-    header_behind front back 120 1 6 (4096 + rounded text) (text_address + rounded text) size 4096 place (lit< tt) (lit< tt) (omega arith) (omega arith) small
+    header_behind front back 120 1 6 (4096 + page_up text) (text_address + page_up text) size 4096 place (lit< tt) (lit< tt) (omega arith) (omega arith) small
 
 pub note_behind : (front back : List ℕ) (at : ℕ) → length front ≡ at → header_at (front ++ (note_header ++ back)) at ≡ note_read at
 unfolding note_header

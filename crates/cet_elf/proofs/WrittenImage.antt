@@ -3,11 +3,12 @@ use Rattle.std.proofs.Common.{◌≡◌, ℕ, ◌+◌, ◌-◌, true, false, eqb
 use Rattle.std.specs.Prelude.{slice_range}
 use Rattle.std.proofs.Math.Seq.{take-append_seam}
 use Rattle.std.proofs.lemmas.List.{append-nil}
+use Rattle.cet_words.specs.Layout.{page_up}
 use Rattle.cet_words.specs.declared.images.Segment.{Segment}
 use Rattle.cet_elf.specs.Headers.{headers, xword}
 use Rattle.cet_elf.specs.Notes.{has_stacks, has_tracking, features}
 use Rattle.cet_elf.specs.Accepts.{segments_of, image_from, image_of}
-use Rattle.cet_elf.specs.Written.{text_address, rounded, text_segment, program_image}
+use Rattle.cet_elf.specs.Written.{text_address, text_segment, program_image}
 use Rattle.cet_elf.specs.declared.headers.ProgramHeader.{ProgramHeader}
 use Rattle.cet_elf.proofs.FieldLemmas.{behind}
 use Rattle.cet_elf.proofs.WrittenHeaders.{text_read, data_read, note_read}
@@ -51,6 +52,6 @@ pub program_none : (text static_data : List ℕ) (entry mark : ℕ) → eqb (len
 unfolding program_image
 program_none text static_data entry mark e = rw e refl
 
-pub program_some : (text static_data : List ℕ) (entry mark : ℕ) → eqb (length static_data) 0 ≡ false → record { entry = entry; marked = has_stacks mark; tracked = has_tracking mark; segments = text_segment text ∷ record { start = text_address + rounded (length text); bytes = static_data; size = length static_data; write = true; exec = false } ∷ [] } ≡ program_image text static_data entry mark
+pub program_some : (text static_data : List ℕ) (entry mark : ℕ) → eqb (length static_data) 0 ≡ false → record { entry = entry; marked = has_stacks mark; tracked = has_tracking mark; segments = text_segment text ∷ record { start = text_address + page_up (length text); bytes = static_data; size = length static_data; write = true; exec = false } ∷ [] } ≡ program_image text static_data entry mark
 unfolding program_image
 program_some text static_data entry mark e = rw e refl

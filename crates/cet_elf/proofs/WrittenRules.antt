@@ -2,6 +2,7 @@
 use Rattle.std.proofs.Common.{◌≡◌, ℕ, zero, suc, ◌+◌, ◌-◌, ◌*◌, ◌/◌, ◌%◌, ◌<◌, ◌≤◌, Bool, true, false, not, ◌&&◌, eqb, ltb, leb, List, [], ◌∷◌, length, get_or, Option, Some, None, refl, ap, ◌∙◌, arith}
 use Rattle.std.specs.List.{list_any, AllByRecursion}
 use Rattle.std.proofs.lemmas.Bool.{le-leb, lt-ltb, eq-eqb, and_from}
+use Rattle.cet_words.specs.Layout.{image_end, image_start}
 use Rattle.cet_elf.specs.Headers.{half, word, xword, headers}
 use Rattle.cet_elf.specs.Notes.{has_stacks, note_feature, features_of, features}
 use Rattle.cet_elf.specs.Rules.{unless, table_breach, file_breaches, header_breaches, later_breaches, load_breach, is_filled, is_placed, is_aligned, is_guarded, is_apart, ends_before, shares_page, has_entry}
@@ -67,13 +68,13 @@ text_filled n s inside = and_from (leb (4096 + s) n) (leb s s) (le-leb (4096 + s
 data_filled : (n r d : ℕ) → 4096 + r + d ≤ n → is_filled n (data_read r d) ≡ true
 data_filled n r d inside = and_from (leb (4096 + r + d) n) (leb d d) (le-leb (4096 + r + d) n inside) (le-leb d d (omega arith))
 
-text_placed : (s : ℕ) → text_address + s ≤ 0x800000 → is_placed (text_read s) ≡ true
-text_placed s fits = le-leb (text_address + s) 0x800000 fits
+text_placed : (s : ℕ) → text_address + s ≤ image_end → is_placed (text_read s) ≡ true
+text_placed s fits = le-leb (text_address + s) image_end fits
 
-data_placed : (r d : ℕ) → text_address + r + d ≤ 0x800000 → is_placed (data_read r d) ≡ true
+data_placed : (r d : ℕ) → text_address + r + d ≤ image_end → is_placed (data_read r d) ≡ true
 data_placed r d fits =
-    and_from (leb 0x400000 (text_address + r)) (leb (text_address + r + d) 0x800000)
-    (le-leb 0x400000 (text_address + r) (omega arith)) (le-leb (text_address + r + d) 0x800000 fits)
+    and_from (leb image_start (text_address + r)) (leb (text_address + r + d) image_end)
+    (le-leb image_start (text_address + r) (omega arith)) (le-leb (text_address + r + d) image_end fits)
 
 data_aligned : (r d q : ℕ) → r ≡ 4096 * q → is_aligned (data_read r d) ≡ true
 data_aligned r d q e = eq-eqb ((4096 + r) % 4096) ((text_address + r) % 4096) (omega arith)
@@ -102,7 +103,7 @@ two_entered s r d place entry low high = rw (low, high) refl
 holds_at : (b : Bool) (at : ℕ) → b ≡ true → unless b at ≡ None
 holds_at b at e = rw e refl
 
-one_later : (bytes : List ℕ) (s place entry mark : ℕ) → xword bytes 24 ≡ entry → 4096 + s ≤ length bytes → text_address + s ≤ 0x800000 → text_address ≤ entry → entry < text_address + s → has_stacks mark ≡ true → AllByRecursion (λ (o : Option ℕ). o ≡ None) (header_breaches bytes mark (text_read s ∷ note_read place ∷ []))
+one_later : (bytes : List ℕ) (s place entry mark : ℕ) → xword bytes 24 ≡ entry → 4096 + s ≤ length bytes → text_address + s ≤ image_end → text_address ≤ entry → entry < text_address + s → has_stacks mark ≡ true → AllByRecursion (λ (o : Option ℕ). o ≡ None) (header_breaches bytes mark (text_read s ∷ note_read place ∷ []))
 unfolding header_breaches
 one_later bytes s place entry mark enter inside fits low high marked =
     let hs = text_read s ∷ note_read place ∷ [] in
@@ -130,7 +131,7 @@ one_later bytes s place entry mark enter inside fits low high marked =
       ),
     )
 
-two_later : (bytes : List ℕ) (s r d q place entry mark : ℕ) → xword bytes 24 ≡ entry → r ≡ 4096 * q → 1 ≤ s → s ≤ r → 4096 + r + d ≤ length bytes → text_address + r + d ≤ 0x800000 → text_address ≤ entry → entry < text_address + s → has_stacks mark ≡ true → AllByRecursion (λ (o : Option ℕ). o ≡ None) (header_breaches bytes mark (text_read s ∷ data_read r d ∷ note_read place ∷ []))
+two_later : (bytes : List ℕ) (s r d q place entry mark : ℕ) → xword bytes 24 ≡ entry → r ≡ 4096 * q → 1 ≤ s → s ≤ r → 4096 + r + d ≤ length bytes → text_address + r + d ≤ image_end → text_address ≤ entry → entry < text_address + s → has_stacks mark ≡ true → AllByRecursion (λ (o : Option ℕ). o ≡ None) (header_breaches bytes mark (text_read s ∷ data_read r d ∷ note_read place ∷ []))
 unfolding header_breaches
 two_later bytes s r d q place entry mark enter multiple some behind inside fits low high marked =
     let hs = text_read s ∷ data_read r d ∷ note_read place ∷ [] in
@@ -176,13 +177,13 @@ later_holds bytes hs mark table marked none k small =
     = ap (λ m. header_breaches bytes m (headers bytes)) (features_read bytes hs mark table marked) ∙ ap (header_breaches bytes mark) table in
     ap (λ (l : List (Option ℕ)). get_or l k None) same ∙ none_at (header_breaches bytes mark hs) none k
 
-pub one_accepted : (bytes : List ℕ) (s entry mark : ℕ) → Heads entry 2 bytes → headers bytes ≡ text_read s ∷ note_read 120 ∷ [] → note_feature bytes (note_read 120) ≡ Some mark → 4096 + s ≤ length bytes → text_address + s ≤ 0x800000 → text_address ≤ entry → entry < text_address + s → has_stacks mark ≡ true → Accepts bytes
+pub one_accepted : (bytes : List ℕ) (s entry mark : ℕ) → Heads entry 2 bytes → headers bytes ≡ text_read s ∷ note_read 120 ∷ [] → note_feature bytes (note_read 120) ≡ Some mark → 4096 + s ≤ length bytes → text_address + s ≤ image_end → text_address ≤ entry → entry < text_address + s → has_stacks mark ≡ true → Accepts bytes
 one_accepted bytes s entry mark h table note inside fits low high marked =
     all_hold bytes (file_holds bytes entry 2 h refl (omega arith))
     (later_holds bytes (text_read s ∷ note_read 120 ∷ []) mark table (one_features bytes s 120 mark note)
     (one_later bytes s 120 entry mark h.entered inside fits low high marked))
 
-pub two_accepted : (bytes : List ℕ) (s r d q entry mark : ℕ) → Heads entry 3 bytes → headers bytes ≡ text_read s ∷ data_read r d ∷ note_read 176 ∷ [] → note_feature bytes (note_read 176) ≡ Some mark → r ≡ 4096 * q → 1 ≤ s → s ≤ r → 4096 + r + d ≤ length bytes → text_address + r + d ≤ 0x800000 → text_address ≤ entry → entry < text_address + s → has_stacks mark ≡ true → Accepts bytes
+pub two_accepted : (bytes : List ℕ) (s r d q entry mark : ℕ) → Heads entry 3 bytes → headers bytes ≡ text_read s ∷ data_read r d ∷ note_read 176 ∷ [] → note_feature bytes (note_read 176) ≡ Some mark → r ≡ 4096 * q → 1 ≤ s → s ≤ r → 4096 + r + d ≤ length bytes → text_address + r + d ≤ image_end → text_address ≤ entry → entry < text_address + s → has_stacks mark ≡ true → Accepts bytes
 two_accepted bytes s r d q entry mark h table note multiple some behind inside fits low high marked =
     all_hold bytes (file_holds bytes entry 3 h refl (omega arith))
     (later_holds bytes (text_read s ∷ data_read r d ∷ note_read 176 ∷ []) mark table (two_features bytes s r d 176 mark note)

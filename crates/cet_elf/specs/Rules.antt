@@ -3,6 +3,7 @@
 use Rattle.std.specs.Prelude.{ℕ, ◌+◌, ◌-◌, ◌*◌, ◌/◌, ◌%◌, Bool, not, ◌==◌, ◌&&◌, nat_lt, nat_le, if◌then◌else◌, List, [], ◌∷◌, ◌++◌, length, find, slice_index, slice_index_or, Option, Some, None, option_map}
 use Rattle.std.specs.List.{list_any}
 use Rattle.std.specs.Option.{option_or}
+use Rattle.cet_words.specs.Layout.{image_end, image_start}
 use Rattle.cet_elf.specs.Headers.{half, word, xword, headers, is_load, is_writable, is_executable}
 use Rattle.cet_elf.specs.Notes.{has_stacks, features}
 use Rattle.cet_elf.specs.declared.headers.ProgramHeader.{ProgramHeader}
@@ -55,7 +56,7 @@ is_filled size h = nat_le (h.offset + h.file_size) size && nat_le h.file_size h.
 
 -- the segment lies in the image range
 abbrev pub is_placed : ProgramHeader → Bool
-is_placed h = nat_le 0x400000 h.address && nat_le (h.address + h.memory_size) 0x800000
+is_placed h = nat_le image_start h.address && nat_le (h.address + h.memory_size) image_end
 
 -- offset and address have one place in their pages
 abbrev pub is_aligned : ProgramHeader → Bool

@@ -4,6 +4,7 @@
 use Rattle.std.specs.Prelude.{ℕ, ◌≡◌, true, false, ◌+◌, ◌≤◌, ◌<◌, IsTrue, ◌-◌, ◌*◌, ◌/◌, ◌==◌, if◌then◌else◌, List, [], ◌∷◌, ◌++◌, length, replicate}
 use Rattle.std.specs.Int.{w16, w32, w64, to_le_bytes}
 use Rattle.cet_asm.specs.declared.program.Program.{Program}
+use Rattle.cet_words.specs.Layout.{page_up}
 use Rattle.cet_words.specs.Job.{ImageData}
 use Rattle.cet_words.specs.declared.images.Segment.{Segment}
 use Rattle.cet_elf.specs.Accepts.{Accepts, image_of}
@@ -18,16 +19,9 @@ field_bytes (Half value) = to_le_bytes w16 value
 field_bytes (Word value) = to_le_bytes w32 value
 field_bytes (Xword value) = to_le_bytes w64 value
 
-abbrev pub zeros : ℕ → List ℕ
-zeros count = replicate count 0
-
 -- the address of the text's first byte
 abbrev pub text_address : ℕ
 text_address = 0x401000
-
--- the next multiple of 4096
-abbrev pub rounded : ℕ → ℕ
-rounded size = 4096 * ((size + 4095) / 4096)
 
 -- Elf64_Ehdr of an executable for x86-64 with so many program headers
 unfoldable pub file_header : ℕ → ℕ → List ℕ
@@ -56,7 +50,7 @@ text_header size = program_header 1 5 4096 text_address size 4096
 
 -- PT_LOAD of data of this size, readable and writable, behind the pages of the text
 unfoldable pub data_header : ℕ → ℕ → List ℕ
-data_header text size = program_header 1 6 (4096 + rounded text) (text_address + rounded text) size 4096
+data_header text size = program_header 1 6 (4096 + page_up text) (text_address + page_up text) size 4096
 
 -- PT_GNU_PROPERTY of the note, readable
 unfoldable pub note_header : List ℕ
@@ -65,17 +59,17 @@ note_header = program_header 0x6474e553 4 232 0 32 8
 -- what stands before the note, for a text and for data of these sizes: there is no header for no data
 unfoldable pub front : ℕ → ℕ → ℕ → List ℕ
 front text data_size entry =
-    if data_size == 0 then file_header entry 2 ++ text_header text ++ note_header ++ zeros 56
+    if data_size == 0 then file_header entry 2 ++ text_header text ++ note_header ++ replicate 56 0
     else file_header entry 3 ++ text_header text ++ data_header text data_size ++ note_header
 
 -- what stands behind the text: the data at the next multiple of 4096, or nothing
 unfoldable pub data_part : ℕ → List ℕ → List ℕ
 data_part text static_data =
-    if length static_data == 0 then [] else zeros (rounded text - text) ++ static_data
+    if length static_data == 0 then [] else replicate (page_up text - text) 0 ++ static_data
 
 unfoldable pub written_of : List ℕ → List ℕ → ℕ → ℕ → List ℕ
 written_of text static_data entry mark =
-    front (length text) (length static_data) entry ++ property_note mark ++ zeros 3832 ++ text
+    front (length text) (length static_data) entry ++ property_note mark ++ replicate 3832 0 ++ text
     ++ data_part (length text) static_data
 
 -- the file of a program
@@ -89,14 +83,14 @@ pub record IsLoadable (text static_data : List ℕ) (entry mark : ℕ) : Type 0 
   pub low : text_address ≤ entry
   pub high : entry < text_address + length text
   pub marked : IsTrue (has_stacks mark)
-  pub fits : rounded (length text) + length static_data ≤ 4190208
+  pub fits : page_up (length text) + length static_data ≤ 4190208
 
 -- the segments of data of this size behind a text of that size: one, or none for no data
 abbrev pub data_segments : ℕ → List ℕ → List Segment
 data_segments text static_data =
     if length static_data == 0 then []
     else record {
-      start = text_address + rounded text;
+      start = text_address + page_up text;
       bytes = static_data;
       size = length static_data;
       write = true;

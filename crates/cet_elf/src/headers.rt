@@ -1,3 +1,5 @@
+//! The fields of a file, and its program headers.
+
 ghost use Rattle.std.specs.Prelude.{◌≡◌, ◌≤◌, ◌+◌, ◌*◌, length, IfOk, slice_index};
 ghost use Rattle.cet_elf.specs.Headers.{half, word, xword, header_at, headers_from, headers, is_load, is_writable, is_executable};
 

@@ -1,3 +1,5 @@
+//! The loader: the image of a file, or the first rule that it breaks.
+
 ghost use Rattle.std.specs.Prelude.{◌≡◌, ◌≤◌, ◌+◌, ◌++◌, ◌∷◌, [], true, length, IfOk, OnOk, All};
 ghost use Rattle.cet_words.specs.Job.{IsImage};
 ghost use Rattle.cet_elf.specs.Headers.{xword, headers, is_load};

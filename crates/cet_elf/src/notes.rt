@@ -1,3 +1,5 @@
+//! How a file is marked for shadow stacks and branch tracking: its program property note.
+
 ghost use Rattle.std.specs.Prelude.{◌≡◌, ◌≤◌, ◌+◌, ◌<◌, MatchOption, length, drop, find};
 ghost use Rattle.std.specs.Option.{option_copied};
 ghost use Rattle.cet_elf.specs.Headers.{word};

@@ -1,14 +1,12 @@
+//! The rules of a file that is loaded, and where a file breaks each of them.
+
 ghost use Rattle.std.specs.Prelude.{◌≡◌, ◌≤◌, ◌+◌, ◌*◌, not, nat_le};
 ghost use Rattle.std.specs.List.{list_any};
 ghost use Rattle.cet_elf.specs.Rules.{unless, wrong_byte, magic_breach, class_breach, table_breach, file_breaches, header_breach, is_interpreter, load_breach, is_filled, is_placed, is_aligned, is_guarded, ends_before, shares_page, precedes, is_apart, has_entry, header_breaches};
 
 use crate::headers::{ProgramHeader, byte, half, is_executable, is_load, is_writable, word, xword};
 use crate::notes::has_stacks;
-
-/// The first address of the image range, and the one past its end.
-const IMAGE_START: u64 = 0x400000;
-
-const IMAGE_END: u64 = 0x800000;
+use cet_words::{IMAGE_END, IMAGE_START};
 
 /// PT_INTERP, the type of a program header.
 const INTERPRETER: u32 = 3;

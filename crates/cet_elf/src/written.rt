@@ -1,10 +1,11 @@
+//! The writer of a program's file.
+
 ghost use Rattle.std.specs.Prelude.{◌≡◌, ◌++◌, ◌^◌, ◌<◌, OnOk, IfOk};
 ghost use Rattle.std.specs.List.{flat_map};
-ghost use Rattle.cet_elf.specs.Written.{field_bytes, zeros, rounded, file_header, program_header, property_note, text_header, data_header, note_header, front, data_part, written_of, written, IsLoadable, LoadsAs};
+ghost use Rattle.cet_elf.specs.Written.{field_bytes, file_header, program_header, property_note, text_header, data_header, note_header, front, data_part, written_of, written, IsLoadable, LoadsAs};
 
 use cet_asm::Program;
-use cet_base::put_bytes;
-use cet_words::{Bytes, NoMemory};
+use cet_words::{Bytes, NoMemory, page_up};
 use std::alloc::Global;
 
 /// Where the text stands in a written file.
@@ -30,9 +31,9 @@ fn put_field(alloc: Global, out: &mut Bytes, field: Field) -> Result<(), NoMemor
 {
     match field {
         Field::Byte(value) => out.push(alloc, value),
-        Field::Half(value) => put_bytes(alloc, out, &value.to_le_bytes()),
-        Field::Word(value) => put_bytes(alloc, out, &value.to_le_bytes()),
-        Field::Xword(value) => put_bytes(alloc, out, &value.to_le_bytes()),
+        Field::Half(value) => out.extend(alloc, &value.to_le_bytes()),
+        Field::Word(value) => out.extend(alloc, &value.to_le_bytes()),
+        Field::Xword(value) => out.extend(alloc, &value.to_le_bytes()),
     }
 }
 
@@ -117,14 +118,6 @@ fn put_text_header(alloc: Global, out: &mut Bytes, size: u64) -> Result<(), NoMe
     put_program_header(alloc, out, &header)
 }
 
-/// The next multiple of 4096.
-fn rounded(size: u64) -> u64
-    requires { size < 2 ^ 63 }
-    ensures { result ≡ rounded size }
-{
-    4096 * ((size + 4095) / 4096)
-}
-
 #[tactic(auto, unfolding(crate::specs::Written::data_header))]
 fn put_data_header(
     alloc: Global,
@@ -135,7 +128,7 @@ fn put_data_header(
     requires { text_size < 2 ^ 63 }
     ensures { OnOk result (out.new ≡ out.old ++ data_header text_size size) }
 {
-    let behind = rounded(text_size);
+    let behind = page_up(text_size);
     let header = Extent {
         kind: 1,
         flags: 6,
@@ -188,7 +181,7 @@ fn text_headers(alloc: Global, text_size: u64, entry: u64) -> Result<Bytes, NoMe
     put_file_header(alloc, &mut out, entry, 2)?;
     put_text_header(alloc, &mut out, text_size)?;
     put_note_header(alloc, &mut out)?;
-    put_bytes(alloc, &mut out, &[0; 56])?;
+    out.extend_with(alloc, 0, 56)?;
     Ok(out)
 }
 
@@ -224,15 +217,6 @@ fn headers(alloc: Global, text_size: u64, data_size: u64, entry: u64) -> Result<
     }
 }
 
-fn put_zeros(alloc: Global, out: &mut Bytes, count: u64) -> Result<(), NoMemory>
-    ensures { OnOk result (out.new ≡ out.old ++ zeros count) }
-{
-    for _index in 0..count {
-        out.push(alloc, 0)?;
-    }
-    Ok(())
-}
-
 /// Appends what stands behind a text of this size.
 #[tactic(auto, unfolding(crate::specs::Written::data_part))]
 fn put_data(
@@ -247,8 +231,9 @@ fn put_data(
     if static_data.is_empty() {
         return Ok(());
     }
-    put_zeros(alloc, out, rounded(text_size) - text_size)?;
-    put_bytes(alloc, out, static_data)
+    let gap = page_up(text_size) - text_size;
+    out.extend_with(alloc, 0, gap as usize)?;
+    out.extend(alloc, static_data)
 }
 
 #[tactic(auto, unfolding(crate::specs::Written::written_of))]
@@ -264,8 +249,8 @@ fn write_parts(
     let text_size = text.len() as u64;
     let mut out = headers(alloc, text_size, static_data.len() as u64, entry)?;
     put_property_note(alloc, &mut out, mark)?;
-    put_bytes(alloc, &mut out, &[0; 3832])?;
-    put_bytes(alloc, &mut out, text)?;
+    out.extend_with(alloc, 0, 3832)?;
+    out.extend(alloc, text)?;
     put_data(alloc, &mut out, text_size, static_data)?;
     Ok(out)
 }

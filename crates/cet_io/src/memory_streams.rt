@@ -1,3 +1,5 @@
+//! Sources and sinks in memory, some of which fail where they are told to.
+
 ghost use Rattle.std.specs.Prelude.{◌≡◌, ◌+◌, ◌<◌, ◌≤◌, List, [], ◌==◌, length, min, take, drop, IfOk, Some, None, OnErr, is_err};
 ghost use Rattle.std.specs.List.{list_any};
 ghost use Rattle.cet_io.specs.Stream.{HasCause, Reads, Writes, tallied};

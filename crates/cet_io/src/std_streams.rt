@@ -1,3 +1,5 @@
+//! A source over a reader of std and a sink over a writer of std.
+
 ghost use Rattle.std.specs.Prelude.{◌≡◌, ◌<◌, ◌≤◌, length, IfSome, None, Some, Ok};
 ghost use Rattle.cet_io.specs.Stream.{counted};
 

@@ -1,3 +1,5 @@
+//! What bytes are read from and written to.
+
 ghost use Rattle.std.specs.Prelude.{◌≡◌, ℕ, List, None, Option, length};
 ghost use Rattle.cet_io.specs.Stream.{HasCause, Reads, Tally, Writes, tallied};
 

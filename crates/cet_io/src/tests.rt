@@ -1,51 +1,28 @@
+//! Streams in memory on one path each, and those over std, of whose bytes no clause speaks.
+
 use super::*;
 use std::io;
 use std::test::Fail;
 
 #[test]
-fn sources_in_memory_are_read(rt: HostRuntime) -> Result<(), Fail> {
+fn streams_in_memory_fail_where_told(rt: HostRuntime) -> Result<(), Fail> {
     let alloc = rt.alloc();
     let mut buf = [0; 4];
-    let mut sure = SureSource::new(alloc, b"abcdef")?;
-    assert_eq!(rt; sure.read(&mut buf), Ok(4));
-    assert_eq!(rt; buf.as_slice(), b"abcd".as_slice());
-    assert_eq!(rt; sure.read(&mut buf), Ok(2));
-    assert_eq!(rt; buf.as_slice(), b"efcd".as_slice());
-    assert_eq!(rt; sure.read(&mut buf), Ok(0));
+    assert_eq!(rt; SureSource::new(alloc, b"abcdef")?.read(&mut buf), Ok(4));
+    assert_eq!(rt; SureSink::new().write(b"abc"), Ok(3));
 
-    // The second and the fourth call fail, and the others go on where the last one stopped.
-    let mut told = MemSource::new(alloc, b"abcdef", 3, &[2, 4])?;
-    assert_eq!(rt; told.read(&mut buf), Ok(3));
+    let mut source = MemSource::new(alloc, b"abcdef", 3, &[2])?;
+    assert_eq!(rt; source.read(&mut buf), Ok(3));
     assert_eq!(rt; buf.as_slice(), b"abcd".as_slice());
-    assert_eq!(rt; told.read(&mut buf), Err(Failed));
-    assert_eq!(rt; told.left(), b"def".as_slice());
-    assert_eq!(rt; told.read(&mut buf[..2]), Ok(2));
-    assert_eq!(rt; told.read(&mut buf), Err(Failed));
-    assert_eq!(rt; told.read(&mut buf), Ok(1));
-    assert_eq!(rt; buf.as_slice(), b"fecd".as_slice());
-    assert_eq!(rt; told.read(&mut buf), Ok(0));
-    assert_eq!(rt; told.faults(), 2);
-    Ok(())
-}
+    assert_eq!(rt; source.read(&mut buf), Err(Failed));
+    assert_eq!(rt; source.left(), b"def".as_slice());
+    assert_eq!(rt; source.faults(), 1);
 
-#[test]
-fn sinks_in_memory_are_written(rt: HostRuntime) -> Result<(), Fail> {
-    let alloc = rt.alloc();
     let mut sink = MemSink::new(alloc, 20, 10, &[2])?;
     assert_eq!(rt; sink.write(b"0123456789abcdef"), Ok(10));
     assert_eq!(rt; sink.write(b"abcdef"), Err(Failed));
     assert_eq!(rt; sink.bytes(), b"0123456789".as_slice());
     assert_eq!(rt; sink.faults(), 1);
-
-    // The room is full at the fifth call.
-    assert_eq!(rt; sink.write(b"abc"), Ok(3));
-    assert_eq!(rt; sink.write(b"defghijklm"), Ok(7));
-    assert_eq!(rt; sink.write(b"n"), Err(Failed));
-    assert_eq!(rt; sink.write(b""), Ok(0));
-    assert_eq!(rt; sink.bytes(), b"0123456789abcdefghij".as_slice());
-    assert_eq!(rt; sink.faults(), 2);
-
-    assert_eq!(rt; SureSink::new().write(b"abc"), Ok(3));
     Ok(())
 }
 

@@ -3,7 +3,7 @@ use Rattle.std.proofs.Common.{◌≡◌, ℕ, ◌+◌, ◌-◌, ◌/◌, ◌<◌
 use Rattle.std.specs.Prelude.{◌==◌, ℤ}
 use Rattle.std.specs.Int.{w64, cast_unsigned}
 use Rattle.cet_words.specs.Job.{JobData}
-use Rattle.cet_words.specs.Layout.{word_in}
+use Rattle.cet_words.specs.Layout.{word_in, first_shadow_page, shadow_start}
 use Rattle.cet_words.specs.Change.{Called}
 use Rattle.cet_words.specs.declared.accesses.Access.TheVariants as access
 use Rattle.cet_isa.specs.Address.{canonical}
@@ -112,7 +112,7 @@ module _ (job : JobData) (arch : Arch) where
       store_then job arch (EndsRow job arch) now2 now2 (word_in page (below (rsp arch) 8)) back _ (page_word page (below (rsp arch) 8) p) rest2.stacked (λ now3 r3.
       let rest3 = rest_kept r3 rest2 in
       let same = own_kept arch.number now2.book now3.book r3 rest2.stacked.top.has in
-      push_claim now3 now3 target (below (rsp arch) 8) (word_in (2112 + (below arch.ssp 8 - 0x200000000) / 4096) (below arch.ssp 8)) back rest3
+      push_claim now3 now3 target (below (rsp arch) 8) (word_in (first_shadow_page + (below arch.ssp 8 - shadow_start) / 4096) (below arch.ssp 8)) back rest3
       (shadow_slot (below arch.ssp 8) (omega arith) (omega arith) ∙ ap slot is) (rw same room) is_return free))))
 
   pub call_next_claim : (before s : State) (back : ℕ) → AtRest arch.number s.book arch.ssp → IsElsewhere job arch → Claim job arch (EndsRow job arch) before s (call_next arch back)

@@ -2,6 +2,7 @@
 use Rattle.std.proofs.Common.{◌≡◌, ◌≢◌, ℕ, ◌+◌, ◌<◌, inr, Bool, true, false, List, [], ◌∷◌, Option, Some, None, refl, sym, ◌∙◌, ap, subst, arith}
 use Rattle.std.specs.Prelude.{slice_index, slice_set, option_and_then, ◌==◌}
 use Rattle.std.proofs.lemmas.Bool.Decides.{nat_tests}
+use Rattle.cet_words.specs.Layout.{token, token_word}
 use Rattle.cet_words.specs.Access.{answer, after}
 use Rattle.cet_words.specs.Job.{ImageData}
 use Rattle.cet_words.specs.Change.{Change}
@@ -14,7 +15,6 @@ use Rattle.cet_book.proofs.Addresses.{ChangeReturns}
 use Rattle.cet_book.proofs.Kept.{book_kept}
 use Rattle.cet_book.specs.Stack.{slot, word_of, tops}
 use Rattle.cet_book.proofs.StackLaws.{Stack}
-use Rattle.cet_page.specs.Gate.{token, token_word}
 use Rattle.cet_own.proofs.Holds.{Sound, IsEntry, busy, Holds}
 use Rattle.cet_own.proofs.Kept.{size_kept, lists_out, pages_out, pages_same, gates_set, gates_same}
 use Rattle.cet_own.proofs.Classes.{HeadWord, Known}

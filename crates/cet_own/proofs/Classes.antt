@@ -1,7 +1,7 @@
 -- The classes of accesses: what is known of each answer, and what is owed to the book. Source: own.
 use Rattle.std.specs.Prelude.{◌≡◌, ◌≢◌, ℕ, ◌+◌, ◌-◌, ◌%◌, ◌<◌, ◌≤◌, List, [], ◌∷◌, length, Option, Some, option_map}
 use Rattle.cet_words.specs.Job.{JobData, ImageData}
-use Rattle.cet_words.specs.Layout.{entry_word}
+use Rattle.cet_words.specs.Layout.{entry_word, token, token_word, first_kernel_page, first_shadow_page}
 use Rattle.cet_words.specs.Change.{Change, Called, Returned, Ended, Busied, Freed}
 use Rattle.cet_words.specs.declared.accesses.Access.{Access}
 use Rattle.cet_words.specs.declared.accesses.Access.TheVariants as access
@@ -9,7 +9,6 @@ use Rattle.cet_book.specs.Book.{Entry, Current, Book, region, top, current_of, s
 use Rattle.cet_book.proofs.Addresses.{IsReturn}
 use Rattle.cet_book.proofs.Relies.{Relies, relies_same, relies_then}
 use Rattle.cet_book.specs.Stack.{slot, word_of, tops}
-use Rattle.cet_page.specs.Gate.{token, token_word}
 use Rattle.cet_own.proofs.Frame.{Rules}
 use Rattle.cet_own.proofs.Holds.{Sound, LiesIn, IsEntry, busy, IsOut}
 use Rattle.cet_own.proofs.Standing.{Free}
@@ -31,7 +30,7 @@ pub record Known (image : ImageData) (t : ℕ) (b : Book) (a : Access) (v : ℕ)
   pub sound : Sound b
   pub entry : (page : ℕ) → a ≡ access.Look page → IsEntry image page v
   -- a look that finds a page of the shadow area tells, for good, that the page lies in a region
-  pub look : (page : ℕ) → a ≡ access.Look page → 2112 ≤ page → page < 3136 → v ≢ 0 → (i : ℕ) × LiesIn (region b i) page
+  pub look : (page : ℕ) → a ≡ access.Look page → first_shadow_page ≤ page → page < first_kernel_page → v ≢ 0 → (i : ℕ) × LiesIn (region b i) page
   -- the word at the top is the newest entry's
   pub head : current_of t b < length b.regions → a ≡ access.Load (slot (top (region b (current_of t b)))) → HeadWord (tops b) (top (region b (current_of t b))) (region b (current_of t b)).entries v
   -- a token tells whether the supervisor stack has a holder
@@ -46,7 +45,7 @@ pub data Owed (t k : ℕ) (b : Book) (a : Access) (v : ℕ) (changes : List Chan
   swaps : (word value : ℕ) → a ≡ access.Swap word value → IsOut word → changes ≡ [] → Owed t k b a v changes
   adds : (word value : ℕ) → a ≡ access.FetchAdd word value → IsOut word → changes ≡ [] → Owed t k b a v changes
   -- the entry of a page of the shadow area is cleared
-  clears : (page : ℕ) → a ≡ access.Store (entry_word page) 0 → 2112 ≤ page → page < 3136 → changes ≡ [] → Owed t k b a v changes
+  clears : (page : ℕ) → a ≡ access.Store (entry_word page) 0 → first_shadow_page ≤ page → page < first_kernel_page → changes ≡ [] → Owed t k b a v changes
   -- a return address is stored below the top of the thread's region
   pushes : (m back : ℕ) → (region b m).holder ≡ Current t → a ≡ access.Store (slot (top (region b m) - 8)) back → (region b m).start + 8 ≤ top (region b m) → IsReturn back → changes ≡ Called back ∷ [] → Owed t k b a v changes
   -- the newest entry goes, where the book has that change

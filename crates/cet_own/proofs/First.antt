@@ -4,17 +4,17 @@ use Rattle.std.specs.Prelude.{slice_index, slice_get, nat_lt, ◌==◌}
 use Rattle.std.proofs.lemmas.Bool.{cases_lt, false≢true}
 use Rattle.std.proofs.lemmas.Bool.Decides.{nat_tests}
 use Rattle.std.proofs.lemmas.List.{get_or_past}
+use Rattle.cet_words.specs.Entries.{entry_of}
 use Rattle.cet_words.specs.Job.{JobData, IsJob, ImageData}
-use Rattle.cet_words.specs.Layout.{entry_word, entry_of}
+use Rattle.cet_words.specs.Layout.{entry_word, token, token_word, first_entry_word, first_kernel_page, first_kernel_word, first_mmap_page, first_region_end, first_shadow_page, first_stack_word, page_count}
 use Rattle.cet_words.specs.Start.{kernel_word, is_present, start_entry, start_word, IsStart}
 use Rattle.cet_book.specs.Book.{Current, region, top, current_of, stack_of, first_book}
 use Rattle.cet_book.proofs.Addresses.{first_returns}
 use Rattle.cet_book.proofs.Edits.{current_holds}
-use Rattle.cet_book.proofs.First.{first_empty, first_current, first_is_book}
+use Rattle.cet_book.proofs.First.{first_empty, first_current, first_is_book, no_stack}
 use Rattle.cet_book.specs.Stack.{tops}
 use Rattle.cet_book.proofs.StackLaws.{Stack}
 use Rattle.cet_page.specs.Core.{first_core, unheld}
-use Rattle.cet_page.specs.Gate.{token, token_word}
 use Rattle.cet_page.specs.Machine.{Machine, Thread, Starts}
 use Rattle.cet_page.proofs.WithinLaws.{first_waits}
 use Rattle.cet_own.proofs.Holds.{LiesIn, IsEntry, Pages, busy, Gates, Holds}
@@ -26,13 +26,13 @@ use Rattle.cet_own.proofs.Stands.{InRow, ThreadStands}
 -- ---- words
 
 -- an entry at the start, also past the last page
-first_entry : (image : ImageData) (words : List ℕ) (page : ℕ) → IsStart image words → page < 3154 → slice_index words (entry_word page) ≡ start_entry image page
+first_entry : (image : ImageData) (words : List ℕ) (page : ℕ) → IsStart image words → page < page_count → slice_index words (entry_word page) ≡ start_entry image page
 unfolding start_word
 first_entry image words page s l =
-    let n : 1614848 + page - 1614848 ≡ page = omega arith in
-    let a : nat_lt (1614848 + page) 524288 ≡ false = grind (arith, nat_tests) in
-    let b : nat_lt (1614848 + page) 1605632 ≡ false = grind (arith, nat_tests) in
-    let c : nat_lt (1614848 + page) 1614848 ≡ false = grind (arith, nat_tests) in
+    let n : entry_word page - first_entry_word ≡ page = omega arith in
+    let a : nat_lt (entry_word page) first_stack_word ≡ false = grind (arith, nat_tests) in
+    let b : nat_lt (entry_word page) first_kernel_word ≡ false = grind (arith, nat_tests) in
+    let c : nat_lt (entry_word page) first_entry_word ≡ false = grind (arith, nat_tests) in
     s.each (entry_word page) (omega arith) ∙ rw (a, b, c) (ap (start_entry image) n)
 
 is_entry : (image : ImageData) (page : ℕ) (c : Bool) → is_present page ≡ c → IsEntry image page (start_entry image page)
@@ -49,25 +49,25 @@ unfolding start_entry
 absent_is image page e = rw e refl
 
 -- a present page of the shadow area is one of the first region's
-shadow_present : (page : ℕ) (c : Bool) → is_present page ≡ c → 2112 ≤ page → page < 3136 → ((c ≡ true) → (2112 < page) × (page < 2121))
+shadow_present : (page : ℕ) (c : Bool) → is_present page ≡ c → first_shadow_page ≤ page → page < first_kernel_page → ((c ≡ true) → (first_shadow_page < page) × (page < first_shadow_page + 9))
 shadow_present page true e lo hi f = (grind (arith, nat_tests), grind (arith, nat_tests))
 shadow_present page false e lo hi f = absurd (false≢true f)
 
-first_lies : (image : ImageData) (words : List ℕ) (page : ℕ) → IsStart image words → 2112 ≤ page → page < 3136 → slice_index words (entry_word page) ≢ 0 → (c : Bool) → is_present page ≡ c → LiesIn (region first_book 0) page
+first_lies : (image : ImageData) (words : List ℕ) (page : ℕ) → IsStart image words → first_shadow_page ≤ page → page < first_kernel_page → slice_index words (entry_word page) ≢ 0 → (c : Bool) → is_present page ≡ c → LiesIn (region first_book 0) page
 first_lies image words page s lo hi n true e = let p = shadow_present page true e lo hi refl in let low = p.0 in let high = p.1 in record { low = omega arith; high = omega arith }
 first_lies image words page s lo hi n false e = absurd (n (first_entry image words page s (omega arith) ∙ absent_is image page e))
 
-fixed_present : (page : ℕ) → (page < 1088) ⊎ ((3136 ≤ page) × (page < 3154)) → is_present page ≡ true
+fixed_present : (page : ℕ) → (page < first_mmap_page) ⊎ ((first_kernel_page ≤ page) × (page < page_count)) → is_present page ≡ true
 fixed_present page (inl l) = grind (arith, nat_tests)
 fixed_present page (inr r) = let low = r.0 in grind (arith, nat_tests)
 
-fixed_below : (page : ℕ) → (page < 1088) ⊎ ((3136 ≤ page) × (page < 3154)) → page < 3154
+fixed_below : (page : ℕ) → (page < first_mmap_page) ⊎ ((first_kernel_page ≤ page) × (page < page_count)) → page < page_count
 fixed_below page (inl l) = omega arith
 fixed_below page (inr r) = r.1
 
 first_pages : (image : ImageData) (words : List ℕ) → IsStart image words → Pages image words first_book
 first_pages image words s = record {
-  entries = λ page. elim (cases_lt page 3154) [
+  entries = λ page. elim (cases_lt page page_count) [
     | inl l ↦ subst (IsEntry image page) (sym (first_entry image words page s l)) (is_entry image page (is_present page) refl)
     | inr g ↦ inl (let size = s.size in let past : length words ≤ entry_word page = omega arith in get_or_past words (entry_word page) 0 past)
   ];
@@ -85,24 +85,13 @@ token_start k l =
     let d : ((1535 + 1024 * k) % 1024 == 511) ≡ true = grind (arith, nat_tests) in
     rw (a, b, c, d) (omega arith)
 
-no_stack : (k : ℕ) → stack_of first_book k ≡ None
-no_stack zero = refl
-no_stack (suc zero) = refl
-no_stack (suc (suc zero)) = refl
-no_stack (suc (suc (suc zero))) = refl
-no_stack (suc (suc (suc (suc zero)))) = refl
-no_stack (suc (suc (suc (suc (suc zero))))) = refl
-no_stack (suc (suc (suc (suc (suc (suc zero)))))) = refl
-no_stack (suc (suc (suc (suc (suc (suc (suc zero))))))) = refl
-no_stack (suc (suc (suc (suc (suc (suc (suc (suc k)))))))) = refl
-
 first_gates : (image : ImageData) (words : List ℕ) → IsStart image words → Gates words first_book
 unfolding start_word
 first_gates image words s k l =
-    let a : nat_lt (1607167 + 1024 * k) 524288 ≡ false = grind (arith, nat_tests) in
-    let b : nat_lt (1607167 + 1024 * k) 1605632 ≡ false = grind (arith, nat_tests) in
-    let c : nat_lt (1607167 + 1024 * k) 1614848 ≡ true = grind (arith, nat_tests) in
-    let n : 1607167 + 1024 * k - 1605632 ≡ 1535 + 1024 * k = omega arith in
+    let a : nat_lt (token_word k) first_stack_word ≡ false = grind (arith, nat_tests) in
+    let b : nat_lt (token_word k) first_kernel_word ≡ false = grind (arith, nat_tests) in
+    let c : nat_lt (token_word k) first_entry_word ≡ true = grind (arith, nat_tests) in
+    let n : token_word k - first_kernel_word ≡ 1535 + 1024 * k = omega arith in
     let is : start_word image (token_word k) ≡ token k = rw (a, b, c) (ap kernel_word n ∙ token_start k l) in
     let none : busy (stack_of first_book k) ≡ 0 = ap busy (no_stack k) in
     s.each (token_word k) (omega arith) ∙ is ∙ omega arith
@@ -121,7 +110,7 @@ first_holds image words s = record {
 none_free : (t : ℕ) → Free t first_book
 none_free t k e = let n = no_stack k in cc
 
-first_rest : AtRest 0 first_book 0x200009000
+first_rest : AtRest 0 first_book first_region_end
 first_rest = record {
   stacked = record {
     top = record { has = (let e = first_current in omega arith); at = sym (ap (λ i. top (region first_book i)) first_current); aligned = refl };

@@ -3,6 +3,7 @@ use Rattle.std.proofs.Common.{◌≡◌, ℕ, ◌+◌, ◌-◌, ◌<◌, ◌≤�
 use Rattle.std.specs.Prelude.{option_map, option_and_then}
 use Rattle.std.proofs.lemmas.Bool.{cases_lt}
 use Rattle.std.proofs.lemmas.Bool.Decides.{eqb_tells, nat_tests}
+use Rattle.cet_words.specs.Layout.{token, token_page, token_word, kernel_return}
 use Rattle.cet_words.specs.Job.{JobData}
 use Rattle.cet_words.specs.Change.{Busied, Freed, Ended}
 use Rattle.cet_isa.specs.declared.threads.Arch.{Arch}
@@ -14,7 +15,7 @@ use Rattle.cet_book.proofs.Supervisor.{stack_of-put_stack, current_of-put_stack}
 use Rattle.cet_book.proofs.Ways.{busied_way, freed_way, ended_way}
 use Rattle.cet_page.specs.Script.{Script, ◌>>=◌}
 use Rattle.cet_page.specs.Parts.{exchange_as}
-use Rattle.cet_page.specs.Gate.{token, token_page, token_word, kernel_return, gate_in, gate_out}
+use Rattle.cet_page.specs.Gate.{gate_in, gate_out}
 use Rattle.cet_own.proofs.Holds.{IsOut, busy}
 use Rattle.cet_own.proofs.Standing.{Stacked, Free, AtRest, rest_kept, Inside, inside_kept, HasNone}
 use Rattle.cet_own.proofs.Held.{held_given}

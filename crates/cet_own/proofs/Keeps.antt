@@ -4,7 +4,7 @@ use Rattle.std.proofs.Common.{◌≡◌, ◌≢◌, ℕ, ◌+◌, ◌-◌, ◌%�
 use Rattle.std.specs.Prelude.{slice_index, slice_set, ◌==◌}
 use Rattle.cet_words.specs.Access.{answer, after}
 use Rattle.cet_words.specs.Job.{ImageData}
-use Rattle.cet_words.specs.Layout.{entry_word}
+use Rattle.cet_words.specs.Layout.{entry_word, token, token_word}
 use Rattle.cet_words.specs.Change.{Change, Called, Returned, Ended, Busied, Freed}
 use Rattle.cet_words.specs.declared.accesses.Access.{Access}
 use Rattle.cet_words.specs.declared.accesses.Access.TheVariants as access
@@ -16,7 +16,6 @@ use Rattle.cet_book.proofs.Kept.{NoneBorn, others_rely}
 use Rattle.cet_book.proofs.Relies.{Relies}
 use Rattle.cet_book.specs.Stack.{slot}
 use Rattle.cet_book.proofs.Ways.{with_current_at, called_way, ended_way, freed_way, busied_way}
-use Rattle.cet_page.specs.Gate.{token, token_word}
 use Rattle.cet_own.proofs.Holds.{Sound, busy, Holds}
 use Rattle.cet_own.proofs.Kept.{holds_out, holds_clear}
 use Rattle.cet_own.proofs.Own.{holds_push, holds_pop}

@@ -3,26 +3,25 @@ use Rattle.std.proofs.Common.{◌≡◌, ◌≢◌, ℕ, ◌+◌, ◌<◌, ◌�
 use Rattle.std.specs.Prelude.{slice_index, slice_set}
 use Rattle.std.proofs.lemmas.Bool.Decides.{eqb_tells}
 use Rattle.cet_words.specs.Job.{ImageData}
-use Rattle.cet_words.specs.Layout.{entry_word}
+use Rattle.cet_words.specs.Layout.{entry_word, token, token_word, first_entry_word, first_kernel_page, first_kernel_word, first_shadow_page, first_shadow_word, word_count}
 use Rattle.cet_book.specs.Book.{Book, region, top, stack_of, put_stack}
 use Rattle.cet_book.proofs.Shape.{Shape}
 use Rattle.cet_book.proofs.Edits.{SameBounds}
 use Rattle.cet_book.proofs.Supervisor.{stack_of-put_stack}
 use Rattle.cet_book.specs.Stack.{tops}
 use Rattle.cet_book.proofs.StackLaws.{Stack}
-use Rattle.cet_page.specs.Gate.{token, token_word}
 use Rattle.cet_own.proofs.Holds.{LiesIn, IsEntry, Pages, busy, Gates, Holds, IsOut}
 use Rattle.cet_own.proofs.Writes.{stack_agrees, top_even, list_out}
 
 -- the lists, where no word of the shadow area was written
-pub lists_out : (words : List ℕ) (b : Book) (w x : ℕ) → Shape b → (w < 1081344) ⊎ (1605632 ≤ w) → ((i : ℕ) → Stack words (tops b) (top (region b i)) (region b i).entries) → (i : ℕ) → Stack (slice_set words w x) (tops b) (top (region b i)) (region b i).entries
+pub lists_out : (words : List ℕ) (b : Book) (w x : ℕ) → Shape b → (w < first_shadow_word) ⊎ (first_kernel_word ≤ w) → ((i : ℕ) → Stack words (tops b) (top (region b i)) (region b i).entries) → (i : ℕ) → Stack (slice_set words w x) (tops b) (top (region b i)) (region b i).entries
 lists_out words b w x s out h i =
     let o = (s.fits i).room in
     stack_agrees words (slice_set words w x) (tops b) (tops b) (top (region b i)) (region b i).entries (top_even b i s)
     (λ a lo hi even. list_out words b w x i a s out lo (omega arith) even) (λ s n. refl) (h i)
 
 -- the pages, where no entry was written
-pub pages_out : (image : ImageData) (words : List ℕ) (b : Book) (w x : ℕ) → w < 1614848 → Pages image words b → Pages image (slice_set words w x) b
+pub pages_out : (image : ImageData) (words : List ℕ) (b : Book) (w x : ℕ) → w < first_entry_word → Pages image words b → Pages image (slice_set words w x) b
 pages_out image words b w x l h =
     let same : (page : ℕ) → slice_index (slice_set words w x) (entry_word page) ≡ slice_index words (entry_word page) = λ page. (let n : entry_word page ≢ w = omega arith in get_or-set_other words w (entry_word page) x 0 n) in
     record {
@@ -56,7 +55,7 @@ pub gates_same : (words : List ℕ) (b next : Book) → next.stacks ≡ b.stacks
 gates_same words b next e h k l = h k l ∙ ap (λ s. token k + busy (get_or s k None)) (sym e)
 
 -- a token becomes what the new holder asks
-pub gates_set : (words : List ℕ) (b : Book) (k x : ℕ) (o : Option ℕ) → length words ≡ 1618002 → length b.stacks ≡ 8 → k < 8 → x ≡ token k + busy o → Gates words b → Gates (slice_set words (token_word k) x) (put_stack b k o)
+pub gates_set : (words : List ℕ) (b : Book) (k x : ℕ) (o : Option ℕ) → length words ≡ word_count → length b.stacks ≡ 8 → k < 8 → x ≡ token k + busy o → Gates words b → Gates (slice_set words (token_word k) x) (put_stack b k o)
 gates_set words b k x o size eight l e h j lj =
     let within : k < length b.stacks = omega arith in
     let now = stack_of-put_stack b k j o within in
@@ -71,7 +70,7 @@ gates_set words b k x o size eight l e h j lj =
           get_or-set_other words (token_word k) (token_word j) x 0 other ∙ h j lj ∙ ap (λ q. token j + busy q) (sym (rw u.0 at now))
     ]
 
-pub size_kept : (words : List ℕ) (w x : ℕ) → length words ≡ 1618002 → length (slice_set words w x) ≡ 1618002
+pub size_kept : (words : List ℕ) (w x : ℕ) → length words ≡ word_count → length (slice_set words w x) ≡ word_count
 size_kept words w x e = length-set words w x ∙ e
 
 -- ---- accesses that change no book
@@ -85,7 +84,7 @@ holds_out image words b w x out h = record {
   gates = gates_out words b w x out.token h.gates;
 }
 
-pages_clear : (image : ImageData) (words : List ℕ) (b : Book) (page : ℕ) → length words ≡ 1618002 → 2112 ≤ page → page < 3136 → Pages image words b → Pages image (slice_set words (entry_word page) 0) b
+pages_clear : (image : ImageData) (words : List ℕ) (b : Book) (page : ℕ) → length words ≡ word_count → first_shadow_page ≤ page → page < first_kernel_page → Pages image words b → Pages image (slice_set words (entry_word page) 0) b
 pages_clear image words b page size lo hi h =
     let inside : entry_word page < length words = omega arith in
     let same : (p : ℕ) → p ≢ page → slice_index (slice_set words (entry_word page) 0) (entry_word p) ≡ slice_index words (entry_word p) = λ p n. (let other : entry_word p ≢ entry_word page = omega arith in get_or-set_other words (entry_word page) (entry_word p) 0 0 other) in
@@ -105,7 +104,7 @@ pages_clear image words b page size lo hi h =
     }
 
 -- the entry of a page of the shadow area is cleared
-pub holds_clear : (image : ImageData) (words : List ℕ) (b : Book) (page : ℕ) → 2112 ≤ page → page < 3136 → Holds image words b → Holds image (slice_set words (entry_word page) 0) b
+pub holds_clear : (image : ImageData) (words : List ℕ) (b : Book) (page : ℕ) → first_shadow_page ≤ page → page < first_kernel_page → Holds image words b → Holds image (slice_set words (entry_word page) 0) b
 holds_clear image words b page lo hi h = record {
   size = size_kept words (entry_word page) 0 h.size;
   sound = h.sound;

@@ -3,7 +3,7 @@ use Rattle.std.proofs.Common.{◌≡◌, ℕ, zero, suc, ◌+◌, ◌-◌, ◌/�
 use Rattle.std.specs.Prelude.{option_map, option_and_then, ◌==◌}
 use Rattle.std.proofs.lemmas.Bool.{eqb-true}
 use Rattle.cet_words.specs.Job.{JobData}
-use Rattle.cet_words.specs.Layout.{page_at, entry_word}
+use Rattle.cet_words.specs.Layout.{page_at, entry_word, first_kernel_page, first_shadow_page, shadow_end, shadow_start}
 use Rattle.cet_words.specs.Change.{Change}
 use Rattle.cet_words.specs.declared.accesses.Access.TheVariants as access
 use Rattle.cet_isa.specs.Address.{canonical}
@@ -77,17 +77,17 @@ module _ (job : JobData) (arch : Arch) where
   look_then Q before s w kd addr f rest h = claim_bind Q before s (look w kd addr) f (look_at Q before s (page_at addr) w kd addr f rest h)
 
   -- the look of a store passes on pages of image, main stack and mmap area alone
-  pub store_look_then : {A : Type 0} (Q : State → State → A → Type 0) (before s : State) (addr : ℕ) (f : ℕ → Script A) → AtRest arch.number s.book arch.ssp → ((now : State) → Relies arch.number s.book now.book → (page : ℕ) → page < 2112 → Claim job arch Q now now (f page)) → Claim job arch Q before s (look User kind.Store addr >>= f)
+  pub store_look_then : {A : Type 0} (Q : State → State → A → Type 0) (before s : State) (addr : ℕ) (f : ℕ → Script A) → AtRest arch.number s.book arch.ssp → ((now : State) → Relies arch.number s.book now.book → (page : ℕ) → page < first_shadow_page → Claim job arch Q now now (f page)) → Claim job arch Q before s (look User kind.Store addr >>= f)
   store_look_then Q before s addr f rest h =
       look_then Q before s User kind.Store addr f rest (λ now r page v at known a. h now r page (store_page job.image page v (known.entry page refl) a))
 
   -- a look at a shadow stack passes in regions alone
-  pub shadow_look_then : {A : Type 0} (Q : State → State → A → Type 0) (before s : State) (kd : Kind) (addr : ℕ) (f : ℕ → Script A) → 0x200000000 ≤ addr → addr < 0x200400000 → AtRest arch.number s.book arch.ssp → ((now : State) → (r : Relies arch.number s.book now.book) → (v : ℕ) → Known job.image arch.number now.book (access.Look (2112 + (addr - 0x200000000) / 4096)) v → (i : ℕ) → In (region now.book i) addr → Claim job arch Q now now (f (2112 + (addr - 0x200000000) / 4096))) → Claim job arch Q before s (look User kd addr >>= f)
+  pub shadow_look_then : {A : Type 0} (Q : State → State → A → Type 0) (before s : State) (kd : Kind) (addr : ℕ) (f : ℕ → Script A) → shadow_start ≤ addr → addr < shadow_end → AtRest arch.number s.book arch.ssp → ((now : State) → (r : Relies arch.number s.book now.book) → (v : ℕ) → Known job.image arch.number now.book (access.Look (first_shadow_page + (addr - shadow_start) / 4096)) v → (i : ℕ) → In (region now.book i) addr → Claim job arch Q now now (f (first_shadow_page + (addr - shadow_start) / 4096))) → Claim job arch Q before s (look User kd addr >>= f)
   shadow_look_then Q before s kd addr f low high rest h =
       look_then Q before s User kd addr f rest (λ now r page v at known a.
-      let is : 2112 + (addr - 0x200000000) / 4096 ≡ page = (let e = shadow_page addr low high in cc) in
+      let is : first_shadow_page + (addr - shadow_start) / 4096 ≡ page = (let e = shadow_page addr low high in cc) in
       let known' = subst (λ p. Known job.image arch.number now.book (access.Look p) v) (sym is) known in
-      let lies = known'.look (2112 + (addr - 0x200000000) / 4096) refl (omega arith) (omega arith) (entry_there kd v a) in
+      let lies = known'.look (first_shadow_page + (addr - shadow_start) / 4096) refl (omega arith) (omega arith) (entry_there kd v a) in
       subst (λ p. Claim job arch Q now now (f p)) is (h now r v known' lies.0 (in_page now.book lies.0 addr low high lies.1)))
 
   pub peek_then : {A : Type 0} (Q : State → State → A → Type 0) (before s : State) (page : ℕ) (f : ℕ → Script A) → Stacked arch.number s.book arch.ssp → ((now : State) → Relies arch.number s.book now.book → (v : ℕ) → Claim job arch Q now now (f v)) → Claim job arch Q before s (peek page >>= f)
@@ -120,7 +120,7 @@ module _ (job : JobData) (arch : Arch) where
       claim_bind Q before s (fetch_add word value) f (top, λ now r v known. (adds word value refl out refl, now, refl, h now r v))
 
   -- a thread in the kernel stores 0 to entries of pages of the shadow area
-  stores_claim : (k : ℕ) (Q : State → State → Unit {0} → Type 0) (before s : State) (count page word value : ℕ) → word ≡ entry_word page → value ≡ 0 → 2112 ≤ page → page + count ≤ 3136 → Inside arch.number k s.book arch.ssp → ((z n : State) → Inside arch.number k n.book arch.ssp → Q z n tt) → Claim job arch Q before s (stores count word value 0)
+  stores_claim : (k : ℕ) (Q : State → State → Unit {0} → Type 0) (before s : State) (count page word value : ℕ) → word ≡ entry_word page → value ≡ 0 → first_shadow_page ≤ page → page + count ≤ first_kernel_page → Inside arch.number k s.book arch.ssp → ((z n : State) → Inside arch.number k n.book arch.ssp → Q z n tt) → Claim job arch Q before s (stores count word value 0)
   unfolding stores
   stores_claim k Q before s zero page word value e z lo hi inside h = h before s inside
   stores_claim k Q before s (suc count) page word value e z lo hi inside h = (
@@ -134,5 +134,5 @@ module _ (job : JobData) (arch : Arch) where
   )
 
   -- so it clears these entries
-  pub clears_claim : (k : ℕ) (Q : State → State → Unit {0} → Type 0) (before s : State) (count page : ℕ) → 2112 ≤ page → page + count ≤ 3136 → Inside arch.number k s.book arch.ssp → ((z n : State) → Inside arch.number k n.book arch.ssp → Q z n tt) → Claim job arch Q before s (clears count page)
+  pub clears_claim : (k : ℕ) (Q : State → State → Unit {0} → Type 0) (before s : State) (count page : ℕ) → first_shadow_page ≤ page → page + count ≤ first_kernel_page → Inside arch.number k s.book arch.ssp → ((z n : State) → Inside arch.number k n.book arch.ssp → Q z n tt) → Claim job arch Q before s (clears count page)
   clears_claim k Q before s count page lo hi inside h = stores_claim k Q before s count page (entry_word page) 0 refl refl lo hi inside h

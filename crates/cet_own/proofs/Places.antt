@@ -5,8 +5,9 @@ use Rattle.std.specs.Int.Bits.{and_zero_r}
 use Rattle.std.proofs.lemmas.Nat.{and_block}
 use Rattle.std.proofs.lemmas.Bool.{cases_lt, false≢true}
 use Rattle.std.proofs.lemmas.Bool.Decides.{nat_tests}
+use Rattle.cet_words.specs.Entries.{entry_of, entry_with, no_execute}
 use Rattle.cet_words.specs.Job.{ImageData}
-use Rattle.cet_words.specs.Layout.{page_at, word_in, entry_of, entry_with, no_execute}
+use Rattle.cet_words.specs.Layout.{page_at, word_in, first_kernel_page, first_region_start, first_shadow_page, shadow_end, shadow_start}
 use Rattle.cet_book.specs.Book.{Book, region, top}
 use Rattle.cet_book.proofs.Shape.{Shape}
 use Rattle.cet_book.specs.Stack.{slot}
@@ -41,23 +42,23 @@ no_store page false true e = store_bits page 0x63 (lit< tt)
 no_store page false false true = store_bits page 0x61 (lit< tt)
 no_store page false false false = refl
 
-high_entry : (image : ImageData) (page : ℕ) → 2112 ≤ page → allows (entry_of image page) kind.Store User ≡ false
+high_entry : (image : ImageData) (page : ℕ) → first_shadow_page ≤ page → allows (entry_of image page) kind.Store User ≡ false
 unfolding entry_of
 high_entry image page l =
     let a : nat_lt page 1024 ≡ false = grind (arith, nat_tests) in
-    let b : nat_lt page 2112 ≡ false = grind (arith, nat_tests) in
-    rw (a, b) (no_store page (nat_lt page 3136) (page == 3136) (page % 2 == 0))
+    let b : nat_lt page first_shadow_page ≡ false = grind (arith, nat_tests) in
+    rw (a, b) (no_store page (nat_lt page first_kernel_page) (page == first_kernel_page) (page % 2 == 0))
 
 -- a page on which the user may store is one of image, main stack or mmap area
-pub store_page : (image : ImageData) (page v : ℕ) → IsEntry image page v → allows v kind.Store User ≡ true → page < 2112
+pub store_page : (image : ImageData) (page v : ℕ) → IsEntry image page v → allows v kind.Store User ≡ true → page < first_shadow_page
 store_page image page v (inl z) a = absurd (false≢true (sym (ap (λ n. allows n kind.Store User) z) ∙ a))
-store_page image page v (inr e) a = elim (cases_lt page 2112) [
+store_page image page v (inr e) a = elim (cases_lt page first_shadow_page) [
   | inl l ↦ l
   | inr g ↦ absurd (false≢true (sym (high_entry image page g) ∙ sym (ap (λ n. allows n kind.Store User) e) ∙ a))
 ]
 
 -- its words matter for no stack
-pub page_word : (page addr : ℕ) → page < 2112 → IsOut (word_in page addr)
+pub page_word : (page addr : ℕ) → page < first_shadow_page → IsOut (word_in page addr)
 page_word page addr l = record { shadow = inl (omega arith); entry = omega arith; token = λ k lk. omega arith }
 
 -- an entry that allows something is present
@@ -66,21 +67,21 @@ entry_there k v a z = let none : allows 0 k User ≡ false = refl in false≢tru
 
 -- ---- addresses of the shadow area
 
-pub shadow_page : (addr : ℕ) → 0x200000000 ≤ addr → addr < 0x200400000 → page_at addr ≡ Some (2112 + (addr - 0x200000000) / 4096)
+pub shadow_page : (addr : ℕ) → shadow_start ≤ addr → addr < shadow_end → page_at addr ≡ Some (first_shadow_page + (addr - shadow_start) / 4096)
 unfolding page_at
 shadow_page addr low high = grind (arith, nat_tests)
 
-pub shadow_slot : (addr : ℕ) → 0x200000000 ≤ addr → addr < 0x200400000 → word_in (2112 + (addr - 0x200000000) / 4096) addr ≡ slot addr
+pub shadow_slot : (addr : ℕ) → shadow_start ≤ addr → addr < shadow_end → word_in (first_shadow_page + (addr - shadow_start) / 4096) addr ≡ slot addr
 shadow_slot addr low high = omega arith
 
-pub below_is : (ssp : ℕ) → 0x200001000 ≤ ssp → ssp ≤ 0x2003ff000 → below ssp 8 ≡ ssp - 8
+pub below_is : (ssp : ℕ) → first_region_start ≤ ssp → ssp ≤ 0x2003ff000 → below ssp 8 ≡ ssp - 8
 below_is ssp low high = omega arith
 
 pub above_is : (ssp : ℕ) → ssp ≤ 0x2003ff000 → above ssp 8 ≡ ssp + 8
 above_is ssp high = omega arith
 
 -- an address of a page that lies in a region
-pub in_page : (b : Book) (i addr : ℕ) → 0x200000000 ≤ addr → addr < 0x200400000 → LiesIn (region b i) (2112 + (addr - 0x200000000) / 4096) → In (region b i) addr
+pub in_page : (b : Book) (i addr : ℕ) → shadow_start ≤ addr → addr < shadow_end → LiesIn (region b i) (first_shadow_page + (addr - shadow_start) / 4096) → In (region b i) addr
 in_page b i addr low high l =
     let lo = l.low in
     let hi = l.high in

@@ -1,5 +1,6 @@
 -- What the last book of a run is, and how words and thread fit it. Source: own.
 use Rattle.std.specs.Prelude.{◌≡◌, ℕ, ◌+◌, ◌*◌, ◌≤◌, List, [], ◌∷◌, length, Some}
+use Rattle.cet_words.specs.Layout.{first_region_end, first_region_start}
 use Rattle.cet_words.specs.Job.{JobData}
 use Rattle.cet_isa.specs.declared.threads.End.TheVariants as ending
 use Rattle.cet_book.specs.Book.{Current, Lost, Book, Region, top}
@@ -18,8 +19,8 @@ pub record LastBook (job : JobData) (start : Machine) (turns : List ℕ) : Type 
   pub last : book_of job start turns ≡ Some book
   pub only : book.regions ≡ region ∷ []
   pub alone : (run job start turns).threads ≡ thread ∷ []
-  pub low : region.start ≡ 0x200001000
-  pub high : region.end ≡ 0x200009000
+  pub low : region.start ≡ first_region_start
+  pub high : region.end ≡ first_region_end
   pub room : region.start + 8 * length region.entries ≤ region.end
   pub words : Stack (run job start turns).words (tops book) (top region) region.entries
   pub holder : KeepsStack thread.core.over → region.holder ≡ Current 0

@@ -1,6 +1,7 @@
 -- What the last book of a run is, for every list of turns. Source: own.
 use Rattle.std.proofs.Common.{◌≡◌, ℕ, ◌⊎◌, inl, inr, List, [], ◌∷◌, ◌++◌, length, Option, Some, None, refl, ◌∙◌, ap, subst, arith, get_or}
 use Rattle.std.specs.Prelude.{option_and_then, slice_get}
+use Rattle.cet_words.specs.Layout.{first_region_end, first_region_start}
 use Rattle.cet_words.specs.Job.{JobData, IsJob}
 use Rattle.cet_words.specs.Change.{Change}
 use Rattle.cet_isa.specs.declared.threads.End.{End}
@@ -31,8 +32,8 @@ book_turn t (c ∷ cs) rest b = book_then t c cs rest (book_after t b c) (λ n. 
 pub record One (m : Machine) (b : Book) : Type 0 where
   pub regions : length b.regions ≡ 1
   pub threads : length m.threads ≡ 1
-  pub start : (region b 0).start ≡ 0x200001000
-  pub end : (region b 0).end ≡ 0x200009000
+  pub start : (region b 0).start ≡ first_region_start
+  pub end : (region b 0).end ≡ first_region_end
   pub holder : ((region b 0).holder ≡ Current 0) ⊎ ((region b 0).holder ≡ Lost)
 
 pub record Last (job : JobData) (m : Machine) (s : State) (turns : List ℕ) : Type 0 where

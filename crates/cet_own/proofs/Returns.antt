@@ -6,7 +6,7 @@ use Rattle.std.proofs.lemmas.Bool.Decides.{nat_tests}
 use Rattle.cet_words.specs.Bytes.{code_byte}
 use Rattle.cet_words.proofs.ByteLaws.{code_place}
 use Rattle.cet_words.specs.Job.{JobData, IsJob}
-use Rattle.cet_words.specs.Layout.{word_in}
+use Rattle.cet_words.specs.Layout.{word_in, first_shadow_page, image_end, image_start, shadow_end, shadow_start}
 use Rattle.cet_words.specs.Change.{Returned}
 use Rattle.cet_words.specs.declared.accesses.Access.TheVariants as access
 use Rattle.cet_isa.specs.Address.{canonical}
@@ -34,7 +34,7 @@ use Rattle.cet_own.proofs.Calls.{entries_of, EndsRow, own_kept}
 
 -- ---- where it goes
 
-none_by : (job : JobData) (addr : ℕ) (o : Option ℕ) → IsJob job → (addr < 0x400000) ⊎ (0x800000 ≤ addr) → code_byte job.image.segments addr ≡ o → o ≡ None
+none_by : (job : JobData) (addr : ℕ) (o : Option ℕ) → IsJob job → (addr < image_start) ⊎ (image_end ≤ addr) → code_byte job.image.segments addr ≡ o → o ≡ None
 none_by job addr None j out e = refl
 none_by job addr (Some b) j out e =
     let place = code_place job.image.segments addr b j.image.each e in
@@ -43,10 +43,10 @@ none_by job addr (Some b) j out e =
     absurd (elim out [ inl l ↦ omega arith | inr g ↦ omega arith ])
 
 -- code lies in the image range alone
-no_code : (job : JobData) (addr : ℕ) → IsJob job → (addr < 0x400000) ⊎ (0x800000 ≤ addr) → code_byte job.image.segments addr ≡ None
+no_code : (job : JobData) (addr : ℕ) → IsJob job → (addr < image_start) ⊎ (image_end ≤ addr) → code_byte job.image.segments addr ≡ None
 no_code job addr j out = none_by job addr (code_byte job.image.segments addr) j out refl
 
-frame_apart : (a : ℕ) → a < 0x200400000 → canonical (2 ^ 63 + a + 8) ≡ false
+frame_apart : (a : ℕ) → a < shadow_end → canonical (2 ^ 63 + a + 8) ≡ false
 frame_apart a l = grind (arith, nat_tests)
 
 -- A canonical word of the newest entry goes right, and the book has the return.
@@ -55,7 +55,7 @@ pub record Returning (job : JobData) (m : ℕ) (b : Book) (l : List Entry) (v : 
   pub next : Book
   pub is : book_returned m l b ≡ Some next
 
-returning : (job : JobData) (m : ℕ) (b : Book) (f : ℕ → ℕ) (a v : ℕ) (l : List Entry) → IsJob job → a < 0x200400000 → 1 ≤ length l → ((s : ℕ) (es : List Entry) → l ≡ Previous s ∷ es → 0x800000 ≤ f s) → HeadWord f a l v → canonical v ≡ true → Returning job m b l v
+returning : (job : JobData) (m : ℕ) (b : Book) (f : ℕ → ℕ) (a v : ℕ) (l : List Entry) → IsJob job → a < shadow_end → 1 ≤ length l → ((s : ℕ) (es : List Entry) → l ≡ Previous s ∷ es → image_end ≤ f s) → HeadWord f a l v → canonical v ≡ true → Returning job m b l v
 returning job m b f a v [] j la some p w c = absurd (omega arith)
 returning job m b f a v (Call x ∷ es) j la some p w c = record { goes = w; next = relist m es b; is = refl }
 returning job m b f a v (Restorer x ∷ es) j la some p w c = record { goes = w; next = relist m es b; is = refl }
@@ -67,7 +67,7 @@ returning job m b f a v (Blank ∷ es) j la some p w c =
     record { goes = (c, no_code job v j (inl (omega arith))); next = relist m es b; is = refl }
 
 -- the top of a region that was left
-left_top : (t m s : ℕ) (es : List Entry) (b : Book) → Owned t m b → (region b m).entries ≡ Previous s ∷ es → 0x800000 ≤ tops b s
+left_top : (t m s : ℕ) (es : List Entry) (b : Book) → Owned t m b → (region b m).entries ≡ Previous s ∷ es → image_end ≤ tops b s
 left_top t m s es b o e =
     let l : Linked t m s es b = record { owned = o; entries = e } in
     let bounds = o.shape.bounds s (left_there l) in
@@ -128,4 +128,4 @@ module _ (job : JobData) (j : IsJob job) (arch : Arch) where
       let some = entry_at now2.book (current_of arch.number now2.book) i known2.sound.book.shape rest2.stacked.top.has (subst (In (region now2.book i)) at inn) in
       load_then job arch (EndsRow job arch) now2 now2 (word_in page (rsp arch)) _ rest2.stacked (λ now3 r3 word.
       let same = own_kept arch.number now2.book now3.book r3 rest2.stacked.top.has in
-      load_claim now3 now3 bytes (word_in (2112 + (arch.ssp - 0x200000000) / 4096) arch.ssp) word (shadow_slot arch.ssp (omega arith) (omega arith)) (rest_kept r3 rest2) (subst (λ (r : Region). 1 ≤ length r.entries) (sym same) some)))))
+      load_claim now3 now3 bytes (word_in (first_shadow_page + (arch.ssp - shadow_start) / 4096) arch.ssp) word (shadow_slot arch.ssp (omega arith) (omega arith)) (rest_kept r3 rest2) (subst (λ (r : Region). 1 ≤ length r.entries) (sym same) some)))))

@@ -5,7 +5,7 @@ use Rattle.std.proofs.Math.Nat.{mod-lt}
 use Rattle.cet_words.specs.Bytes.{code_byte}
 use Rattle.cet_words.proofs.ByteLaws.{code_place}
 use Rattle.cet_words.specs.Job.{JobData, IsJob}
-use Rattle.cet_words.specs.Layout.{page_at}
+use Rattle.cet_words.specs.Layout.{page_at, exit_word, pend_word, action_word, image_end, image_start}
 use Rattle.cet_isa.specs.Address.{canonical}
 use Rattle.cet_isa.specs.Reading.{Decoding, Read, Short, Unknown, decoded}
 use Rattle.cet_isa.proofs.ReadingLaws.{decoded_within}
@@ -21,7 +21,7 @@ use Rattle.cet_page.specs.Family.{family_of}
 use Rattle.cet_page.specs.Flow.{flow}
 use Rattle.cet_page.specs.declared.families.Family.{Family}
 use Rattle.cet_page.specs.declared.families.Family.TheVariants as families
-use Rattle.cet_page.specs.Gate.{exit_word, pend_word, handler_word, exit_status, made_page, clears, exit, exit_group, no_call, service, syscall, inside, signal_of, kill, deliver}
+use Rattle.cet_page.specs.Gate.{exit_status, made_page, clears, exit, exit_group, no_call, service, syscall, inside, signal_of, kill, deliver}
 use Rattle.cet_page.specs.Parts.{invalid_opcode}
 use Rattle.cet_page.specs.Row.{execute_family, fetched, instruction, instruction_bytes, boundary, row, row_from}
 use Rattle.cet_own.specs.Safe.{is_near_return, IsElsewhere, IsNearReturn}
@@ -37,12 +37,12 @@ use Rattle.cet_own.proofs.Steps.{push_claim, pop_claim, leave_claim, jump_indire
 -- ---- where instructions lie
 
 -- the bytes that can be fetched are code
-fetched_at : (job : JobData) (addr most n : ℕ) (o : Option ℕ) → IsJob job → code_byte job.image.segments addr ≡ o → n < length (joined o (fetchable job.image.segments (addr + 1) most)) → (n < length (fetchable job.image.segments (addr + 1) most) → (0x400000 ≤ addr + 1 + n) × (addr + 1 + n < 0x800000)) → ((m : ℕ) → n ≡ suc m → m < length (fetchable job.image.segments (addr + 1) most) → (0x400000 ≤ addr + 1 + m) × (addr + 1 + m < 0x800000)) → (0x400000 ≤ addr + n) × (addr + n < 0x800000)
+fetched_at : (job : JobData) (addr most n : ℕ) (o : Option ℕ) → IsJob job → code_byte job.image.segments addr ≡ o → n < length (joined o (fetchable job.image.segments (addr + 1) most)) → (n < length (fetchable job.image.segments (addr + 1) most) → (image_start ≤ addr + 1 + n) × (addr + 1 + n < image_end)) → ((m : ℕ) → n ≡ suc m → m < length (fetchable job.image.segments (addr + 1) most) → (image_start ≤ addr + 1 + m) × (addr + 1 + m < image_end)) → (image_start ≤ addr + n) × (addr + n < image_end)
 fetched_at job addr most n None j e l rest more = absurd (omega arith)
 fetched_at job addr most zero (Some b) j e l rest more = let p = code_place job.image.segments addr b j.image.each e in let lo = p.0 in let hi = p.1 in (omega arith, omega arith)
 fetched_at job addr most (suc m) (Some b) j e l rest more = let p = more m refl (omega arith) in let lo = p.0 in let hi = p.1 in (omega arith, omega arith)
 
-fetchable_place : (job : JobData) (addr most n : ℕ) → IsJob job → n < length (fetchable job.image.segments addr most) → (0x400000 ≤ addr + n) × (addr + n < 0x800000)
+fetchable_place : (job : JobData) (addr most n : ℕ) → IsJob job → n < length (fetchable job.image.segments addr most) → (image_start ≤ addr + n) × (addr + n < image_end)
 unfolding fetchable
 fetchable_place job addr zero n j l = absurd (omega arith)
 fetchable_place job addr (suc most) n j l =
@@ -73,7 +73,7 @@ returns_flow instr.Ret r = refl
 returns_flow (instr.RetImm bytes) r = refl
 returns_flow i r = cc
 
-exit_out : IsOut 1605632
+exit_out : IsOut exit_word
 exit_out = record { shadow = inr (omega arith); entry = omega arith; token = λ k l. omega arith }
 
 module _ (job : JobData) (j : IsJob job) (arch : Arch) where
@@ -121,7 +121,7 @@ module _ (job : JobData) (j : IsJob job) (arch : Arch) where
   kill_claim : (before s : State) (signal : ℕ) → Inside arch.number (own_stack job arch.number) s.book arch.ssp → Claim job arch (Ends job arch) before s (kill arch signal (own_stack job arch.number))
   unfolding kill
   kill_claim before s signal within =
-      load_then job arch (Ends job arch) before s (handler_word signal) _ within.stacked (λ now r v.
+      load_then job arch (Ends job arch) before s (action_word signal) _ within.stacked (λ now r v.
       let within1 = inside_kept r within in
       exchange_then job arch (Ends job arch) now now exit_word 0 (0x200 + signal) _ exit_out within1.stacked (λ now2 r2 found.
       gate_out_then job arch (stack_below job arch.number j) (Ends job arch) now2 now2 _ (inside_kept r2 within1) (λ z n rest. (rest, λ held later. tt))))

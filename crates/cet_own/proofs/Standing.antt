@@ -1,5 +1,6 @@
 -- Where a thread stands on its shadow stack, and that other threads leave it there. Source: own.
 use Rattle.std.proofs.Common.{◌≡◌, ◌≢◌, ℕ, ◌≤◌, length, Some, arith}
+use Rattle.cet_words.specs.Layout.{first_region_start}
 use Rattle.cet_book.specs.Book.{Book, current_of, stack_of}
 use Rattle.cet_book.proofs.Shape.{Shape}
 use Rattle.cet_book.proofs.Relies.{Relies}
@@ -8,7 +9,7 @@ use Rattle.cet_book.proofs.Top.{AtTop, top_relies}
 -- SSP is at the top of the thread's region, within the shadow area
 pub record Stacked (t : ℕ) (b : Book) (ssp : ℕ) : Type 0 where
   pub top : AtTop t b ssp
-  pub low : 0x200001000 ≤ ssp
+  pub low : first_region_start ≤ ssp
   pub high : ssp ≤ 0x2003ff000
 
 -- the thread holds no supervisor stack

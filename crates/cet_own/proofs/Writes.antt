@@ -4,6 +4,7 @@ use Rattle.std.specs.Prelude.{slice_set}
 use Rattle.std.proofs.lemmas.Bool.{cases_lt}
 use Rattle.std.proofs.lemmas.Bool.Decides.{nat_tests}
 use Rattle.std.proofs.lemmas.List.{get_or_past}
+use Rattle.cet_words.specs.Layout.{first_kernel_word, first_shadow_word, shadow_end, shadow_start, word_count}
 use Rattle.cet_book.specs.Book.{Entry, Call, Restorer, Frame, Previous, Blank, Book, Region, nowhere, region, top}
 use Rattle.cet_book.proofs.Shape.{is_previous, one, links, Shape}
 use Rattle.cet_book.specs.Stack.{slot, slot_word, tops, word_of}
@@ -62,8 +63,8 @@ list_kept words words' b next m i shape none same w h =
 
 -- an address of the shadow area that is a multiple of 8
 pub record Place (a : ℕ) : Type 0 where
-  pub low : 0x200000000 ≤ a
-  pub high : a < 0x200400000
+  pub low : shadow_start ≤ a
+  pub high : a < shadow_end
   pub even : a % 8 ≡ 0
 
 pub in_place : (b : Book) (i a : ℕ) → Shape b → In (region b i) a → a % 8 ≡ 0 → Place a
@@ -75,7 +76,7 @@ in_place b i a s x even =
     let xh = x.high in
     record { low = omega arith; high = omega arith; even = even }
 
-pub slot_same : (words : List ℕ) (p x : ℕ) → length words ≡ 1618002 → Place p → slot_word (slice_set words (slot p) x) p ≡ x
+pub slot_same : (words : List ℕ) (p x : ℕ) → length words ≡ word_count → Place p → slot_word (slice_set words (slot p) x) p ≡ x
 slot_same words p x size pp =
     let low = pp.low in
     let high = pp.high in
@@ -92,7 +93,7 @@ slot_other words p a x pp pa n =
     get_or-set_other words (slot p) (slot a) x 0 other
 
 -- a write elsewhere
-pub slot_out : (words : List ℕ) (w a x : ℕ) → (w < 1081344) ⊎ (1605632 ≤ w) → Place a → slot_word (slice_set words w x) a ≡ slot_word words a
+pub slot_out : (words : List ℕ) (w a x : ℕ) → (w < first_shadow_word) ⊎ (first_kernel_word ≤ w) → Place a → slot_word (slice_set words w x) a ≡ slot_word words a
 slot_out words w a x out pa =
     let al = pa.low in
     let ah = pa.high in
@@ -107,7 +108,7 @@ list_free words b p x k i a s pp ip free lo hi even =
     let n : a ≢ p = λ u. (let q : i ≡ k = in_one b i k p s (subst (In (region b i)) u inn) ip in let lo' : top (region b k) ≤ a = subst (λ n. top (region b n) ≤ a) q lo in omega arith) in
     slot_other words p a x pp (in_place b i a s inn even) n
 
-pub list_out : (words : List ℕ) (b : Book) (w x i a : ℕ) → Shape b → (w < 1081344) ⊎ (1605632 ≤ w) → top (region b i) ≤ a → a < (region b i).end → a % 8 ≡ 0 → slot_word (slice_set words w x) a ≡ slot_word words a
+pub list_out : (words : List ℕ) (b : Book) (w x i a : ℕ) → Shape b → (w < first_shadow_word) ⊎ (first_kernel_word ≤ w) → top (region b i) ≤ a → a < (region b i).end → a % 8 ≡ 0 → slot_word (slice_set words w x) a ≡ slot_word words a
 list_out words b w x i a s out lo hi even =
     let o = (s.fits i).room in
     let inn : In (region b i) a = record { low = omega arith; high = hi } in

@@ -4,7 +4,7 @@ use Rattle.std.proofs.lemmas.Bool.Decides.{nat_tests}
 use Rattle.std.specs.Prelude.{◌≡◌, ◌≢◌, ℕ, ◌+◌, ◌-◌, ◌%◌, Bool, ◌==◌, ◌&&◌, List, [], ◌∷◌, ◌++◌, length, Option, Some, None, refl}
 use Rattle.std.specs.Int.{w64, cast_unsigned}
 use Rattle.cet_words.specs.Job.{JobData}
-use Rattle.cet_words.specs.Layout.{page_at, word_in, entry_word}
+use Rattle.cet_words.specs.Layout.{page_at, word_in, entry_word, exit_word, pend_word, action_word, token, token_page, token_word, kernel_return}
 use Rattle.cet_words.specs.Change.{Change, Busied, Freed, Ended, Called, Returned}
 use Rattle.cet_words.specs.declared.accesses.Access.{Access}
 use Rattle.cet_words.specs.declared.accesses.Access.TheVariants as access
@@ -31,7 +31,7 @@ use Rattle.cet_page.specs.Operands.{register, effective, byte_count, load_word, 
 use Rattle.cet_page.specs.declared.flags.Computed.{Computed}
 use Rattle.cet_page.specs.Arithmetic.{operated, alu, test, multiply, move, movzx, movsxd, cmov, xchg, lock_xadd, lock_cmpxchg, arithmetic}
 use Rattle.cet_page.specs.Flow.{call, call_next, call_indirect, returned_if, ret, push, pop, leave, rbp, jump_indirect, flow}
-use Rattle.cet_page.specs.Gate.{exit_word, pend_word, handler_word, token, token_page, token_word, kernel_return, stack_of, busied_if, gate_in, gate_out, inside, made_page, exit_status, exit, exit_group, no_call, service, syscall, signal_of, kill, deliver}
+use Rattle.cet_page.specs.Gate.{stack_of, busied_if, gate_in, gate_out, inside, made_page, exit_status, exit, exit_group, no_call, service, syscall, signal_of, kill, deliver}
 use Rattle.cet_page.specs.Fetch.{missing, missing_in}
 use Rattle.cet_page.specs.Family.{family_of}
 use Rattle.cet_page.specs.Row.{execute_family, fetched, instruction, instruction_bytes, boundary, row, row_from}
@@ -293,7 +293,7 @@ module _ (arch : Arch) where
   gated_kill : (signal k : ℕ) → Gated true k (kill arch signal k)
   unfolding kill exchange_as
   gated_kill signal k =
-      gated_bind true k _ _ (gated_load true k (handler_word signal)) (λ _.
+      gated_bind true k _ _ (gated_load true k (action_word signal)) (λ _.
       gated_bind true k (exchange exit_word 0 (0x200 + signal)) _ (λ v. (exit_held k 0 (0x200 + signal) v, tt)) (λ before.
       gated_bind true k _ _ (gated_gate_out [] k (λ held. refl)) (λ _. tt)))
 

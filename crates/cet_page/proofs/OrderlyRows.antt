@@ -3,7 +3,7 @@ use Rattle.std.proofs.Common.{true, false, cond, refl, arith}
 use Rattle.std.specs.Prelude.{◌≡◌, ℕ, ◌+◌, ◌-◌, ◌%◌, ◌≤◌, Bool, ◌||◌, ◌&&◌, ◌==◌, nat_le, List, [], ◌∷◌, ◌++◌, length, Option, Some, None, ℤ}
 use Rattle.std.specs.Int.{w64, cast_unsigned}
 use Rattle.cet_words.specs.Job.{JobData}
-use Rattle.cet_words.specs.Layout.{page_at}
+use Rattle.cet_words.specs.Layout.{page_at, token}
 use Rattle.cet_words.specs.declared.accesses.Access.{Access}
 use Rattle.cet_isa.specs.Address.{canonical}
 use Rattle.cet_isa.specs.Reading.{Decoding, Read, Short, Unknown, decoded}
@@ -35,7 +35,7 @@ use Rattle.cet_page.specs.Values.{limit, shifted_left, shifted_right, shifted_ar
 use Rattle.cet_page.specs.Operands.{register, assigned, settled}
 use Rattle.cet_page.specs.Arithmetic.{operated, alu, test, multiply, move, movzx, movsxd, cmov, xchg, lock_xadd, lock_cmpxchg, shift_count, arithmetic}
 use Rattle.cet_page.specs.Flow.{call, call_next, call_relative, call_to, call_indirect, ret, push, pop, leave, jump_indirect, flow}
-use Rattle.cet_page.specs.Gate.{gate_in, gate_out, clears, exit, exit_group, no_call, service, syscall, kill, deliver, stack_of, signal_of, token}
+use Rattle.cet_page.specs.Gate.{gate_in, gate_out, clears, exit, exit_group, no_call, service, syscall, kill, deliver, stack_of, signal_of}
 use Rattle.cet_page.specs.Fetch.{missing, missing_in}
 use Rattle.cet_page.specs.Row.{execute_family, fetched, instruction, instruction_bytes, boundary, row, row_from}
 use Rattle.cet_page.proofs.OrderlyLaws.{Orderly, Results, orderly_bind, orderly_cond, orderly_more, tested_then, look_then, peek_then, load_then, store_then, exchange_then, swap_then, fetch_add_then, load_at_then, write_place_then, store_at_then, read_operand_then}

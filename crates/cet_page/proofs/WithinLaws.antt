@@ -2,6 +2,7 @@
 use Rattle.std.proofs.lemmas.Bool.Decides.{nat_tests}
 use Rattle.std.proofs.Common.{add-one, true, false, arith, ◌∙◌, ap, sym, subst}
 use Rattle.std.specs.Prelude.{◌≡◌, ℕ, ◌+◌, ◌<◌, ◌≤◌, Bool, Option, Some, None, refl, ◌==◌, length, if◌then◌else◌}
+use Rattle.cet_words.specs.Layout.{first_region_start}
 use Rattle.cet_words.specs.declared.accesses.Access.{Access}
 use Rattle.cet_words.specs.Job.{JobData, IsJob}
 use Rattle.cet_isa.specs.declared.threads.Record.{Record}
@@ -20,7 +21,7 @@ use Rattle.cet_page.specs.declared.finishes.Finish.{Finish}
 use Rattle.cet_page.specs.declared.finishes.Finish.TheVariants.{Noted, Posted, Exited, Stopped}
 use Rattle.cet_page.specs.Within.{IsState, Waits, CoreAt, IsCore}
 
-first_made : IsMade 0x200001000
+first_made : IsMade first_region_start
 first_made = record { low = omega arith; high = omega arith; whole = refl }
 
 fresh_core : (job : JobData) (next : Arch) → job.limit ≤ 100000 → IsState next → next.count < job.limit → Waits job (record { arch = next; seen = nothing_seen; over = None })

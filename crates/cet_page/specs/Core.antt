@@ -1,5 +1,6 @@
 -- A thread without its trace, and what one access does to it. Source: own: this is the atomic step of the machine.
 use Rattle.std.specs.Prelude.{ℕ, ◌+◌, List, [], ◌∷◌, Option, Some, None, ◌==◌, if◌then◌else◌, slice_index, slice_set}
+use Rattle.cet_words.specs.Layout.{first_region_end, first_region_start}
 use Rattle.cet_words.specs.Job.{JobData}
 use Rattle.cet_words.specs.declared.accesses.Access.{Access}
 use Rattle.cet_isa.specs.declared.threads.Fault.{Fault}
@@ -39,12 +40,12 @@ core_at entry = record {
     regs = first_regs;
     rip = entry;
     flags = 2;
-    ssp = 0x200009000;
+    ssp = first_region_end;
     mask = 0;
     count = 0;
     posted = 0;
     number = 0;
-    made = 0x200001000;
+    made = first_region_start;
     due = None;
     held = None;
   };

@@ -1,7 +1,7 @@
 -- The gate into the kernel, its services, and the kill. Source: Intel SDM volume 1 (supervisor shadow-stack tokens,
 -- SETSSBSY and CLRSSBSY) for the token; Linux for the calls' numbers and errors; the fixed order is own.
 use Rattle.std.specs.Prelude.{ℕ, ◌+◌, ◌-◌, ◌*◌, ◌/◌, ◌%◌, ◌^◌, List, [], ◌∷◌, ◌++◌, Option, Some, None, ◌==◌, if◌then◌else◌, slice_set}
-use Rattle.cet_words.specs.Layout.{entry_word}
+use Rattle.cet_words.specs.Layout.{entry_word, first_shadow_page, shadow_start, exit_word, action_word, token, token_page, token_word, kernel_return}
 use Rattle.cet_words.specs.Job.{JobData}
 use Rattle.cet_isa.specs.declared.threads.Fault.{Fault}
 use Rattle.cet_isa.specs.declared.threads.FaultName.{FaultName}
@@ -16,33 +16,7 @@ use Rattle.cet_page.specs.Finish.{rax, rdi, counted}
 use Rattle.cet_page.specs.declared.finishes.Finish.{Finish}
 use Rattle.cet_page.specs.declared.finishes.Finish.TheVariants as finish
 
--- ---- the kernel's words
-
-abbrev pub exit_word : ℕ
-exit_word = 1605632
-
-abbrev pub pend_word : (thread : ℕ) → ℕ
-pend_word thread = 1605664 + thread
-
--- the handler of a signal
-abbrev pub handler_word : (signal : ℕ) → ℕ
-handler_word signal = 1605696 + 4 * signal
-
--- ---- supervisor stack k, which is kernel page 2k + 2
-
--- the address of its token, which is the token when free; it is odd when busy
-abbrev pub token : (k : ℕ) → ℕ
-token k = 0xffff800000002ff8 + 8192 * k
-
-abbrev pub token_page : (k : ℕ) → ℕ
-token_page k = 3138 + 2 * k
-
-abbrev pub token_word : (k : ℕ) → ℕ
-token_word k = 1607167 + 1024 * k
-
--- what the kernel's entry leaves below a held token
-abbrev pub kernel_return : ℕ
-kernel_return = 0xffff800000100000
+-- ---- the gate
 
 -- the supervisor stack of a thread's processor
 abbrev pub stack_of : JobData → Arch → ℕ
@@ -99,7 +73,7 @@ clears count page = stores count (entry_word page) 0 0
 
 -- the first page of the shadow stack that the kernel made
 abbrev pub made_page : Arch → ℕ
-made_page arch = 2112 + (arch.made - 0x200000000) / 4096
+made_page arch = first_shadow_page + (arch.made - shadow_start) / 4096
 
 abbrev pub exit_status : Arch → ℕ
 exit_status arch = rdi arch % 256
@@ -156,7 +130,7 @@ killed arch signal before =
 -- masked, while handlers aren't built.
 unfoldable pub kill : Arch → (signal k : ℕ) → Script Finish
 kill arch signal k = do
-  _ ← load (handler_word signal)
+  _ ← load (action_word signal)
   before ← exchange exit_word 0 (0x200 + signal)
   _ ← gate_out [] k
   done (killed arch signal before)

@@ -2,6 +2,7 @@
 -- holds can be set without the changes that come with an access. Source: own.
 use Rattle.std.proofs.Common.{true, false}
 use Rattle.std.specs.Prelude.{ℕ, Bool, ◌==◌, Option, Some, None, if◌then◌else◌}
+use Rattle.cet_words.specs.Layout.{token, token_word}
 use Rattle.cet_words.specs.Job.{JobData}
 use Rattle.cet_words.specs.declared.accesses.Access.{Access}
 use Rattle.cet_words.specs.declared.accesses.Access.TheVariants as access
@@ -10,7 +11,6 @@ use Rattle.cet_isa.specs.declared.instructions.Instr.{Instr}
 use Rattle.cet_isa.specs.declared.instructions.Instr.TheVariants as instr
 use Rattle.cet_isa.specs.declared.threads.Arch.{Arch}
 use Rattle.cet_isa.specs.declared.threads.Fault.{Fault}
-use Rattle.cet_page.specs.Gate.{token, token_word}
 use Rattle.cet_page.specs.Row.{instruction_bytes}
 
 -- ---- rows that go through the gate: SYSCALL and the delivery of a due fault

@@ -1,6 +1,7 @@
 -- The row of a thread: what it does from a boundary, or from a due fault, to its next record. Source: Intel SDM volume 2
 -- for the instructions, own for the order. That `decoded` is exactly the table of spellings is what the contract of `decode` says.
 use Rattle.std.specs.Prelude.{ℕ, ◌+◌, List, length, Option, Some, None, ◌==◌, if◌then◌else◌}
+use Rattle.cet_words.specs.Layout.{exit_word, pend_word}
 use Rattle.cet_words.specs.Job.{JobData}
 use Rattle.cet_isa.specs.Address.{canonical}
 use Rattle.cet_isa.specs.Reading.{Decoding, Read, Short, Unknown, decoded}
@@ -15,7 +16,7 @@ use Rattle.cet_page.specs.Flow.{flow}
 use Rattle.cet_page.specs.Family.{family_of}
 use Rattle.cet_page.specs.declared.families.Family.{Family}
 use Rattle.cet_page.specs.declared.families.Family.TheVariants as families
-use Rattle.cet_page.specs.Gate.{exit_word, pend_word, syscall, deliver}
+use Rattle.cet_page.specs.Gate.{syscall, deliver}
 use Rattle.cet_page.specs.Fetch.{fetchable, missing}
 use Rattle.cet_page.specs.declared.finishes.Finish.{Finish}
 use Rattle.cet_page.specs.declared.finishes.Finish.TheVariants as finish

@@ -2,7 +2,7 @@
 
 ghost use Rattle.std.specs.Prelude.{◌≡◌, ◌+◌, ◌*◌, ◌/◌, ◌%◌, ◌^◌, ◌<◌, ◌≤◌, [], IfOk, Some};
 ghost use Rattle.cet_words.specs.Access.{InRange};
-ghost use Rattle.cet_words.specs.Layout.{word_in};
+ghost use Rattle.cet_words.specs.Layout.{word_in, page_count, word_count};
 ghost use Rattle.cet_page.specs.Script.{play, ask, tell, done, silent};
 ghost use Rattle.cet_page.specs.Plays.{Comes};
 ghost use Rattle.cet_page.specs.Parts.{general_protection, invalid_opcode, tested, look, look_in, peek, load, store, stores, exchange, swap, fetch_add, fetch_or, fetch_and};
@@ -51,9 +51,9 @@ pub fn invalid_opcode() -> Stop
 
 /// The number of the word that holds an address of a page.
 pub fn word_in(page: u32, addr: u64) -> u32
-    requires { page < 3154 }
+    requires { page < page_count }
     ensures value { result ≡ word_in page addr }
-    ensures range { result < 1618002 }
+    ensures range { result < word_count }
 {
     512 * page + (addr % 4096 / 8) as u32
 }
@@ -78,7 +78,7 @@ impl<'a> Cursor<'a> {
     /// A store.
     #[tactic(auto, unfolding(crate::specs::Parts::store_as))]
     pub fn store(&mut self, word: u32, value: u64) -> Result<(), Stop>
-        requires { word < 1618002 }
+        requires { word < word_count }
         ensures { Comes (play (store word value) self.old.left self.old.rest.now) result self.new.left self.new.rest.now }
     {
         if self.left == 0 {
@@ -91,7 +91,7 @@ impl<'a> Cursor<'a> {
     /// The load of a word.
     #[tactic(auto, unfolding(crate::specs::Parts::load_as))]
     pub fn load(&mut self, word: u32) -> Result<u64, Stop>
-        requires { word < 1618002 }
+        requires { word < word_count }
         ensures { Comes (play (load word) self.old.left self.old.rest.now) result self.new.left self.new.rest.now }
     {
         self.ask(Access::Load(word))
@@ -100,7 +100,7 @@ impl<'a> Cursor<'a> {
     /// A compare-and-exchange; the answer is the word found.
     #[tactic(auto, unfolding(crate::specs::Parts::exchange_as))]
     pub fn exchange(&mut self, word: u32, expected: u64, value: u64) -> Result<u64, Stop>
-        requires { word < 1618002 }
+        requires { word < word_count }
         ensures { Comes (play (exchange word expected value) self.old.left self.old.rest.now) result self.new.left self.new.rest.now }
     {
         self.ask(Access::CompareExchange(word, expected, value))
@@ -109,7 +109,7 @@ impl<'a> Cursor<'a> {
     /// The exchange of a word; the answer is the word found.
     #[tactic(auto, unfolding(crate::specs::Parts::swap))]
     pub fn swap(&mut self, word: u32, value: u64) -> Result<u64, Stop>
-        requires { word < 1618002 }
+        requires { word < word_count }
         ensures { Comes (play (swap word value) self.old.left self.old.rest.now) result self.new.left self.new.rest.now }
     {
         self.ask(Access::Swap(word, value))
@@ -118,7 +118,7 @@ impl<'a> Cursor<'a> {
     /// A fetch-and-add; the answer is the word found.
     #[tactic(auto, unfolding(crate::specs::Parts::fetch_add_as))]
     pub fn fetch_add(&mut self, word: u32, value: u64) -> Result<u64, Stop>
-        requires { word < 1618002 }
+        requires { word < word_count }
         ensures { Comes (play (fetch_add word value) self.old.left self.old.rest.now) result self.new.left self.new.rest.now }
     {
         self.ask(Access::FetchAdd(word, value))
@@ -127,7 +127,7 @@ impl<'a> Cursor<'a> {
     /// A fetch-and-or; the answer is the word found.
     #[tactic(auto, unfolding(crate::specs::Parts::fetch_or))]
     pub fn fetch_or(&mut self, word: u32, value: u64) -> Result<u64, Stop>
-        requires { word < 1618002 }
+        requires { word < word_count }
         ensures { Comes (play (fetch_or word value) self.old.left self.old.rest.now) result self.new.left self.new.rest.now }
     {
         self.ask(Access::FetchOr(word, value))
@@ -136,7 +136,7 @@ impl<'a> Cursor<'a> {
     /// A fetch-and-and; the answer is the word found.
     #[tactic(auto, unfolding(crate::specs::Parts::fetch_and))]
     pub fn fetch_and(&mut self, word: u32, value: u64) -> Result<u64, Stop>
-        requires { word < 1618002 }
+        requires { word < word_count }
         ensures { Comes (play (fetch_and word value) self.old.left self.old.rest.now) result self.new.left self.new.rest.now }
     {
         self.ask(Access::FetchAnd(word, value))
@@ -146,7 +146,7 @@ impl<'a> Cursor<'a> {
     /// before and the step. They are passed over at once.
     #[tactic(auto, using(crate::proofs::PartLaws::play_stores_over, crate::proofs::PartLaws::play_stores_wants))]
     pub fn stores(&mut self, count: u32, word: u32, value: u64, step: u64) -> Result<(), Stop>
-        requires words { word + count ≤ 1618002 }
+        requires words { word + count ≤ word_count }
         requires values { value + step * count < 2 ^ 64 }
         ensures { Comes (play (stores count word value step) self.old.left self.old.rest.now) result self.new.left self.new.rest.now }
     {
@@ -161,7 +161,7 @@ impl<'a> Cursor<'a> {
     /// The look at a page of which no test is made.
     #[tactic(auto, unfolding(crate::specs::Parts::peek))]
     pub fn peek(&mut self, page: u32) -> Result<u64, Stop>
-        requires { page < 3154 }
+        requires { page < page_count }
         ensures { Comes (play (peek page) self.old.left self.old.rest.now) result self.new.left self.new.rest.now }
     {
         self.ask(Access::Look(page))
@@ -191,7 +191,7 @@ impl<'a> Cursor<'a> {
     #[tactic(auto, unfolding(crate::specs::Parts::look, crate::specs::Parts::look_in))]
     pub fn look(&mut self, who: Who, kind: Kind, addr: u64) -> Result<u32, Stop>
         ensures comes { Comes (play (look who kind addr) self.old.left self.old.rest.now) result self.new.left self.new.rest.now }
-        ensures range { IfOk result (λ page. page < 3154) }
+        ensures range { IfOk result (λ page. page < page_count) }
     {
         let Some(page) = page_of(addr) else {
             return Err(Stop::Fault(page_fault(0, kind, who, addr)));
@@ -201,9 +201,9 @@ impl<'a> Cursor<'a> {
 
     #[tactic(auto, using(crate::proofs::ScriptLaws::play_bind), unfolding(crate::specs::Parts::look_in))]
     fn look_in(&mut self, page: u32, who: Who, kind: Kind, addr: u64) -> Result<u32, Stop>
-        requires { page < 3154 }
+        requires { page < page_count }
         ensures comes { Comes (play (look_in (Some page) kind who addr) self.old.left self.old.rest.now) result self.new.left self.new.rest.now }
-        ensures range { IfOk result (λ page. page < 3154) }
+        ensures range { IfOk result (λ page. page < page_count) }
     {
         let entry = self.ask(Access::Look(page))?;
         match check(entry, kind, who, addr) {

@@ -1,6 +1,7 @@
 //! The fetch of an instruction.
 
 ghost use Rattle.std.specs.Prelude.{◌≡◌, ◌+◌, ◌-◌, ◌/◌, ◌^◌, ◌<◌, ◌≤◌, take, length, find, option_copied, All, IfSome};
+ghost use Rattle.cet_words.specs.Layout.{image_end};
 ghost use Rattle.cet_words.specs.Job.{covers, IsSegment};
 ghost use Rattle.cet_page.specs.Script.{play};
 ghost use Rattle.cet_page.specs.Plays.{Comes};
@@ -38,7 +39,7 @@ fn segment_of(segments: &[Segment], number: u64) -> Option<&Segment>
 #[tactic(auto, using(cet_words::proofs::ByteLaws::found_place))]
 fn segment_at(image: &Image, addr: u64) -> Option<&Segment>
     ensures found { option_copied result ≡ find (covers (addr / 4096)) image.now.segments }
-    ensures range { IfSome result (λ segment. addr < 0x800000) }
+    ensures range { IfSome result (λ segment. addr < image_end) }
 {
     segment_of(image.segments.as_slice(), addr / 4096)
 }
@@ -49,7 +50,7 @@ fn code_run(image: &Image, addr: u64, count: usize) -> Option<&[u8]>
     requires { count ≤ 15 }
     ensures bytes { IfSome result (λ bytes. bytes.now ≡ fetchable image.now.segments addr count) }
     ensures length { IfSome result (λ bytes. length bytes.now ≡ count) }
-    ensures range { IfSome result (λ bytes. addr + count ≤ 0x800000) }
+    ensures range { IfSome result (λ bytes. addr + count ≤ image_end) }
 {
     let segment = segment_at(image, addr)?;
     if !segment.exec || addr < segment.start || addr % 4096 + count as u64 > 4096 {

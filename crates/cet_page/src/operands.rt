@@ -2,6 +2,7 @@
 
 ghost use Rattle.std.specs.Prelude.{◌≡◌, ◌+◌, ◌-◌, ◌*◌, ◌%◌, ◌^◌, ◌<◌, IfOk};
 ghost use Rattle.std.specs.Int.{cast_unsigned};
+ghost use Rattle.cet_words.specs.Layout.{word_count};
 ghost use Rattle.cet_page.specs.Script.{play};
 ghost use Rattle.cet_page.specs.Plays.{Comes};
 ghost use Rattle.cet_page.specs.Values.{limit, width};
@@ -129,7 +130,7 @@ impl<'a> Cursor<'a> {
     #[tactic(auto, using(crate::proofs::ScriptLaws::play_bind), unfolding(crate::specs::Operands::write_place))]
     pub fn write_place(&mut self, addr: u64) -> Result<u32, Stop>
         ensures comes { Comes (play (write_place addr) self.old.left self.old.rest.now) result self.new.left self.new.rest.now }
-        ensures range { IfOk result (λ word. word < 1618002) }
+        ensures range { IfOk result (λ word. word < word_count) }
     {
         self.tested(addr, 8)?;
         let page = self.look(Who::User, Kind::Store, addr)?;

@@ -2,13 +2,13 @@
 use Rattle.std.proofs.Common.{◌≡◌, ℕ, ◌+◌, ◌-◌, ◌*◌, ◌/◌, ◌≤◌, arith, lit≤, eq-eqb, List, [], ◌∷◌, ◌++◌, length, Option, Some, None, refl, ap, sym, ◌∙◌, subst, true, false}
 use Rattle.std.specs.Prelude.{map, slice_index, slice_index_or, unwrap_or, ◌==◌}
 use Rattle.std.specs.List.{position_or_len}
+use Rattle.cet_words.specs.Layout.{exit_word, first_region_end, first_region_start}
 use Rattle.cet_words.specs.Job.{JobData}
 use Rattle.cet_isa.specs.declared.threads.End.{End}
 use Rattle.cet_isa.specs.declared.threads.End.TheVariants as ending
 use Rattle.cet_book.specs.Book.{Entry, Holder, Current, Lost, Region, Book, first_book, nowhere, region, top, starting_at}
 use Rattle.cet_book.specs.Stack.{tops, word_of, words_of}
 use Rattle.cet_book.proofs.StackLaws.{Stack}
-use Rattle.cet_page.specs.Gate.{exit_word}
 use Rattle.cet_page.specs.Machine.{Machine, Thread, Starts, machine, run}
 use Rattle.cet_own.proofs.Report.{LastBook}
 use Rattle.cet_own.specs.Safe.{KeepsStack, Safe}
@@ -30,7 +30,7 @@ words_read words f a (e ∷ es) h = ap (λ w. w ∷ words_from words (a + 8) (le
 
 -- ---- the one region
 
-in_first : (r : Region) → r.start ≡ 0x200001000 → r.end ≡ 0x200009000 → r.start + 8 * length r.entries ≤ r.end → (0x200001000 ≤ top r) × (top r ≤ 0x200009000) × ((0x200009000 - top r) / 8 ≡ length r.entries)
+in_first : (r : Region) → r.start ≡ first_region_start → r.end ≡ first_region_end → r.start + 8 * length r.entries ≤ r.end → (first_region_start ≤ top r) × (top r ≤ first_region_end) × ((first_region_end - top r) / 8 ≡ length r.entries)
 in_first r low high room = (omega arith, omega arith, omega arith)
 
 found_first : (rs : List Region) (r : Region) (start : ℕ) → rs ≡ r ∷ [] → r.start ≡ start → slice_index_or rs (position_or_len (λ (q : Region). q.start == start) rs) nowhere ≡ r
@@ -44,28 +44,28 @@ region_found b r start e s = found_first b.regions r start e s
 abbrev pub shown_with : (start end : ℕ) → Holder → List ℕ → StackReport
 shown_with start end h ws = record { region = record { start = start; end = end }; shown = shown_of h; words = ws }
 
-kept_is : (words : List ℕ) (b : Book) (r : Region) (ssp : ℕ) → b.regions ≡ r ∷ [] → r.start ≡ 0x200001000 → r.end ≡ 0x200009000 → r.start + 8 * length r.entries ≤ r.end → Stack words (tops b) (top r) r.entries → r.holder ≡ Current 0 → ssp ≡ top r → shown_with 0x200001000 0x200009000 (Current 0) (words_from words ssp ((0x200009000 - ssp) / 8)) ≡ shown_region b r
+kept_is : (words : List ℕ) (b : Book) (r : Region) (ssp : ℕ) → b.regions ≡ r ∷ [] → r.start ≡ first_region_start → r.end ≡ first_region_end → r.start + 8 * length r.entries ≤ r.end → Stack words (tops b) (top r) r.entries → r.holder ≡ Current 0 → ssp ≡ top r → shown_with first_region_start first_region_end (Current 0) (words_from words ssp ((first_region_end - ssp) / 8)) ≡ shown_region b r
 kept_is words b r ssp one low high room stack held at =
     let fits = in_first r low high room in
-    let read : words_from words ssp ((0x200009000 - ssp) / 8) ≡ words_of (tops b) (top r) r.entries =
-    ap (λ a. words_from words a ((0x200009000 - a) / 8)) at ∙ ap (words_from words (top r)) fits.2 ∙ words_read words (tops b) (top r) r.entries stack in
+    let read : words_from words ssp ((first_region_end - ssp) / 8) ≡ words_of (tops b) (top r) r.entries =
+    ap (λ a. words_from words a ((first_region_end - a) / 8)) at ∙ ap (words_from words (top r)) fits.2 ∙ words_read words (tops b) (top r) r.entries stack in
     let seen : in_view b (length b.regions) r.holder ≡ true = ap (λ (rs : List Region). in_view b (length rs) r.holder) one ∙ ap (in_view b 1) held in
-    ap (shown_with 0x200001000 0x200009000 (Current 0)) read
-    ∙ ap (λ h. shown_with 0x200001000 0x200009000 h (words_of (tops b) (top r) r.entries)) (sym held)
-    ∙ ap (λ a. shown_with a 0x200009000 r.holder (words_of (tops b) (top r) r.entries)) (sym low)
+    ap (shown_with first_region_start first_region_end (Current 0)) read
+    ∙ ap (λ h. shown_with first_region_start first_region_end h (words_of (tops b) (top r) r.entries)) (sym held)
+    ∙ ap (λ a. shown_with a first_region_end r.holder (words_of (tops b) (top r) r.entries)) (sym low)
     ∙ ap (λ a. shown_with r.start a r.holder (words_of (tops b) (top r) r.entries)) (sym high)
     ∙ ap (shown_if b r) (sym seen)
 
-lost_is : (b : Book) (r : Region) → b.regions ≡ r ∷ [] → r.start ≡ 0x200001000 → r.end ≡ 0x200009000 → r.holder ≡ Lost → shown_with 0x200001000 0x200009000 Lost [] ≡ shown_region b r
+lost_is : (b : Book) (r : Region) → b.regions ≡ r ∷ [] → r.start ≡ first_region_start → r.end ≡ first_region_end → r.holder ≡ Lost → shown_with first_region_start first_region_end Lost [] ≡ shown_region b r
 lost_is b r one low high held =
     let seen : in_view b (length b.regions) r.holder ≡ false = ap (λ (rs : List Region). in_view b (length rs) r.holder) one ∙ ap (in_view b 1) held in
-    ap (λ a. shown_with a 0x200009000 Lost []) (sym low) ∙ ap (λ a. shown_with r.start a Lost []) (sym high) ∙ ap (shown_if b r) (sym seen)
+    ap (λ a. shown_with a first_region_end Lost []) (sym low) ∙ ap (λ a. shown_with r.start a Lost []) (sym high) ∙ ap (shown_if b r) (sym seen)
 
 -- what is known of the region by how its thread ended
 record Known (words : List ℕ) (b : Book) (r : Region) (over : Option End) (ssp : ℕ) : Type 0 where
   one : b.regions ≡ r ∷ []
-  low : r.start ≡ 0x200001000
-  high : r.end ≡ 0x200009000
+  low : r.start ≡ first_region_start
+  high : r.end ≡ first_region_end
   room : r.start + 8 * length r.entries ≤ r.end
   stack : Stack words (tops b) (top r) r.entries
   holder : KeepsStack over → r.holder ≡ Current 0
@@ -78,7 +78,7 @@ first_is words b r (Some ending.Group) ssp k = kept_is words b r ssp k.one k.low
 first_is words b r (Some ending.Limit) ssp k = kept_is words b r ssp k.one k.low k.high k.room k.stack (k.holder tt) (k.pointer tt)
 first_is words b r (Some (ending.Exit status)) ssp k = lost_is b r k.one k.low k.high (k.exited status refl)
 
-within : (r : Region) (ssp : ℕ) → r.start ≡ 0x200001000 → r.end ≡ 0x200009000 → r.start + 8 * length r.entries ≤ r.end → ssp ≡ top r → (0x200001000 ≤ ssp) × (ssp ≤ 0x200009000)
+within : (r : Region) (ssp : ℕ) → r.start ≡ first_region_start → r.end ≡ first_region_end → r.start + 8 * length r.entries ≤ r.end → ssp ≡ top r → (first_region_start ≤ ssp) × (ssp ≤ first_region_end)
 within r ssp low high room at = (omega arith, omega arith)
 
 keeps_is : (words : List ℕ) (b : Book) (r : Region) (over : Option End) (ssp : ℕ) → Known words b r over ssp → KeepsFirst (unwrap_or over ending.Group) ssp
@@ -97,13 +97,13 @@ keeps job start turns words threads l e =
     let alone : threads ≡ l.thread ∷ [] = sym (ap (λ (m : Machine). m.threads) e) ∙ l.alone in
     (subst KeepsFirsts (sym alone) (keeps_is _ l.book l.region l.thread.core.over l.thread.core.arch.ssp (known job start turns l)), rw alone (lit≤ tt))
 
-one_start : (thread : Thread) → starts_of thread.trace ≡ [] → shown_starts (thread ∷ []) ≡ 0x200001000 ∷ []
-one_start thread q = ap (λ (l : List ℕ). in_order (0x200001000 ∷ (l ++ []))) q
+one_start : (thread : Thread) → starts_of thread.trace ≡ [] → shown_starts (thread ∷ []) ≡ first_region_start ∷ []
+one_start thread q = ap (λ (l : List ℕ). in_order (first_region_start ∷ (l ++ []))) q
 
 stacks_shown : (job : JobData) (start : Machine) (turns : List ℕ) (l : LastBook job start turns) → Starts job start → first_stacks (run job start turns).words (l.thread ∷ []) ≡ shown_stacks l.book (l.thread ∷ [])
 stacks_shown job start turns l s =
     let q : AllQuiet (l.thread ∷ []) = subst AllQuiet l.alone (quiet job start turns s) in
-    let f : region l.book (starting_at 0x200001000 l.book) ≡ l.region = region_found l.book l.region 0x200001000 l.only l.low in
+    let f : region l.book (starting_at first_region_start l.book) ≡ l.region = region_found l.book l.region first_region_start l.only l.low in
     ap (λ x. x ∷ []) (first_is _ l.book l.region l.thread.core.over l.thread.core.arch.ssp (known job start turns l))
     ∙ ap (λ r. shown_region l.book r ∷ []) (sym f)
     ∙ ap (map (λ start. shown_region l.book (region l.book (starting_at start l.book)))) (sym (one_start l.thread q.0))

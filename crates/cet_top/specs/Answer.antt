@@ -1,12 +1,12 @@
 -- What a command answers: its status and its output, by the words and the bytes of the source. Source: own.
 use Rattle.std.specs.Prelude.{◌≡◌, ℕ, ◌⊎◌, List, [], Some, slice_index, map, ◌∷◌, ◌++◌, codes}
+use Rattle.cet_words.specs.Layout.{exit_word}
 use Rattle.cet_words.specs.Job.{ImageData, JobData}
 use Rattle.cet_asm.specs.Program.{IsProgram, IsFirstFault}
 use Rattle.cet_asm.specs.declared.program.Program.{Program}
 use Rattle.cet_elf.specs.Accepts.{Accepts, FirstBroken, image_of}
 use Rattle.cet_elf.specs.Written.{written}
 use Rattle.cet_book.specs.Book.{Book, first_book}
-use Rattle.cet_page.specs.Gate.{exit_word}
 use Rattle.cet_page.specs.Machine.{Machine, Starts, run}
 use Rattle.cet_own.specs.Event.{book_of}
 use Rattle.cet_own.specs.Safe.{Safe}

@@ -5,7 +5,7 @@ use Rattle.std.specs.List.{flat_map}
 use Rattle.cet_words.specs.declared.images.Segment.{Segment}
 use Rattle.cet_isa.specs.declared.instructions.Instr.{Instr}
 use Rattle.cet_isa.specs.Spells.{Spells, Begins}
-use Rattle.cet_base.specs.Digits.{hex_digits, hex16}
+use Rattle.cet_base.specs.Digits.{hex2, hex16}
 use Rattle.cet_encode.specs.Text.{text_of}
 use Rattle.cet_top.specs.Line.{line}
 
@@ -27,10 +27,6 @@ IsFirst (Lone byte) code = (instr : Instr) (len : ℕ) → ¬ Begins code instr 
 abbrev pub IsCut : List Piece → (code : List ℕ) → Type 0
 IsCut [] code = code ≡ []
 IsCut (p ∷ ps) code = (rest : List ℕ) × IsFirst p code × (code ≡ piece_bytes p ++ rest) × IsCut ps rest
-
--- the two hexadecimal digits of a byte
-abbrev pub hex2 : ℕ → List ℕ
-hex2 byte = hex_digits 2 byte
 
 abbrev pub piece_text : Piece → List ℕ
 piece_text (Instruction instr spelling) = text_of instr

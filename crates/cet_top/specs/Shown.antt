@@ -2,6 +2,7 @@
 use Rattle.std.proofs.Common.{zero, suc}
 use Rattle.std.specs.Prelude.{ℕ, ◌-◌, Bool, true, false, nat_le, if◌then◌else◌, List, [], ◌∷◌, map, length}
 use Rattle.std.specs.List.{flat_map}
+use Rattle.cet_words.specs.Layout.{first_region_start}
 use Rattle.cet_isa.specs.declared.threads.Record.{Record}
 use Rattle.cet_isa.specs.declared.threads.What.{What}
 use Rattle.cet_isa.specs.declared.threads.What.TheVariants as what
@@ -66,7 +67,7 @@ in_order (n ∷ ns) = put_in n (in_order ns)
 
 -- the starts of thread 0's first stack and of those that the traces tell of, in order
 abbrev pub shown_starts : List Thread → List ℕ
-shown_starts threads = in_order (0x200001000 ∷ flat_map (λ (thread : Thread). flat_map (λ (r : Record). started r r.what) thread.trace) threads)
+shown_starts threads = in_order (first_region_start ∷ flat_map (λ (thread : Thread). flat_map (λ (r : Record). started r r.what) thread.trace) threads)
 
 abbrev pub shown_stacks : Book → List Thread → List StackReport
 shown_stacks b threads = map (λ start. shown_region b (region b (starting_at start b))) (shown_starts threads)

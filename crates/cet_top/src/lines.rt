@@ -2,7 +2,7 @@ ghost use Rattle.std.specs.Prelude.{◌≡◌, ◌++◌, map, OnOk};
 ghost use Rattle.std.specs.List.{flat_map};
 ghost use Rattle.cet_top.specs.Line.{word_text, spaced, line};
 
-use cet_base::{hex16, put_bytes, put_decimal};
+use cet_base::{hex16, put_decimal};
 use cet_words::{Bytes, NoMemory};
 use std::alloc::Global;
 
@@ -20,9 +20,9 @@ fn put_word(alloc: Global, out: &mut Bytes, word: Word) -> Result<(), NoMemory>
     ensures { OnOk result (out.new ≡ out.old ++ word_text word) }
 {
     match word {
-        Word::Text(text) => put_bytes(alloc, out, text.as_bytes()),
+        Word::Text(text) => out.extend(alloc, text.as_bytes()),
         Word::Decimal(number) => put_decimal(alloc, out, number),
-        Word::Hex(number) => put_bytes(alloc, out, &hex16(number)),
+        Word::Hex(number) => out.extend(alloc, &hex16(number)),
     }
 }
 

@@ -1,44 +1,25 @@
 //! The listing of an image's code.
 
 ghost use Rattle.std.specs.Prelude.{◌≡◌, false, ◌+◌, ◌^◌, ◌<◌, ◌≤◌, ◌++◌, ◌∷◌, [], ℕ, List, All, length, drop, replicate, OnOk, IfOk};
-ghost use Rattle.std.specs.Fmt.{digit_glyph};
 ghost use Rattle.std.specs.List.{flat_map};
 ghost use Rattle.cet_words.specs.Job.{IsSegment};
-ghost use Rattle.cet_base.specs.Digits.{hex16};
+ghost use Rattle.cet_base.specs.Digits.{hex2, hex16};
 ghost use Rattle.cet_top.specs.Line.{line, spaced};
-ghost use Rattle.cet_top.specs.Listing.{hex2, Instruction, IsFirst, IsListing, Lists, ListsIf, Lone, Piece, piece_bytes, piece_line, piece_text, segment_code};
+ghost use Rattle.cet_top.specs.Listing.{Instruction, IsFirst, IsListing, Lists, ListsIf, Lone, Piece, piece_bytes, piece_line, piece_text, segment_code};
 
-use cet_base::{hex16, put_bytes};
+use cet_base::{hex2, hex16};
 use cet_decode::{Decoded, decode};
 use cet_encode::text;
 use cet_isa::Instr;
 use cet_words::{Bytes, Image, NoMemory, Segment};
 use std::alloc::Global;
 
-fn digit_glyph(digit: u8) -> u8
-    requires { digit < 16 }
-    ensures { result ≡ digit_glyph false digit }
-{
-    if digit < 10 {
-        b'0' + digit
-    } else {
-        b'a' + (digit - 10)
-    }
-}
-
-/// The two lower-case hexadecimal digits of a byte.
-fn hex2(byte: u8) -> [u8; 2]
-    ensures { result ≡ hex2 byte }
-{
-    [digit_glyph(byte / 16), digit_glyph(byte % 16)]
-}
-
 /// Appends the two digits of each byte.
 fn put_digits(alloc: Global, out: &mut Bytes, bytes: &[u8]) -> Result<(), NoMemory>
     ensures { OnOk result (out.new ≡ out.old ++ flat_map hex2 bytes.now) }
 {
     for byte in bytes {
-        put_bytes(alloc, out, &hex2(*byte))?;
+        out.extend(alloc, &hex2(*byte))?;
     }
     Ok(())
 }
@@ -47,7 +28,7 @@ fn put_digits(alloc: Global, out: &mut Bytes, bytes: &[u8]) -> Result<(), NoMemo
 fn put_front(alloc: Global, out: &mut Bytes, addr: u64, bytes: &[u8]) -> Result<(), NoMemory>
     ensures { OnOk result (out.new ≡ out.old ++ hex16 addr ++ 32 ∷ flat_map hex2 bytes.now ++ 32 ∷ []) }
 {
-    put_bytes(alloc, out, &hex16(addr))?;
+    out.extend(alloc, &hex16(addr))?;
     out.push(alloc, b' ')?;
     put_digits(alloc, out, bytes)?;
     out.push(alloc, b' ')
@@ -73,8 +54,8 @@ fn put_instruction(
 fn put_byte(alloc: Global, out: &mut Bytes, byte: u8) -> Result<(), NoMemory>
     ensures { OnOk result (out.new ≡ out.old ++ piece_text (Lone byte)) }
 {
-    put_bytes(alloc, out, b".byte 0x")?;
-    put_bytes(alloc, out, &hex2(byte))
+    out.extend(alloc, b".byte 0x")?;
+    out.extend(alloc, &hex2(byte))
 }
 
 /// Appends the line of such a byte.
@@ -125,18 +106,10 @@ fn segment_code(alloc: Global, segment: &Segment) -> Result<Bytes, NoMemory>
     ensures { IfOk result (λ code. code ≡ segment_code segment.now) }
 {
     let mut code = Bytes::new(alloc);
-    put_bytes(alloc, &mut code, segment.bytes.as_slice())?;
+    code.extend(alloc, segment.bytes.as_slice())?;
     let zeros = segment.size as usize - segment.bytes.len();
-    put_zeros(alloc, &mut code, zeros)?;
+    code.extend_with(alloc, 0, zeros)?;
     Ok(code)
-}
-
-/// Appends so many zeros.
-fn put_zeros(alloc: Global, out: &mut Bytes, count: usize) -> Result<(), NoMemory>
-    ensures { OnOk result (out.new ≡ out.old ++ replicate count 0) }
-{
-    let zeros = vec![in alloc; 0; count]?;
-    put_bytes(alloc, out, &zeros)
 }
 
 /// Appends the lines of a segment, where it is executable.

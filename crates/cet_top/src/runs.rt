@@ -14,11 +14,8 @@ use crate::stacks::first_stack;
 use crate::turns::robin;
 use cet_cpu::first;
 use cet_isa::End;
-use cet_words::{Access, Job, NoMemory, Perform, Plain};
+use cet_words::{Access, EXIT_WORD, Job, NoMemory, Perform, Plain};
 use std::alloc::Global;
-
-/// The number of the word EXIT.
-const EXIT_WORD: u32 = 1_605_632;
 
 /// The shadow stacks after a run: that of thread 0.
 fn first_stacks<P: Perform>(

@@ -1,23 +1,21 @@
 //! The shadow stack of thread 0, read from the words after a run.
 
 ghost use Rattle.std.specs.Prelude.{◌≡◌, ◌+◌, ◌-◌, ◌/◌, ◌≤◌, IfOk};
+ghost use Rattle.cet_words.specs.Layout.{shadow_end, shadow_start};
 ghost use Rattle.cet_top.specs.FirstStack.{KeepsFirst, first_region, first_stack, words_from};
 
 use crate::outcomes::{Region, Shown, StackReport};
 use cet_isa::End;
-use cet_words::{Access, NoMemory, Perform, Words};
+use cet_words::{
+    Access, FIRST_REGION_END, FIRST_REGION_START, FIRST_SHADOW_WORD, NoMemory, Perform,
+    SHADOW_START, Words,
+};
 use std::alloc::Global;
-
-/// The address of the shadow area's first byte.
-const SHADOW_AREA: u64 = 0x2_0000_0000;
-
-/// The number of the shadow area's first word.
-const FIRST_SHADOW_WORD: u32 = 1_081_344;
 
 /// The place of thread 0's shadow stack.
 const FIRST_REGION: Region = Region {
-    start: 0x2_0000_1000,
-    end: 0x2_0000_9000,
+    start: FIRST_REGION_START,
+    end: FIRST_REGION_END,
 };
 
 /// The words from an address of the shadow area up to another.
@@ -27,15 +25,15 @@ fn read_words<P: Perform>(
     from: u64,
     to: u64,
 ) -> Result<Words, NoMemory>
-    requires low { 0x200000000 ≤ from }
+    requires low { shadow_start ≤ from }
     requires order { from ≤ to }
-    requires high { to ≤ 0x200400000 }
+    requires high { to ≤ shadow_end }
     ensures same { P.words words.new ≡ P.words words.old }
     ensures read { IfOk result (λ list. list ≡ words_from (P.words words.old) from ((to - from) / 8)) }
 {
     let mut list = Words::new(alloc);
     for at in 0..(to - from) / 8 {
-        let word = FIRST_SHADOW_WORD + ((from + 8 * at - SHADOW_AREA) / 8) as u32;
+        let word = FIRST_SHADOW_WORD + ((from + 8 * at - SHADOW_START) / 8) as u32;
         list.push(alloc, words.perform(Access::Load(word)))?;
     }
     Ok(list)

@@ -5,6 +5,7 @@ use Rattle.std.proofs.lemmas.List.Elements.{recursion_from_All}
 use Rattle.std.specs.List.{AllByRecursion}
 use Rattle.std.specs.Prelude.{◌≡◌, ℕ, ◌/◌, ◌<◌, ◌≤◌, Bool, true, false, List, [], ◌∷◌, Option, Some, None, find, All, refl}
 use Rattle.cet_words.specs.declared.images.Segment.{Segment}
+use Rattle.cet_words.specs.Layout.{image_start, image_end}
 use Rattle.cet_words.specs.Job.{covers, IsSegment}
 use Rattle.cet_words.specs.Bytes.{executable_byte, code_byte}
 
@@ -17,21 +18,21 @@ found : {X : Type 0} (P : X → Type 0) (p : X → Bool) (x : X) (xs : List X) �
 found P p x [] h f = cc
 found P p x (y ∷ xs) h f = found_by P p x y xs (p y) refl h.0 (found P p x xs h.1) f
 
-covered : (s : Segment) (addr : ℕ) → IsSegment s → covers (addr / 4096) s ≡ true → (0x400000 ≤ addr) × (addr < 0x800000)
+covered : (s : Segment) (addr : ℕ) → IsSegment s → covers (addr / 4096) s ≡ true → (image_start ≤ addr) × (addr < image_end)
 covered s addr h c =
     let low = h.low in
     let high = h.high in
     (grind (arith, nat_tests), grind (arith, nat_tests))
 
-byte_place : (segments : List Segment) (addr b : ℕ) (o : Option Segment) → AllByRecursion IsSegment segments → find (covers (addr / 4096)) segments ≡ o → executable_byte o addr ≡ Some b → (0x400000 ≤ addr) × (addr < 0x800000)
+byte_place : (segments : List Segment) (addr b : ℕ) (o : Option Segment) → AllByRecursion IsSegment segments → find (covers (addr / 4096)) segments ≡ o → executable_byte o addr ≡ Some b → (image_start ≤ addr) × (addr < image_end)
 byte_place segments addr b None h f e = cc
 byte_place segments addr b (Some s) h f e = let g = found IsSegment (covers (addr / 4096)) s segments h f in covered s addr g.0 g.1
 
 -- code lies in the image range
-pub code_place : (segments : List Segment) (addr b : ℕ) → All IsSegment segments → code_byte segments addr ≡ Some b → (0x400000 ≤ addr) × (addr < 0x800000)
+pub code_place : (segments : List Segment) (addr b : ℕ) → All IsSegment segments → code_byte segments addr ≡ Some b → (image_start ≤ addr) × (addr < image_end)
 unfolding code_byte
 code_place segments addr b h e = byte_place segments addr b (find (covers (addr / 4096)) segments) (recursion_from_All IsSegment segments h) refl e
 
 -- an address whose page a segment covers lies in the image range
-pub found_place : (segments : List Segment) (addr : ℕ) (s : Segment) → All IsSegment segments → find (covers (addr / 4096)) segments ≡ Some s → (0x400000 ≤ addr) × (addr < 0x800000)
+pub found_place : (segments : List Segment) (addr : ℕ) (s : Segment) → All IsSegment segments → find (covers (addr / 4096)) segments ≡ Some s → (image_start ≤ addr) × (addr < image_end)
 found_place segments addr s h f = let g = found IsSegment (covers (addr / 4096)) s segments (recursion_from_All IsSegment segments h) f in covered s addr g.0 g.1

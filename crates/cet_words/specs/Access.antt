@@ -2,21 +2,22 @@
 use Rattle.std.specs.Prelude.{ℕ, ◌+◌, ◌%◌, ◌^◌, ◌<◌, List, slice_index, slice_set, bit_or, bit_and, if◌then◌else◌, ◌==◌}
 use Rattle.cet_words.specs.declared.accesses.Access.{Access}
 use Rattle.cet_words.specs.declared.accesses.Access.TheVariants.{Look, Load, Store, Swap, FetchAdd, FetchOr, FetchAnd, CompareExchange}
+use Rattle.cet_words.specs.Layout.{page_count, word_count, entry_word}
 
--- the page is one of 3,154, or the word one of 1,618,002
+-- the page or the word is one of the machine's
 abbrev pub InRange : Access → Type 0
-InRange (Look page) = page < 3154
-InRange (Load word) = word < 1618002
-InRange (Store word value) = word < 1618002
-InRange (Swap word value) = word < 1618002
-InRange (FetchAdd word value) = word < 1618002
-InRange (FetchOr word value) = word < 1618002
-InRange (FetchAnd word value) = word < 1618002
-InRange (CompareExchange word expected value) = word < 1618002
+InRange (Look page) = page < page_count
+InRange (Load word) = word < word_count
+InRange (Store word value) = word < word_count
+InRange (Swap word value) = word < word_count
+InRange (FetchAdd word value) = word < word_count
+InRange (FetchOr word value) = word < word_count
+InRange (FetchAnd word value) = word < word_count
+InRange (CompareExchange word expected value) = word < word_count
 
 -- the word before an access, and 0 for a store
 abbrev pub answer : List ℕ → Access → ℕ
-answer words (Look page) = slice_index words (1614848 + page)
+answer words (Look page) = slice_index words (entry_word page)
 answer words (Load word) = slice_index words word
 answer words (Store word value) = 0
 answer words (Swap word value) = slice_index words word

@@ -2,6 +2,7 @@
 use Rattle.std.specs.Prelude.{◌≡◌, ℕ, ◌+◌, ◌-◌, ◌/◌, ◌<◌, ◌≤◌, Bool, false, ◌&&◌, nat_lt, nat_le, List, length, All, AllPairs, Any, IsTrue, ◌⊎◌}
 use Rattle.cet_words.specs.declared.images.Segment.{Segment}
 use Rattle.cet_words.specs.declared.images.Signal.{Signal}
+use Rattle.cet_words.specs.Layout.{image_start, image_end}
 
 -- the first and the last page number of a segment that has pages, counted from address 0
 abbrev pub first_page : Segment → ℕ
@@ -20,8 +21,8 @@ SharesNoPage s t = (s.size ≡ 0) ⊎ (t.size ≡ 0) ⊎ (last_page s < first_pa
 
 -- a segment lies in the image range, has no more bytes than its size, and isn't both writable and executable
 pub record IsSegment (s : Segment) : Type 0 where
-  pub low : 0x400000 ≤ s.start
-  pub high : s.start + s.size ≤ 0x800000
+  pub low : image_start ≤ s.start
+  pub high : s.start + s.size ≤ image_end
   pub filled : length s.bytes ≤ s.size
   pub rights : (s.write && s.exec) ≡ false
 

@@ -1,8 +1,82 @@
--- Where pages and words lie, and the one present entry of a page. Source: own; the bits of an entry are those of a
--- 4-KByte page (Intel SDM volume 3A, 4-level paging).
-use Rattle.std.specs.Prelude.{ℕ, ◌+◌, ◌-◌, ◌*◌, ◌/◌, ◌%◌, ◌^◌, Bool, ◌&&◌, ◌==◌, nat_lt, nat_le, if◌then◌else◌, Option, Some, None, option_map, find}
-use Rattle.cet_words.specs.declared.images.Segment.{Segment}
-use Rattle.cet_words.specs.Job.{ImageData, covers}
+-- Where pages and words lie: the machine's numbers, each by its name. Source: own; a page has 4,096 bytes and 512 words
+-- of 8 bytes (Intel SDM volume 3A, 4-level paging).
+use Rattle.std.specs.Prelude.{ℕ, ◌+◌, ◌-◌, ◌*◌, ◌/◌, ◌%◌, Bool, ◌&&◌, ◌==◌, nat_lt, nat_le, if◌then◌else◌, Option, Some, None, option_map}
+
+-- ---- the ranges of addresses, each from its first address to the one past its end
+
+abbrev pub image_start : ℕ
+image_start = 0x400000
+
+abbrev pub image_end : ℕ
+image_end = 0x800000
+
+-- the main stack
+abbrev pub stack_start : ℕ
+stack_start = 0x7ffc0000
+
+abbrev pub stack_end : ℕ
+stack_end = 0x80000000
+
+abbrev pub mmap_start : ℕ
+mmap_start = 0x100000000
+
+abbrev pub mmap_end : ℕ
+mmap_end = 0x100400000
+
+abbrev pub shadow_start : ℕ
+shadow_start = 0x200000000
+
+abbrev pub shadow_end : ℕ
+shadow_end = 0x200400000
+
+abbrev pub kernel_start : ℕ
+kernel_start = 0xffff800000000000
+
+abbrev pub kernel_end : ℕ
+kernel_end = 0xffff800000012000
+
+-- the shadow stack of thread 0: pages 1 to 8 of the shadow area
+abbrev pub first_region_start : ℕ
+first_region_start = 0x200001000
+
+abbrev pub first_region_end : ℕ
+first_region_end = 0x200009000
+
+-- ---- pages by their numbers: the image's are those from 0 on
+
+abbrev pub first_stack_page : ℕ
+first_stack_page = 1024
+
+abbrev pub first_mmap_page : ℕ
+first_mmap_page = 1088
+
+abbrev pub first_shadow_page : ℕ
+first_shadow_page = 2112
+
+abbrev pub first_kernel_page : ℕ
+first_kernel_page = 3136
+
+abbrev pub page_count : ℕ
+page_count = 3154
+
+-- ---- words by their numbers: the words of the pages in order, and after them one entry for each page
+
+abbrev pub first_stack_word : ℕ
+first_stack_word = 524288
+
+abbrev pub first_shadow_word : ℕ
+first_shadow_word = 1081344
+
+abbrev pub first_kernel_word : ℕ
+first_kernel_word = 1605632
+
+abbrev pub first_entry_word : ℕ
+first_entry_word = 1614848
+
+abbrev pub word_count : ℕ
+word_count = 1618002
+
+-- ---- where an address lies
 
 abbrev pub within : ℕ → ℕ → ℕ → Bool
 within low high a = nat_le low a && nat_lt a high
@@ -10,11 +84,11 @@ within low high a = nat_le low a && nat_lt a high
 -- the number of the page that holds an address: image, main stack, mmap area, shadow area, kernel area
 unfoldable pub page_at : ℕ → Option ℕ
 page_at addr =
-    if within 0x400000 0x800000 addr then Some ((addr - 0x400000) / 4096)
-    else if within 0x7ffc0000 0x80000000 addr then Some (1024 + (addr - 0x7ffc0000) / 4096)
-    else if within 0x100000000 0x100400000 addr then Some (1088 + (addr - 0x100000000) / 4096)
-    else if within 0x200000000 0x200400000 addr then Some (2112 + (addr - 0x200000000) / 4096)
-    else if within 0xffff800000000000 0xffff800000012000 addr then Some (3136 + (addr - 0xffff800000000000) / 4096)
+    if within image_start image_end addr then Some ((addr - image_start) / 4096)
+    else if within stack_start stack_end addr then Some (first_stack_page + (addr - stack_start) / 4096)
+    else if within mmap_start mmap_end addr then Some (first_mmap_page + (addr - mmap_start) / 4096)
+    else if within shadow_start shadow_end addr then Some (first_shadow_page + (addr - shadow_start) / 4096)
+    else if within kernel_start kernel_end addr then Some (first_kernel_page + (addr - kernel_start) / 4096)
     else None
 
 -- the number of the word that holds an address of a page
@@ -27,30 +101,49 @@ word_at addr = if addr % 8 == 0 then option_map (λ page. word_in page addr) (pa
 
 -- the word of a page's entry
 abbrev pub entry_word : ℕ → ℕ
-entry_word page = 1614848 + page
+entry_word page = first_entry_word + page
 
--- The present entry of a page with these low bits: P 1, R/W 2, U/S 4, A 32, D 64. Frame i + 256 stands in bits 51 to 12.
-abbrev pub entry_with : ℕ → ℕ → ℕ
-entry_with page bits = 4096 * (page + 256) + bits
+-- so many bytes, rounded up to whole pages
+abbrev pub page_up : ℕ → ℕ
+page_up bytes = 4096 * ((bytes + 4095) / 4096)
 
--- execute-disable, bit 63
-abbrev pub no_execute : ℕ
-no_execute = 2 ^ 63
+-- ---- the words of kernel page 0
 
--- of an image page in this segment, by the segment's rights; 0 of a page in no segment
-abbrev pub segment_entry : ℕ → Option Segment → ℕ
-segment_entry page None = 0
-segment_entry page (Some s) =
-    if s.exec then entry_with page 0x25
-    else if s.write then no_execute + entry_with page 0x67
-    else no_execute + entry_with page 0x25
+-- whether the process is to end, and how
+abbrev pub exit_word : ℕ
+exit_word = 1605632
 
--- the one present entry of a page, or 0 for a page that never is present
-unfoldable pub entry_of : ImageData → ℕ → ℕ
-entry_of image page =
-    if nat_lt page 1024 then segment_entry page (find (covers (1024 + page)) image.segments)
-    else if nat_lt page 2112 then no_execute + entry_with page 0x67
-    else if nat_lt page 3136 then no_execute + entry_with page 0x65
-    else if page == 3136 then no_execute + entry_with page 0x63
-    else if page % 2 == 0 then no_execute + entry_with page 0x61
-    else 0
+-- the number of the next thread to be born
+abbrev pub next_thread_word : ℕ
+next_thread_word = 1605633
+
+-- how many pages of the shadow area, and of the mmap area, have been drawn
+abbrev pub draw_shadow_word : ℕ
+draw_shadow_word = 1605634
+
+abbrev pub draw_mmap_word : ℕ
+draw_mmap_word = 1605635
+
+-- the pending signals of a thread
+abbrev pub pend_word : (thread : ℕ) → ℕ
+pend_word thread = 1605664 + thread
+
+-- the action of a signal: its handler, and in the three words after it flags, restorer and mask
+abbrev pub action_word : (signal : ℕ) → ℕ
+action_word signal = 1605696 + 4 * signal
+
+-- ---- supervisor stack k, which is kernel page 2k + 2
+
+-- the address of its token, which is the token when free; it is odd when busy
+abbrev pub token : (k : ℕ) → ℕ
+token k = 0xffff800000002ff8 + 8192 * k
+
+abbrev pub token_page : (k : ℕ) → ℕ
+token_page k = 3138 + 2 * k
+
+abbrev pub token_word : (k : ℕ) → ℕ
+token_word k = 1607167 + 1024 * k
+
+-- what the kernel's entry leaves below a held token
+abbrev pub kernel_return : ℕ
+kernel_return = 0xffff800000100000

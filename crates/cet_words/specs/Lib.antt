@@ -1,5 +1,6 @@
-pub mod Job
 pub mod Layout
+pub mod Job
+pub mod Entries
 pub mod Bytes
 pub mod Start
 pub mod Fill

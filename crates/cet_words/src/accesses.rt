@@ -1,3 +1,5 @@
+//! One access to the words, and what has words.
+
 ghost use Rattle.std.specs.Prelude.{◌≡◌, ℕ, List};
 ghost use Rattle.cet_words.specs.Access.{InRange, answer, after};
 

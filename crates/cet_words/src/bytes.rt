@@ -1,4 +1,7 @@
+//! The bytes of an image and of its code, by their addresses.
+
 ghost use Rattle.std.specs.Prelude.{◌≡◌, ◌<◌, IfSome};
+ghost use Rattle.cet_words.specs.Layout.{image_end};
 ghost use Rattle.cet_words.specs.Bytes.{segment_byte, code_byte};
 
 use crate::entries::segment_of;
@@ -19,7 +22,7 @@ pub(crate) fn segment_byte(segment: &Segment, addr: u64) -> u8
 #[tactic(auto, using(crate::proofs::ByteLaws::code_place), unfolding(crate::specs::Bytes::code_byte))]
 pub fn code_byte(image: &Image, addr: u64) -> Option<u8>
     ensures byte { result ≡ code_byte image.now.segments addr }
-    ensures range { IfSome result (λ byte. addr < 0x800000) }
+    ensures range { IfSome result (λ byte. addr < image_end) }
 {
     match segment_of(image.segments.as_slice(), addr / 4096) {
         Some(segment) if segment.exec => Some(segment_byte(segment, addr)),

@@ -1,9 +1,13 @@
+//! The one present entry of each page.
+
 ghost use Rattle.std.specs.Prelude.{◌≡◌, ◌<◌, ◌+◌, ◌^◌, find, All, IfSome};
 ghost use Rattle.std.specs.Option.{option_copied};
 ghost use Rattle.cet_words.specs.Job.{covers, IsSegment};
-ghost use Rattle.cet_words.specs.Layout.{entry_of, entry_with, segment_entry, no_execute};
+ghost use Rattle.cet_words.specs.Layout.{page_count, first_stack_page};
+ghost use Rattle.cet_words.specs.Entries.{entry_of, entry_with, segment_entry, no_execute};
 
 use crate::images::{Image, Segment};
+use crate::places::{FIRST_KERNEL_PAGE, FIRST_SHADOW_PAGE, FIRST_STACK_PAGE};
 
 const NO_EXECUTE: u64 = 1 << 63;
 
@@ -33,7 +37,7 @@ pub(crate) fn segment_at(image: &Image, number: u64) -> Option<&Segment>
 }
 
 fn entry_with(page: u32, bits: u64) -> u64
-    requires page { page < 3154 }
+    requires page { page < page_count }
     requires bits { bits < 4096 }
     ensures value { result ≡ entry_with page bits }
     ensures small { result < 2 ^ 63 }
@@ -43,7 +47,7 @@ fn entry_with(page: u32, bits: u64) -> u64
 
 /// The entry of a page in a segment, by the segment's rights.
 fn segment_entry(page: u32, segment: &Segment) -> u64
-    requires { page < 3154 }
+    requires { page < page_count }
     ensures { result ≡ segment_entry page (Some segment.now) }
 {
     if segment.exec {
@@ -56,7 +60,7 @@ fn segment_entry(page: u32, segment: &Segment) -> u64
 }
 
 fn image_entry(image: &Image, page: u32) -> u64
-    requires { page < 1024 }
+    requires { page < first_stack_page }
     ensures { result ≡ segment_entry page (find (covers (1024 + page)) image.now.segments) }
 {
     match segment_at(image, u64::from(1024 + page)) {
@@ -67,16 +71,16 @@ fn image_entry(image: &Image, page: u32) -> u64
 
 /// The one present entry of a page, with bits as in the Intel SDM (4-level paging); 0 for a page that
 /// is never present.
-#[tactic(auto, unfolding(crate::specs::Layout::entry_of))]
+#[tactic(auto, unfolding(crate::specs::Entries::entry_of))]
 pub fn present(image: &Image, page: u32) -> u64
-    requires { page < 3154 }
+    requires { page < page_count }
     ensures { result ≡ entry_of image.now page }
 {
     match page {
-        0..1024 => image_entry(image, page),
-        1024..2112 => NO_EXECUTE + entry_with(page, 0x67),
-        2112..3136 => NO_EXECUTE + entry_with(page, 0x65),
-        3136 => NO_EXECUTE + entry_with(page, 0x63),
+        0..FIRST_STACK_PAGE => image_entry(image, page),
+        FIRST_STACK_PAGE..FIRST_SHADOW_PAGE => NO_EXECUTE + entry_with(page, 0x67),
+        FIRST_SHADOW_PAGE..FIRST_KERNEL_PAGE => NO_EXECUTE + entry_with(page, 0x65),
+        FIRST_KERNEL_PAGE => NO_EXECUTE + entry_with(page, 0x63),
         _ if page % 2 == 0 => NO_EXECUTE + entry_with(page, 0x61),
         _ => 0,
     }

@@ -1,3 +1,5 @@
+//! Images, signals and jobs as data.
+
 ghost use Rattle.std.specs.Prelude.{◌≡◌};
 
 use crate::lists::{Bytes, Items};

@@ -1,4 +1,6 @@
-ghost use Rattle.std.specs.Prelude.{◌≡◌, List, [], ◌∷◌, ◌++◌, length, take, OnOk, OnErr, slice_get};
+//! Lists that grow at their end, and the want of memory.
+
+ghost use Rattle.std.specs.Prelude.{◌≡◌, List, [], ◌∷◌, ◌++◌, length, take, replicate, OnOk, OnErr, slice_get};
 ghost use Rattle.std.specs.Option.{option_copied};
 
 use std::alloc::{AllocError, AllocFailed, Global};
@@ -100,6 +102,16 @@ impl<T: Copy> Items<T> {
         ensures err { OnErr result (self.new ≡ self.old) }
     {
         self.items.extend_from_slice(items)?;
+        Ok(())
+    }
+
+    /// Appends an item so many times. Where no memory is left the list stays as it is.
+    pub fn extend_with(&mut self, _alloc: Global, item: T, count: usize) -> Result<(), NoMemory>
+        ensures ok { OnOk result (self.new ≡ self.old ++ replicate count item) }
+        ensures err { OnErr result (self.new ≡ self.old) }
+    {
+        let len = self.items.len().checked_add(count).ok_or(NoMemory)?;
+        self.items.resize(len, item)?;
         Ok(())
     }
 }

@@ -1,10 +1,13 @@
+//! The words of a machine in memory.
+
 ghost use Rattle.std.specs.Prelude.{◌≡◌, ℕ, length, List, IfOk};
+ghost use Rattle.cet_words.specs.Layout.{word_count};
 ghost use Rattle.cet_words.specs.Start.{IsStart};
 
 use crate::accesses::{Access, Perform};
 use crate::images::Image;
 use crate::lists::NoMemory;
-use crate::places::FIRST_ENTRY;
+use crate::places::FIRST_ENTRY_WORD;
 use crate::start::start_words;
 use std::alloc::Global;
 use std::marker::Model;
@@ -20,7 +23,7 @@ impl Model for Plain {
 
     ghost view = { λ p. p.words.items };
 
-    ghost invariant = { λ p. length p.words.items ≡ 1618002 };
+    ghost invariant = { λ p. length p.words.items ≡ word_count };
 }
 
 impl Plain {
@@ -39,7 +42,7 @@ impl Perform for Plain {
 
     fn perform(&mut self, access: Access) -> u64 {
         match access {
-            Access::Look(page) => self.words[FIRST_ENTRY + page as usize],
+            Access::Look(page) => self.words[(FIRST_ENTRY_WORD + page) as usize],
             Access::Load(word) => self.words[word as usize],
             Access::Store(word, value) => {
                 self.words[word as usize] = value;

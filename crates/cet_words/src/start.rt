@@ -1,4 +1,7 @@
+//! The words at the start.
+
 ghost use Rattle.std.specs.Prelude.{◌≡◌, ℕ, ◌+◌, ◌-◌, ◌*◌, ◌<◌, ◌≤◌, ◌^◌, length, IfOk, find, slice_index};
+ghost use Rattle.cet_words.specs.Layout.{image_start, first_stack_page, first_stack_word, first_kernel_word, first_entry_word, page_count, word_count};
 ghost use Rattle.cet_words.specs.Job.{covers};
 ghost use Rattle.cet_words.specs.Bytes.{segment_byte};
 ghost use Rattle.cet_words.specs.Start.{covered_byte, word_of_bytes, image_word, kernel_word, start_entry, IsStart};
@@ -8,19 +11,19 @@ use crate::bytes::segment_byte;
 use crate::entries::{present, segment_at};
 use crate::images::{Image, Segment};
 use crate::lists::NoMemory;
-use crate::places::FIRST_ENTRY;
+use crate::places::{
+    FIRST_ENTRY_WORD, FIRST_KERNEL_PAGE, FIRST_KERNEL_WORD, FIRST_MMAP_PAGE, FIRST_SHADOW_PAGE,
+    IMAGE_START, KERNEL_START, PAGE_COUNT, WORD_COUNT,
+};
 use std::alloc::Global;
 
-/// The number of words of a machine.
-const WORDS: usize = 1_618_002;
+/// The first page of thread 0's shadow stack, and the one past its eight pages.
+const FIRST_REGION_PAGE: u32 = FIRST_SHADOW_PAGE + 1;
 
-/// The number of pages.
-const PAGES: usize = 3_154;
+const PAST_REGION_PAGE: u32 = FIRST_REGION_PAGE + 8;
 
-/// The first word of the kernel pages, and the number of their words.
-const FIRST_KERNEL_WORD: usize = 1_605_632;
-
-const KERNEL_WORDS: usize = 9_216;
+/// The number of the kernel pages' words.
+const KERNEL_WORDS: u32 = FIRST_ENTRY_WORD - FIRST_KERNEL_WORD;
 
 /// So many zeros.
 fn zeros(alloc: Global, count: usize) -> Result<Vec<u64>, NoMemory>
@@ -49,20 +52,20 @@ fn segment_word(segment: &Segment, addr: u64) -> u64
 
 /// Writes the words of an image page that a segment covers.
 fn write_page(words: &mut [u64], segment: &Segment, page: usize)
-    requires page { page < 1024 }
-    requires length { 524288 ≤ length words.old }
-    ensures { FilledFrom (512 * page) (512 * page + 512) (λ w. word_of_bytes (covered_byte (Some segment.now)) (0x400000 + 8 * w)) words.old words.new }
+    requires page { page < first_stack_page }
+    requires length { first_stack_word ≤ length words.old }
+    ensures { FilledFrom (512 * page) (512 * page + 512) (λ w. word_of_bytes (covered_byte (Some segment.now)) (image_start + 8 * w)) words.old words.new }
 {
     for word in 512 * page..512 * page + 512 {
-        words[word] = segment_word(segment, 0x400000 + 8 * word as u64);
+        words[word] = segment_word(segment, IMAGE_START + 8 * word as u64);
     }
 }
 
 /// Writes the words of one image page, which are 0 before.
 #[tactic(auto, unfolding(crate::specs::Start::image_word))]
 fn load_page(words: &mut [u64], image: &Image, page: usize)
-    requires page { page < 1024 }
-    requires length { 524288 ≤ length words.old }
+    requires page { page < first_stack_page }
+    requires length { first_stack_word ≤ length words.old }
     requires zero { (w : ℕ) → 512 * page ≤ w → slice_index words.old w ≡ 0 }
     ensures { FilledFrom (512 * page) (512 * page + 512) (image_word image.now.segments) words.old words.new }
 {
@@ -73,9 +76,9 @@ fn load_page(words: &mut [u64], image: &Image, page: usize)
 
 /// Writes the words of the image's pages into words that are 0.
 fn write_image(words: &mut [u64], image: &Image)
-    requires length { 524288 ≤ length words.old }
+    requires length { first_stack_word ≤ length words.old }
     requires zero { (w : ℕ) → slice_index words.old w ≡ 0 }
-    ensures { FilledFrom 0 524288 (image_word image.now.segments) words.old words.new }
+    ensures { FilledFrom 0 first_stack_word (image_word image.now.segments) words.old words.new }
 {
     for page in 0..1024 {
         load_page(words, image, page);
@@ -84,51 +87,53 @@ fn write_image(words: &mut [u64], image: &Image)
 
 /// A word of the kernel pages by its index.
 #[tactic(auto, unfolding(crate::specs::Start::kernel_word))]
-fn kernel_word(index: usize) -> u64
-    requires { index < 9216 }
+fn kernel_word(index: u32) -> u64
+    requires { index < first_entry_word - first_kernel_word }
     ensures { result ≡ kernel_word index }
 {
     match index {
         1 => 1,
         2 => 9,
-        _ if index > 511 && index % 1024 == 511 => 0xffff_8000_0000_0000 + 8 * index as u64,
+        _ if index > 511 && index % 1024 == 511 => KERNEL_START + 8 * u64::from(index),
         _ => 0,
     }
 }
 
 fn write_kernel(words: &mut [u64])
-    requires { length words.old ≡ 1618002 }
-    ensures { FilledFrom 1605632 1614848 (λ w. kernel_word (w - 1605632)) words.old words.new }
+    requires { length words.old ≡ word_count }
+    ensures { FilledFrom first_kernel_word first_entry_word (λ w. kernel_word (w - first_kernel_word)) words.old words.new }
 {
     for index in 0..KERNEL_WORDS {
-        words[FIRST_KERNEL_WORD + index] = kernel_word(index);
+        words[(FIRST_KERNEL_WORD + index) as usize] = kernel_word(index);
     }
 }
 
 /// A page's entry at the start.
 #[tactic(auto, unfolding(crate::specs::Start::start_entry))]
 fn start_entry(image: &Image, page: u32) -> u64
-    requires { page < 3154 }
+    requires { page < page_count }
     ensures { result ≡ start_entry image.now page }
 {
     match page {
-        0..1088 | 2113..2121 | 3136.. => present(image, page),
+        0..FIRST_MMAP_PAGE | FIRST_REGION_PAGE..PAST_REGION_PAGE | FIRST_KERNEL_PAGE.. => present(
+            image, page,
+        ),
         _ => 0,
     }
 }
 
 fn write_entries(words: &mut [u64], image: &Image)
-    requires { length words.old ≡ 1618002 }
-    ensures { FilledFrom 1614848 1618002 (λ w. start_entry image.now (w - 1614848)) words.old words.new }
+    requires { length words.old ≡ word_count }
+    ensures { FilledFrom first_entry_word word_count (λ w. start_entry image.now (w - first_entry_word)) words.old words.new }
 {
-    for page in 0..PAGES {
-        words[FIRST_ENTRY + page] = start_entry(image, page as u32);
+    for page in 0..PAGE_COUNT {
+        words[(FIRST_ENTRY_WORD + page) as usize] = start_entry(image, page);
     }
 }
 
 /// Writes the words at the start into words that are 0.
 fn write_start(words: &mut [u64], image: &Image)
-    requires { AllZero 1618002 words.old }
+    requires { AllZero word_count words.old }
     ensures { IsStart image.now words.new }
 {
     write_image(words, image);
@@ -140,7 +145,7 @@ fn write_start(words: &mut [u64], image: &Image)
 pub(crate) fn start_words(alloc: Global, image: &Image) -> Result<Vec<u64>, NoMemory>
     ensures { IfOk result (λ words. IsStart image.now words.items) }
 {
-    let mut words = zeros(alloc, WORDS)?;
+    let mut words = zeros(alloc, WORD_COUNT as usize)?;
     write_start(&mut words, image);
     Ok(words)
 }

@@ -1,3 +1,5 @@
+//! Worked values: the start words of a small image, each access, places, lists.
+
 ghost use Rattle.std.specs.Prelude.{◌≡◌, ◌≤◌, ◌+◌, ◌++◌, length, IfOk};
 ghost use Rattle.cet_words.specs.Access.{InRange};
 
@@ -126,6 +128,8 @@ fn keeps_lists(rt: HostRuntime) -> Result<(), Fail> {
     words.push(alloc, u64::MAX)?;
     assert_eq!(rt; words.as_slice(), [u64::MAX].as_slice());
     assert_eq!(rt; words.get(1), None);
+    words.extend_with(alloc, 3, 2)?;
+    assert_eq!(rt; words.as_slice(), [u64::MAX, 3, 3].as_slice());
     let signal = Signal {
         thread: 0,
         count: 6,
