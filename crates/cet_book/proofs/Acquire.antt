@@ -3,8 +3,12 @@ use Rattle.std.proofs.Common.{◌≡◌, ◌≢◌, ℕ, ◌+◌, ◌<◌, ◌�
 use Rattle.std.proofs.lemmas.Bool.{false≢true}
 use Rattle.std.proofs.lemmas.Bool.Decides.{eqb_tells, nat_tests}
 use Rattle.std.proofs.lemmas.List.Sums.{passes_at_first}
-use Rattle.cet_book.specs.Book.{Previous, Holder, Maker, Current, Parked, Left, Lost, Region, Book, nowhere, region, put, top, is_parked, has_token, parked_at, is_current, current_of, acquire}
-use Rattle.cet_book.proofs.Shape.{HolderFits, Fits, is_left, one, links, Shape}
+use Rattle.cet_book.specs.declared.entries.Entry.TheVariants.{Previous}
+use Rattle.cet_book.specs.declared.entries.Holder.{Holder}
+use Rattle.cet_book.specs.declared.entries.Holder.TheVariants.{Maker, Current, Parked, Left, Lost}
+use Rattle.cet_book.specs.Book.{Region, Book, nowhere, region, put, top, is_parked, has_token, parked_at, is_current, current_of, acquire}
+use Rattle.cet_book.specs.Shape.{HolderFits, Fits, Shape}
+use Rattle.cet_book.specs.Facts.{IsParkedAt, is_left, one, links}
 use Rattle.cet_book.proofs.Edits.{Owned, owned_there, owned_only, is_there, put_all, put2_all, SameBounds, same-put2, bounds_same, apart_same, current_of-put, current_of_is}
 
 parked_true : (h : Holder) → is_parked h ≡ true → h ≡ Parked
@@ -15,9 +19,6 @@ parked_true (Left x) e = absurd (false≢true e)
 parked_true Lost e = absurd (false≢true e)
 
 -- the region is parked, and its token stands at p
-pub record IsParkedAt (p : ℕ) (r : Region) : Type 0 where
-  pub parked : r.holder ≡ Parked
-  pub top_is : top r ≡ p + 8
 
 token_true : (p : ℕ) (r : Region) (c : Bool) → is_parked r.holder ≡ c → has_token p r ≡ true → IsParkedAt p r
 token_true p r true h e = record { parked = parked_true r.holder h; top_is = let q : eqb (top r) (p + 8) ≡ true = rw h at e in grind (arith, nat_tests) }

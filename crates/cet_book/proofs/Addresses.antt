@@ -1,8 +1,10 @@
 -- The addresses that calls and signals are to return to lie in the image, or at its end. Source: own.
 use Rattle.std.proofs.Common.{◌≡◌, ℕ, zero, suc, ◌≤◌, List, [], ◌∷◌, Some, replicate, sym, subst}
-use Rattle.cet_words.specs.Layout.{image_end, image_start}
 use Rattle.cet_words.specs.Change.{Change, Called, Returned, Raised, Acquired, Released, Claimed, Seeded, Born, Pushed, Popped, Ended, Busied, Freed}
-use Rattle.cet_book.specs.Book.{Entry, Call, Restorer, Frame, Previous, Blank, Holder, Region, Book, region, relist, unlink, acquire, raised, first_book}
+use Rattle.cet_book.specs.declared.entries.Entry.{Entry}
+use Rattle.cet_book.specs.declared.entries.Entry.TheVariants.{Call, Restorer, Frame, Previous, Blank}
+use Rattle.cet_book.specs.declared.entries.Holder.{Holder}
+use Rattle.cet_book.specs.Book.{Region, Book, region, relist, unlink, acquire, raised, first_book}
 use Rattle.cet_book.proofs.Edits.{Owned}
 use Rattle.cet_book.proofs.Relist.{relist_all}
 use Rattle.cet_book.proofs.Unlink.{Linked, unlink_all}
@@ -11,24 +13,7 @@ use Rattle.cet_book.proofs.Hand.{hand, Hands, hand_all}
 use Rattle.cet_book.proofs.Append.{append, Appends, append_all}
 use Rattle.cet_book.proofs.Removes.{Removal, plain, linked, raised_all}
 use Rattle.cet_book.proofs.First.{first_empty}
-
-abbrev pub IsReturn : ℕ → Type 0
-IsReturn x = (image_start ≤ x) × (x ≤ image_end)
-
-abbrev pub EntryReturns : Entry → Type 0
-EntryReturns (Call x) = IsReturn x
-EntryReturns (Restorer x) = IsReturn x
-EntryReturns Frame = Unit {0}
-EntryReturns (Previous s) = Unit {0}
-EntryReturns Blank = Unit {0}
-
-abbrev pub AllReturn : List Entry → Type 0
-AllReturn [] = Unit {0}
-AllReturn (e ∷ es) = EntryReturns e × AllReturn es
-
--- of all entries of a book
-abbrev pub Returns : Book → Type 0
-Returns b = (i : ℕ) → AllReturn (region b i).entries
+use Rattle.cet_book.specs.Facts.{AllReturn, IsReturn, Returns}
 
 -- of what a change adds
 abbrev pub ChangeReturns : Change → Type 0

@@ -7,8 +7,12 @@ use Rattle.std.proofs.lemmas.List.{get_or_past, get_or_append_left}
 use Rattle.std.proofs.lemmas.List.Folds.{position_or_len_push}
 use Rattle.std.proofs.lemmas.List.Sums.{prefix_len-le-length}
 use Rattle.std.proofs.Math.Seq.{get_or-append_seam}
-use Rattle.cet_book.specs.Book.{Entry, Maker, Current, Parked, Lost, Region, Book, nowhere, region, is_current, current_of, last_end}
-use Rattle.cet_book.proofs.Shape.{Bounds, HolderFits, Fits, is_left, one, links, Shape}
+use Rattle.cet_words.specs.Layout.{shadow_start}
+use Rattle.cet_book.specs.declared.entries.Entry.{Entry}
+use Rattle.cet_book.specs.declared.entries.Holder.TheVariants.{Maker, Current, Parked, Lost}
+use Rattle.cet_book.specs.Book.{Region, Book, nowhere, region, is_current, current_of, last_end}
+use Rattle.cet_book.specs.Facts.{Bounds, is_left, one, links}
+use Rattle.cet_book.specs.Shape.{HolderFits, Fits, Shape}
 use Rattle.cet_book.proofs.Edits.{is_there}
 
 -- the book with one more region
@@ -120,7 +124,7 @@ module _ {r : Region} {b : Book} (a : Appends r b) where
 last_end_is : (b : Book) → 0 < length b.regions → last_end b ≡ (region b (length b.regions - 1)).end
 last_end_is b l = let some : nat_lt 0 (length b.regions) ≡ true = grind (arith, nat_tests) in rw some refl
 
-pub last_end_low : (b : Book) → Shape b → 0x200000000 ≤ last_end b
+pub last_end_low : (b : Book) → Shape b → shadow_start ≤ last_end b
 last_end_low b h = elim (cases_lt 0 (length b.regions)) [
   | inl l ↦
       let inside : length b.regions - 1 < length b.regions = omega arith in

@@ -1,9 +1,12 @@
 -- What comes to a thread by a change: nothing, but by its own Acquired or Busied, or by a birth of it. Source: own.
-use Rattle.std.proofs.Common.{◌≡◌, ◌≢◌, ℕ, ◌<◌, ◌≤◌, ◌⊎◌, inl, inr, List, [], ◌∷◌, length, Option, Some, None, refl, sym, ◌∙◌, ap, subst, arith, get_or}
+use Rattle.std.proofs.Common.{◌≡◌, ◌≢◌, ℕ, ◌+◌, ◌<◌, ◌≤◌, ◌⊎◌, inl, inr, List, [], ◌∷◌, length, Option, Some, None, refl, sym, ◌∙◌, ap, subst, arith, get_or}
 use Rattle.std.proofs.lemmas.Bool.Decides.{eqb_tells}
 use Rattle.cet_words.specs.Change.{Change, Called, Returned, Raised, Acquired, Released, Claimed, Seeded, Born, Pushed, Popped, Ended, Busied, Freed}
-use Rattle.cet_book.specs.Book.{Entry, Holder, Lost, Region, Book, region, stack_of, put_stack, relist, unlink, acquire, book_after, books_after}
-use Rattle.cet_book.proofs.Shape.{IsBook}
+use Rattle.cet_book.specs.declared.entries.Entry.{Entry}
+use Rattle.cet_book.specs.declared.entries.Holder.{Holder}
+use Rattle.cet_book.specs.declared.entries.Holder.TheVariants.{Lost}
+use Rattle.cet_book.specs.Book.{Region, Book, region, stack_of, put_stack, relist, unlink, acquire, book_after, books_after}
+use Rattle.cet_book.specs.Shape.{IsBook}
 use Rattle.cet_book.proofs.Edits.{Owned, SameBounds}
 use Rattle.cet_book.proofs.Relist.{relist_same, relist_holder}
 use Rattle.cet_book.proofs.Unlink.{Gone, lost, parked, Linked, unlink_same, unlink_all}
@@ -11,7 +14,7 @@ use Rattle.cet_book.proofs.Acquire.{Takes, acquire_same, acquire_all}
 use Rattle.cet_book.proofs.Hand.{hand, Hands, hand_same, hand_all, seeds, bears, ends}
 use Rattle.cet_book.proofs.Append.{append, Appends, append_length, append_old}
 use Rattle.cet_book.proofs.Removes.{Removal, plain, linked, raised_all}
-use Rattle.cet_book.proofs.Relies.{Owns}
+use Rattle.cet_book.specs.Facts.{Owns}
 use Rattle.cet_book.proofs.Changes.{same_book, then_by}
 use Rattle.cet_book.proofs.Kept.{NotBorn, NoneBorn, book_kept}
 use Rattle.cet_book.proofs.Edited.{Edited, relists, unlinks, raises, acquires, appends, seeds_region, bears_child, ends_region, busies, frees, edited}
@@ -160,3 +163,42 @@ changes_come t y [] b next h e none apart = subst (Comes y b) (same_book t b nex
 changes_come t y (c ∷ cs) b next h e none apart =
     let d = then_by t (book_after t b c) next cs e in
     comes_then (change_comes t y c b d.0 h d.1 none.0 apart.0) (changes_come t y cs d.0 next (book_kept t c b d.0 h d.1).book d.2 none.1 apart.1)
+
+-- ---- regions stay in the list
+
+abbrev child_of : Change → ℕ
+child_of (Born child start) = child
+child_of c = 0
+
+-- a thread that neither makes the change nor is born by it
+bystander : (t : ℕ) (c : Change) → NotBorn c (t + child_of c + 1)
+bystander t (Born child start) = λ z. omega arith
+bystander t c = tt
+
+-- every region stays in the list, and where it lies
+pub record Lasts (b next : Book) : Type 0 where
+  pub grows : length b.regions ≤ length next.regions
+  pub start : (i : ℕ) → i < length b.regions → (region next i).start ≡ (region b i).start
+  pub end : (i : ℕ) → i < length b.regions → (region next i).end ≡ (region b i).end
+
+change_lasts : (t : ℕ) (c : Change) (b next : Book) → IsBook b → book_after t b c ≡ Some next → Lasts b next
+change_lasts t c b next h e =
+    let others = change_comes t (t + child_of c + 1) c b next h e (bystander t c) (inl (λ z. omega arith)) in
+    record { grows = others.grows; start = others.start; end = others.end }
+
+lasts_then : {a b c : Book} → Lasts a b → Lasts b c → Lasts a c
+lasts_then {a = a} {b = b} first second =
+    let grows = first.grows in
+    let further = second.grows in
+    let there : (i : ℕ) → i < length a.regions → i < length b.regions = λ i l. omega arith in
+    record {
+      grows = omega arith;
+      start = λ i l. second.start i (there i l) ∙ first.start i l;
+      end = λ i l. second.end i (there i l) ∙ first.end i l;
+    }
+
+pub changes_last : (t : ℕ) (cs : List Change) (b next : Book) → IsBook b → books_after t b cs ≡ Some next → Lasts b next
+changes_last t [] b next h e = subst (Lasts b) (same_book t b next [] refl e) (record { grows = omega arith; start = λ i l. refl; end = λ i l. refl })
+changes_last t (c ∷ cs) b next h e =
+    let d = then_by t (book_after t b c) next cs e in
+    lasts_then (change_lasts t c b d.0 h d.1) (changes_last t cs d.0 next (book_kept t c b d.0 h d.1).book d.2)

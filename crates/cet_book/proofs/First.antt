@@ -1,7 +1,9 @@
 -- The book at the start is one that changes lead from. Source: own.
 use Rattle.std.proofs.Common.{◌≡◌, ℕ, zero, suc, ◌<◌, [], None, refl, sym, ◌∙◌, ap, subst, arith}
-use Rattle.cet_book.specs.Book.{Current, Region, nowhere, region, current_of, stack_of, first_book}
-use Rattle.cet_book.proofs.Shape.{Bounds, Fits, is_left, one, links, Shape, IsBook}
+use Rattle.cet_book.specs.declared.entries.Holder.TheVariants.{Current}
+use Rattle.cet_book.specs.Book.{Region, nowhere, region, current_of, stack_of, first_book}
+use Rattle.cet_book.specs.Facts.{Bounds, is_left, one, links}
+use Rattle.cet_book.specs.Shape.{Fits, Shape, IsBook}
 use Rattle.cet_book.proofs.Edits.{current_of_is}
 
 first_all : (P : ℕ → Region → Type 0) → P 0 (region first_book 0) → ((i : ℕ) → P (suc i) nowhere) → (i : ℕ) → P i (region first_book i)

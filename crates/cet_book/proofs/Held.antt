@@ -4,7 +4,7 @@ use Rattle.std.specs.Prelude.{◌↔◌}
 use Rattle.std.proofs.lemmas.Bool.Decides.{eqb_tells}
 use Rattle.cet_words.specs.Change.{Change, Busied, Freed}
 use Rattle.cet_book.specs.Book.{Book, stack_of, put_stack, book_after}
-use Rattle.cet_book.proofs.Shape.{StackShape, IsBook}
+use Rattle.cet_book.specs.Shape.{StackShape, IsBook}
 use Rattle.cet_book.proofs.Kept.{book_kept, SameHolders}
 use Rattle.cet_book.proofs.Edited.{busied_is, freed_is}
 use Rattle.cet_book.proofs.Supervisor.{stack_there, stack_of-put_stack}
@@ -37,7 +37,7 @@ taken_held t k b inside free j =
       | inr u ↦ (λ e. absurd (u.1 (let v = e in cc)), λ e. absurd (free j (sym (rw u.0 at at) ∙ e)))
     ]
 
-given_held : (t k : ℕ) (b : Book) → k < length b.stacks → StackShape b.stacks → stack_of b k ≡ Some t → Held t (put_stack b k None) None
+pub given_held : (t k : ℕ) (b : Book) → k < length b.stacks → StackShape b.stacks → stack_of b k ≡ Some t → Held t (put_stack b k None) None
 given_held t k b inside shape held j =
     let at = stack_of-put_stack b k j None inside in (
       λ e. cc,

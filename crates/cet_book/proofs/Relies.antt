@@ -1,7 +1,12 @@
 -- What a thread can rely on in the book whatever other threads change. Source: own.
 use Rattle.std.proofs.Common.{◌≡◌, ◌≢◌, ℕ, ◌<◌, ◌≤◌, ◌⊎◌, inl, inr, List, length, replicate, Option, Some, refl, sym, ◌∙◌, ap, subst, arith}
 use Rattle.std.proofs.lemmas.Bool.Decides.{eqb_tells}
-use Rattle.cet_book.specs.Book.{Entry, Blank, Holder, Maker, Current, Parked, Left, Lost, Region, Book, region, is_current, current_of, stack_of, put_stack, relist, unlink, acquire, raised}
+use Rattle.cet_book.specs.declared.entries.Entry.{Entry}
+use Rattle.cet_book.specs.declared.entries.Entry.TheVariants.{Blank}
+use Rattle.cet_book.specs.declared.entries.Holder.{Holder}
+use Rattle.cet_book.specs.declared.entries.Holder.TheVariants.{Maker, Current, Parked, Left, Lost}
+use Rattle.cet_book.specs.Book.{Region, Book, region, is_current, current_of, stack_of, put_stack, relist, unlink, acquire, raised}
+use Rattle.cet_book.specs.Facts.{Owns}
 use Rattle.cet_book.proofs.Edits.{Owned}
 use Rattle.cet_book.proofs.Relist.{relist_same, relist_other, relist_current}
 use Rattle.cet_book.proofs.Unlink.{Gone, lost, Linked, linked_left, unlink_same, unlink_other, unlink_current}
@@ -10,14 +15,6 @@ use Rattle.cet_book.proofs.Hand.{hand, Hands, Made, hand_same, hand_other, hand_
 use Rattle.cet_book.proofs.Append.{append, Appends, append_length, append_old, append_current, append_none, nowhere_there}
 use Rattle.cet_book.proofs.Removes.{Removal, plain, linked, raised_all}
 use Rattle.cet_book.proofs.Supervisor.{stack_of-put_stack, current_of-put_stack}
-
--- the holder names the thread
-abbrev pub Owns : ℕ → Holder → Type 0
-Owns t (Maker x) = x ≡ t
-Owns t (Current x) = x ≡ t
-Owns t Parked = ⊥
-Owns t (Left q) = ⊥
-Owns t Lost = ⊥
 
 pub record Relies (t : ℕ) (b now : Book) : Type 0 where
   pub grows : length b.regions ≤ length now.regions
