@@ -3,13 +3,15 @@ use Rattle.std.proofs.Common.{◌≡◌, ℕ, ◌⊎◌, inl, inr, Bool, ◌&&�
 use Rattle.std.specs.Prelude.{nat_lt, nat_le, if◌then◌else◌}
 use Rattle.cet_words.specs.Change.{Change, Called, Returned, Ended, Busied, Freed}
 use Rattle.cet_words.specs.declared.accesses.Access.{Access}
-use Rattle.cet_book.specs.Book.{Lost, Call, Book, region, stack_of, put_stack, holds_stack, is_free, held_by, relist, returned, book_after, books_after}
+use Rattle.cet_book.specs.declared.entries.Holder.TheVariants.{Lost}
+use Rattle.cet_book.specs.declared.entries.Entry.TheVariants.{Call}
+use Rattle.cet_book.specs.Book.{Book, region, stack_of, put_stack, holds_stack, is_free, held_by, relist, returned, book_after, books_after}
 use Rattle.cet_book.proofs.Cases.{if_some}
 use Rattle.cet_book.proofs.Edits.{Owned, SameBounds}
 use Rattle.cet_book.proofs.Hand.{hand, ends, hand_same, hand_all}
 use Rattle.cet_book.proofs.Relist.{relist_same, relist_holder}
 use Rattle.cet_book.proofs.Removes.{Removal, plain, linked, returned_is}
-use Rattle.cet_book.proofs.Shape.{Shape}
+use Rattle.cet_book.specs.Shape.{Shape}
 use Rattle.cet_book.proofs.Unlink.{unlink_all, unlink_same}
 use Rattle.cet_book.proofs.Ways.{with_current_at, called_way, ended_way}
 use Rattle.cet_own.proofs.Classes.{Owed, looks, loads, stores, exchanges, swaps, adds, clears, pushes, pops, refused, enters, leaves, exits}

@@ -8,13 +8,16 @@ use Rattle.cet_words.specs.Job.{ImageData}
 use Rattle.cet_words.specs.Change.{Change}
 use Rattle.cet_words.specs.declared.accesses.Access.{Access}
 use Rattle.cet_words.specs.declared.accesses.Access.TheVariants as access
-use Rattle.cet_book.specs.Book.{Entry, Call, Restorer, Frame, Previous, Blank, Lost, Book, region, top, current_of, put_stack, book_after, books_after}
+use Rattle.cet_book.specs.declared.entries.Entry.{Entry}
+use Rattle.cet_book.specs.declared.entries.Entry.TheVariants.{Call, Restorer, Frame, Previous, Blank}
+use Rattle.cet_book.specs.declared.entries.Holder.TheVariants.{Lost}
+use Rattle.cet_book.specs.Book.{Book, region, top, current_of, put_stack, book_after, books_after}
 use Rattle.cet_book.proofs.Edits.{Owned}
 use Rattle.cet_book.proofs.Hand.{hand, hand_all, hand_same, ends}
 use Rattle.cet_book.proofs.Addresses.{ChangeReturns}
 use Rattle.cet_book.proofs.Kept.{book_kept}
 use Rattle.cet_book.specs.Stack.{slot, word_of, tops}
-use Rattle.cet_book.proofs.StackLaws.{Stack}
+use Rattle.cet_book.specs.Facts.{Stack}
 use Rattle.cet_own.proofs.Holds.{Sound, IsEntry, busy, Holds}
 use Rattle.cet_own.proofs.Kept.{size_kept, lists_out, pages_out, pages_same, gates_set, gates_same}
 use Rattle.cet_own.proofs.Classes.{HeadWord, Known}

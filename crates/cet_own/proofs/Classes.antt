@@ -5,8 +5,10 @@ use Rattle.cet_words.specs.Layout.{entry_word, token, token_word, first_kernel_p
 use Rattle.cet_words.specs.Change.{Change, Called, Returned, Ended, Busied, Freed}
 use Rattle.cet_words.specs.declared.accesses.Access.{Access}
 use Rattle.cet_words.specs.declared.accesses.Access.TheVariants as access
-use Rattle.cet_book.specs.Book.{Entry, Current, Book, region, top, current_of, stack_of, books_after}
-use Rattle.cet_book.proofs.Addresses.{IsReturn}
+use Rattle.cet_book.specs.declared.entries.Entry.{Entry}
+use Rattle.cet_book.specs.declared.entries.Holder.TheVariants.{Current}
+use Rattle.cet_book.specs.Book.{Book, region, top, current_of, stack_of, books_after}
+use Rattle.cet_book.specs.Facts.{IsReturn}
 use Rattle.cet_book.proofs.Relies.{Relies, relies_same, relies_then}
 use Rattle.cet_book.specs.Stack.{slot, word_of, tops}
 use Rattle.cet_own.proofs.Frame.{Rules}

@@ -8,12 +8,13 @@ use Rattle.cet_words.specs.Entries.{entry_of}
 use Rattle.cet_words.specs.Job.{JobData, IsJob, ImageData}
 use Rattle.cet_words.specs.Layout.{entry_word, token, token_word, first_entry_word, first_kernel_page, first_kernel_word, first_mmap_page, first_region_end, first_shadow_page, first_stack_word, page_count}
 use Rattle.cet_words.specs.Start.{kernel_word, is_present, start_entry, start_word, IsStart}
-use Rattle.cet_book.specs.Book.{Current, region, top, current_of, stack_of, first_book}
+use Rattle.cet_book.specs.declared.entries.Holder.TheVariants.{Current}
+use Rattle.cet_book.specs.Book.{region, top, current_of, stack_of, first_book}
 use Rattle.cet_book.proofs.Addresses.{first_returns}
 use Rattle.cet_book.proofs.Edits.{current_holds}
 use Rattle.cet_book.proofs.First.{first_empty, first_current, first_is_book, no_stack}
 use Rattle.cet_book.specs.Stack.{tops}
-use Rattle.cet_book.proofs.StackLaws.{Stack}
+use Rattle.cet_book.specs.Facts.{Stack}
 use Rattle.cet_page.specs.Core.{first_core, unheld}
 use Rattle.cet_page.specs.Machine.{Machine, Thread, Starts}
 use Rattle.cet_page.proofs.WithinLaws.{first_waits}

@@ -7,8 +7,9 @@ use Rattle.cet_words.specs.Layout.{token, token_page, token_word, kernel_return}
 use Rattle.cet_words.specs.Job.{JobData}
 use Rattle.cet_words.specs.Change.{Busied, Freed, Ended}
 use Rattle.cet_isa.specs.declared.threads.Arch.{Arch}
-use Rattle.cet_book.specs.Book.{Lost, Book, region, top, stack_of, put_stack, current_of, book_after}
-use Rattle.cet_book.proofs.Shape.{StackShape}
+use Rattle.cet_book.specs.declared.entries.Holder.TheVariants.{Lost}
+use Rattle.cet_book.specs.Book.{Book, region, top, stack_of, put_stack, current_of, book_after}
+use Rattle.cet_book.specs.Shape.{StackShape}
 use Rattle.cet_book.proofs.Edits.{Owned, owned, current_holds}
 use Rattle.cet_book.proofs.Hand.{hand, end_none}
 use Rattle.cet_book.proofs.Supervisor.{stack_of-put_stack, current_of-put_stack}

@@ -6,8 +6,10 @@ use Rattle.cet_words.specs.Access.{answer}
 use Rattle.cet_words.specs.Job.{ImageData}
 use Rattle.cet_words.specs.Change.{Change, Called, Returned, Ended, Busied, Freed}
 use Rattle.cet_words.specs.declared.accesses.Access.{Access}
-use Rattle.cet_book.specs.Book.{Call, Lost, Book, region, stack_of, put_stack, relist, returned, book_after, books_after}
-use Rattle.cet_book.proofs.Shape.{StackShape}
+use Rattle.cet_book.specs.declared.entries.Entry.TheVariants.{Call}
+use Rattle.cet_book.specs.declared.entries.Holder.TheVariants.{Lost}
+use Rattle.cet_book.specs.Book.{Book, region, stack_of, put_stack, relist, returned, book_after, books_after}
+use Rattle.cet_book.specs.Shape.{StackShape}
 use Rattle.cet_book.proofs.Hand.{hand}
 use Rattle.cet_book.proofs.Removes.{returned_is, shortened}
 use Rattle.cet_book.proofs.Supervisor.{stack_of-put_stack}

@@ -4,10 +4,9 @@ use Rattle.cet_words.specs.Entries.{entry_of}
 use Rattle.cet_words.specs.Job.{ImageData}
 use Rattle.cet_words.specs.Layout.{entry_word, token, token_word, first_entry_word, first_kernel_page, first_kernel_word, first_mmap_page, first_shadow_page, first_shadow_word, page_count, shadow_start, word_count}
 use Rattle.cet_book.specs.Book.{Book, Region, region, top, stack_of}
-use Rattle.cet_book.proofs.Shape.{IsBook}
-use Rattle.cet_book.proofs.Addresses.{Returns}
+use Rattle.cet_book.specs.Shape.{IsBook}
+use Rattle.cet_book.specs.Facts.{Returns, Stack}
 use Rattle.cet_book.specs.Stack.{tops}
-use Rattle.cet_book.proofs.StackLaws.{Stack}
 
 -- the facts on the book alone
 pub record Sound (b : Book) : Type 0 where

@@ -8,7 +8,9 @@ use Rattle.cet_words.specs.Layout.{entry_word, token, token_word}
 use Rattle.cet_words.specs.Change.{Change, Called, Returned, Ended, Busied, Freed}
 use Rattle.cet_words.specs.declared.accesses.Access.{Access}
 use Rattle.cet_words.specs.declared.accesses.Access.TheVariants as access
-use Rattle.cet_book.specs.Book.{Call, Current, Lost, Book, region, top, stack_of, put_stack, relist, returned, book_after, books_after}
+use Rattle.cet_book.specs.declared.entries.Entry.TheVariants.{Call}
+use Rattle.cet_book.specs.declared.entries.Holder.TheVariants.{Current, Lost}
+use Rattle.cet_book.specs.Book.{Book, region, top, stack_of, put_stack, relist, returned, book_after, books_after}
 use Rattle.cet_book.proofs.Edits.{Owned}
 use Rattle.cet_book.proofs.Hand.{hand}
 use Rattle.cet_book.proofs.Removes.{returned_is}

@@ -5,11 +5,11 @@ use Rattle.std.proofs.lemmas.Bool.Decides.{eqb_tells}
 use Rattle.cet_words.specs.Job.{ImageData}
 use Rattle.cet_words.specs.Layout.{entry_word, token, token_word, first_entry_word, first_kernel_page, first_kernel_word, first_shadow_page, first_shadow_word, word_count}
 use Rattle.cet_book.specs.Book.{Book, region, top, stack_of, put_stack}
-use Rattle.cet_book.proofs.Shape.{Shape}
+use Rattle.cet_book.specs.Shape.{Shape}
 use Rattle.cet_book.proofs.Edits.{SameBounds}
 use Rattle.cet_book.proofs.Supervisor.{stack_of-put_stack}
 use Rattle.cet_book.specs.Stack.{tops}
-use Rattle.cet_book.proofs.StackLaws.{Stack}
+use Rattle.cet_book.specs.Facts.{Stack}
 use Rattle.cet_own.proofs.Holds.{LiesIn, IsEntry, Pages, busy, Gates, Holds, IsOut}
 use Rattle.cet_own.proofs.Writes.{stack_agrees, top_even, list_out}
 

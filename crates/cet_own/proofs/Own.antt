@@ -2,15 +2,17 @@
 use Rattle.std.proofs.Common.{◌≡◌, ◌≢◌, ℕ, suc, ◌+◌, ◌-◌, ◌*◌, ◌≤◌, List, ◌∷◌, length, refl, sym, ap, subst, arith}
 use Rattle.std.specs.Prelude.{slice_set}
 use Rattle.cet_words.specs.Job.{ImageData}
-use Rattle.cet_book.specs.Book.{Entry, Call, Current, Lost, Previous, Book, Region, region, top, relist, unlink}
-use Rattle.cet_book.proofs.Shape.{links}
+use Rattle.cet_book.specs.declared.entries.Entry.{Entry}
+use Rattle.cet_book.specs.declared.entries.Entry.TheVariants.{Call, Previous}
+use Rattle.cet_book.specs.declared.entries.Holder.TheVariants.{Current, Lost}
+use Rattle.cet_book.specs.Book.{Book, Region, region, top, relist, unlink}
+use Rattle.cet_book.specs.Facts.{links, Stack}
 use Rattle.cet_book.proofs.Edits.{Owned, owned_there}
 use Rattle.cet_book.proofs.Acquire.{unlinked}
 use Rattle.cet_book.proofs.Relist.{relist_all, relist_same, relist_other}
 use Rattle.cet_book.proofs.Unlink.{unlink_all, unlink_same, unlink_top}
 use Rattle.cet_book.proofs.Removes.{Removal, plain, linked}
 use Rattle.cet_book.specs.Stack.{slot, tops}
-use Rattle.cet_book.proofs.StackLaws.{Stack}
 use Rattle.cet_own.proofs.Holds.{Sound, In, Holds}
 use Rattle.cet_own.proofs.Writes.{Place, in_place, list_kept, list_free, slot_same}
 use Rattle.cet_own.proofs.Kept.{size_kept, pages_out, pages_same, gates_out, gates_same}

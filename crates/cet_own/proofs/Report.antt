@@ -3,9 +3,10 @@ use Rattle.std.specs.Prelude.{◌≡◌, ℕ, ◌+◌, ◌*◌, ◌≤◌, List,
 use Rattle.cet_words.specs.Layout.{first_region_end, first_region_start}
 use Rattle.cet_words.specs.Job.{JobData}
 use Rattle.cet_isa.specs.declared.threads.End.TheVariants as ending
-use Rattle.cet_book.specs.Book.{Current, Lost, Book, Region, top}
+use Rattle.cet_book.specs.declared.entries.Holder.TheVariants.{Current, Lost}
+use Rattle.cet_book.specs.Book.{Book, Region, top}
 use Rattle.cet_book.specs.Stack.{tops}
-use Rattle.cet_book.proofs.StackLaws.{Stack}
+use Rattle.cet_book.specs.Facts.{Stack}
 use Rattle.cet_page.specs.Machine.{Machine, Thread, run}
 use Rattle.cet_own.specs.Event.{book_of}
 use Rattle.cet_own.specs.Safe.{KeepsStack}

@@ -6,7 +6,8 @@ use Rattle.cet_words.specs.Job.{JobData, IsJob}
 use Rattle.cet_words.specs.Change.{Change}
 use Rattle.cet_isa.specs.declared.threads.End.{End}
 use Rattle.cet_isa.specs.declared.threads.End.TheVariants as ending
-use Rattle.cet_book.specs.Book.{Current, Lost, Book, Region, nowhere, region, current_of, book_after, books_after, first_book}
+use Rattle.cet_book.specs.declared.entries.Holder.TheVariants.{Current, Lost}
+use Rattle.cet_book.specs.Book.{Book, Region, nowhere, region, current_of, book_after, books_after, first_book}
 use Rattle.cet_book.proofs.Edits.{current_holds}
 use Rattle.cet_book.specs.Stack.{tops}
 use Rattle.cet_page.specs.Machine.{Machine, Thread, step, run, Starts}

@@ -9,8 +9,9 @@ use Rattle.cet_words.specs.Job.{JobData, IsJob}
 use Rattle.cet_words.specs.declared.accesses.Access.{Access}
 use Rattle.cet_isa.specs.declared.threads.End.{End}
 use Rattle.cet_isa.specs.declared.threads.End.TheVariants as ending
-use Rattle.cet_book.specs.Book.{Book, Current, region, current_of, stack_of, books_after}
-use Rattle.cet_book.proofs.Shape.{Shape}
+use Rattle.cet_book.specs.Book.{Book, region, current_of, stack_of, books_after}
+use Rattle.cet_book.specs.declared.entries.Holder.TheVariants.{Current}
+use Rattle.cet_book.specs.Shape.{Shape}
 use Rattle.cet_book.proofs.Edits.{is_there, current_holds}
 use Rattle.cet_page.specs.Core.{Core, unheld, come, next_changes, taken}
 use Rattle.cet_page.specs.Row.{row}
