@@ -1,5 +1,5 @@
 -- What a thread claims of CALL and RET. Source: own.
-use Rattle.std.proofs.Common.{◌≡◌, ℕ, ◌+◌, ◌-◌, ◌/◌, ◌<◌, ◌≤◌, List, [], ◌∷◌, length, Option, refl, ◌∙◌, ap, subst, arith, Bool, true, false}
+use Rattle.std.proofs.Common.{◌≡◌, ℕ, ◌+◌, ◌-◌, ◌/◌, ◌<◌, ◌≤◌, List, [], ◌∷◌, length, Option, refl, ◌∙◌, ap, subst, arith, false}
 use Rattle.std.specs.Prelude.{◌==◌, ℤ}
 use Rattle.std.specs.Int.{w64, cast_unsigned}
 use Rattle.cet_words.specs.Job.{JobData}
@@ -35,9 +35,9 @@ use Rattle.cet_own.proofs.Classes.{pushes}
 use Rattle.cet_own.proofs.Parts.{Claim, one_after, claim_bind, claim_cond, tested_then, store_look_then, shadow_look_then, store_then}
 use Rattle.cet_own.proofs.OperandParts.{read_operand_then}
 use Rattle.cet_own.proofs.Places.{page_word, shadow_slot, below_is, room_below}
-use Rattle.cet_own.specs.Past.{Progress, progress, untouched, drew, numbered, frame_pushed, below_frame}
-use Rattle.cet_page.specs.Trail.{Visit, visit}
-use Rattle.cet_own.proofs.Resting.{Resting, rest_kept, Inside, inside_kept, rest_stacked, inside_stacked, rested, row_starts}
+use Rattle.cet_own.specs.Past.{progress, untouched, drew, numbered}
+use Rattle.cet_page.specs.Trail.{Visit}
+use Rattle.cet_own.proofs.Resting.{Resting, rest_kept, rest_stacked, rested}
 
 -- the entries of a thread's region
 abbrev pub entries_of : (t : ℕ) → Book → List Entry

@@ -1,20 +1,19 @@
 -- How a class with one change pays what it owes. Source: own.
-use Rattle.std.proofs.Common.{◌≡◌, ◌≢◌, ℕ, ◌+◌, ◌-◌, ◌<◌, inl, List, [], ◌∷◌, Some, refl, sym, ◌∙◌, ap, subst, arith}
+use Rattle.std.proofs.Common.{◌≡◌, ◌≢◌, ℕ, inl, List, [], ◌∷◌, Some, refl, sym, subst, arith}
 use Rattle.std.specs.Prelude.{slice_index, slice_set}
 use Rattle.cet_words.specs.Access.{answer, after}
 use Rattle.cet_words.specs.Job.{ImageData}
 use Rattle.cet_words.specs.Change.{Change}
 use Rattle.cet_words.specs.declared.accesses.Access.{Access}
-use Rattle.cet_words.specs.declared.accesses.Access.TheVariants as access
 use Rattle.cet_book.proofs.Addresses.{ChangeReturns}
-use Rattle.cet_book.specs.Book.{Book, region, book_after, books_after}
+use Rattle.cet_book.specs.Book.{Book, region, book_after}
 use Rattle.cet_book.specs.Facts.{Owns}
 use Rattle.cet_book.specs.Stack.{slot}
 use Rattle.cet_book.specs.Facts.{Place, In}
 use Rattle.cet_own.proofs.Holds.{Sound, Holds}
 use Rattle.cet_page.specs.Trail.{Visit}
 use Rattle.cet_own.specs.Stands.{OwnWord, own_slot, below_token}
-use Rattle.cet_own.proofs.Still.{Still, KeepsRestorers}
+use Rattle.cet_own.proofs.Still.{KeepsRestorers}
 use Rattle.cet_own.proofs.Counters.{CountsBy, LeavesCounters}
 use Rattle.cet_own.proofs.Owed.{Owed}
 use Rattle.cet_own.proofs.ClassLaws.{one_book, sound_after}

@@ -1,6 +1,6 @@
 -- Each class of access keeps words and book in step, and leaves to other threads what they rely on. Source: own.
-use Rattle.std.proofs.Common.{◌≡◌, ◌≢◌, ℕ, ◌+◌, ◌-◌, ◌*◌, ◌^◌, ◌<◌, ◌≤◌, inr, Bool, true, false, List, [], ◌∷◌, Option, Some, None, refl, sym, ◌∙◌, ap, subst, arith}
-use Rattle.std.specs.Prelude.{slice_index, slice_set, option_and_then, ◌==◌}
+use Rattle.std.proofs.Common.{◌≡◌, ◌≢◌, ℕ, ◌+◌, ◌-◌, ◌<◌, inr, Bool, true, false, List, [], ◌∷◌, Option, Some, refl, sym, ◌∙◌, ap, subst, arith}
+use Rattle.std.specs.Prelude.{slice_index, slice_set, ◌==◌}
 use Rattle.std.proofs.lemmas.Bool.Decides.{nat_tests}
 use Rattle.cet_words.specs.Access.{answer, after}
 use Rattle.cet_words.specs.Job.{ImageData}
@@ -17,7 +17,7 @@ use Rattle.cet_book.specs.Facts.{Stack}
 use Rattle.cet_page.specs.Gate.{token, token_word}
 use Rattle.cet_own.specs.Past.{next_word, draw_word}
 use Rattle.cet_own.proofs.Holds.{Sound, Holds}
-use Rattle.cet_own.specs.Stands.{IsEntry, busy}
+use Rattle.cet_own.specs.Stands.{IsRestorer, IsEntry, busy}
 use Rattle.cet_own.proofs.Marks.{marks_out, marks_same, tokens_end}
 use Rattle.cet_own.proofs.Kept.{restorers_out, size_kept, lists_out, pages_out, pages_same, gates_set, gates_same}
 use Rattle.cet_book.proofs.Changes.{same_book, then_by}
@@ -40,6 +40,7 @@ known image t words past b a counters_tell h still = record {
       let w : answer words a ≡ slice_index words next_word = ap (answer words) e in
       subst (λ x. HasNone x b) (sym w) (counters_tell.none (omega arith));
   next_few = λ n e. (let w : answer words a ≡ slice_index words next_word = ap (answer words) e in let few = counters_tell.nexts in omega arith);
+  code = λ s l e. subst (IsRestorer image) (sym (ap (answer words) e)) (h.restorers.executable s l);
   restorer = λ s l r e z. still.restorer s l r (sym (ap (answer words) e) ∙ z);
   left = λ w x own k e. ap (answer words) e ∙ still.word w x own k;
   sound = h.sound;

@@ -1,5 +1,5 @@
 -- The classes of accesses that rows make: each pays what is owed. Source: own.
-use Rattle.std.proofs.Common.{◌≡◌, ◌≢◌, ℕ, ◌+◌, ◌-◌, ◌%◌, ◌^◌, ◌<◌, ◌≤◌, inl, inr, ◌⊎◌, Bool, true, false, List, [], ◌∷◌, length, Option, Some, None, refl, sym, ◌∙◌, ap, subst, arith, get_or-set_other}
+use Rattle.std.proofs.Common.{◌≡◌, ◌≢◌, ℕ, ◌+◌, ◌-◌, ◌%◌, ◌^◌, ◌<◌, ◌≤◌, inl, inr, Bool, true, false, List, [], ◌∷◌, Option, Some, None, refl, sym, ◌∙◌, ap, subst, arith, get_or-set_other}
 use Rattle.std.specs.Prelude.{slice_index, slice_set, ◌==◌, if◌then◌else◌}
 use Rattle.cet_words.specs.Access.{answer, after}
 use Rattle.cet_words.specs.Job.{ImageData}
@@ -11,12 +11,9 @@ use Rattle.cet_book.specs.Facts.{IsReturn, Place, In}
 use Rattle.cet_book.specs.Book.{Call, Current, Lost, Book, region, top, stack_of, put_stack, relist, returned, book_after, books_after}
 use Rattle.cet_book.proofs.Edits.{Owned}
 use Rattle.cet_book.proofs.Hand.{hand}
-use Rattle.cet_book.proofs.Relist.{relist_same, relist_holder}
-use Rattle.cet_book.proofs.Removes.{Removal, shortened, returned_is}
-use Rattle.cet_book.proofs.Shape.{Shape, StackShape}
+use Rattle.cet_book.proofs.Removes.{Removal, returned_is}
 use Rattle.cet_book.specs.Stack.{slot}
 use Rattle.cet_book.proofs.Ways.{with_current_at, called_way, ended_way, freed_way, busied_way}
-use Rattle.cet_page.specs.Core.{held_after}
 use Rattle.cet_page.specs.Gate.{token, token_word, kernel_return}
 use Rattle.cet_book.specs.Facts.{Owns}
 use Rattle.cet_own.proofs.Holds.{Sound, Holds, IsOut, NoAction}

@@ -14,7 +14,7 @@ use Rattle.cet_book.proofs.First.{first_empty, first_current, first_is_book}
 use Rattle.cet_book.specs.Stack.{slot, slot_word, tops}
 use Rattle.cet_book.specs.Facts.{Stack, Place, LiesIn}
 use Rattle.cet_page.specs.Core.{first_core, unheld}
-use Rattle.cet_page.specs.Gate.{handler_word, token, token_word}
+use Rattle.cet_page.specs.Gate.{token, token_word}
 use Rattle.cet_page.specs.Machine.{Machine, Thread, Starts}
 use Rattle.cet_page.proofs.WithinLaws.{first_waits}
 use Rattle.cet_own.specs.Past.{restorer_word, next_word, draw_word}

@@ -1,5 +1,5 @@
 -- What a thread claims of the gate's way in and way out. Source: own.
-use Rattle.std.proofs.Common.{◌≡◌, ℕ, ◌+◌, ◌-◌, ◌<◌, ◌≤◌, inl, inr, Bool, true, [], ◌∷◌, length, Option, Some, None, refl, sym, ◌∙◌, ap, arith, eqb, false, List}
+use Rattle.std.proofs.Common.{◌≡◌, ℕ, ◌+◌, ◌-◌, ◌<◌, ◌≤◌, inl, inr, true, [], ◌∷◌, length, Option, Some, None, refl, sym, ◌∙◌, ap, arith, eqb, List}
 use Rattle.std.specs.Prelude.{option_map, option_and_then}
 use Rattle.std.proofs.lemmas.Bool.{cases_lt}
 use Rattle.std.proofs.lemmas.Bool.Decides.{eqb_tells, nat_tests}
@@ -15,18 +15,17 @@ use Rattle.cet_book.proofs.Ways.{busied_way, freed_way, ended_way}
 use Rattle.cet_page.specs.Script.{Script, ◌>>=◌}
 use Rattle.cet_page.specs.Parts.{exchange_as, store, store_as, load, load_as}
 use Rattle.cet_page.specs.Gate.{token, token_page, token_word, kernel_return, gate_in, gate_out}
-use Rattle.cet_own.proofs.Holds.{IsOut}
 use Rattle.cet_own.specs.Stands.{busy}
-use Rattle.cet_own.proofs.Standing.{Stacked, AtRest, HasNone}
+use Rattle.cet_own.proofs.Standing.{Stacked, HasNone}
 use Rattle.cet_book.proofs.Held.{Free}
 use Rattle.cet_book.proofs.Held.{given_held}
 use Rattle.cet_own.specs.Stands.{below_token}
 use Rattle.cet_own.proofs.Owed.{State, own_stack}
 use Rattle.cet_own.proofs.Classes.{refused, settles, reloads, enters, leaves, exits}
-use Rattle.cet_own.proofs.Parts.{Claim, one_after, claim_bind, peek_then, load_then, store_then}
-use Rattle.cet_own.specs.Past.{Progress, progress, untouched, drew, left_in, frame_pushed, below_frame}
-use Rattle.cet_page.specs.Trail.{Visit, visit}
-use Rattle.cet_own.proofs.Resting.{Resting, rest_kept, Inside, inside_kept, inside_left, rest_stacked, inside_stacked, rested, row_starts}
+use Rattle.cet_own.proofs.Parts.{Claim, one_after, claim_bind, peek_then}
+use Rattle.cet_own.specs.Past.{Progress, progress, untouched, left_in, below_frame}
+use Rattle.cet_page.specs.Trail.{Visit}
+use Rattle.cet_own.proofs.Resting.{Resting, rest_kept, Inside, inside_kept, inside_left, rest_stacked, inside_stacked}
 
 -- regions don't see supervisor stacks
 stacked_put : (t k ssp : ℕ) (o : Option ℕ) (b : Book) → Stacked t b ssp → Stacked t (put_stack b k o) ssp

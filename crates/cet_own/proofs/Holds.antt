@@ -1,13 +1,13 @@
 -- Words and book in step: what ties each word that matters to the book. An access of any class keeps it. Source: own.
-use Rattle.std.specs.Prelude.{◌≡◌, ◌≢◌, ℕ, ◌+◌, ◌-◌, ◌*◌, ◌%◌, ◌<◌, ◌≤◌, ◌⊎◌, List, length, slice_index, Option, Some, None}
+use Rattle.std.specs.Prelude.{◌≡◌, ◌≢◌, ℕ, ◌+◌, ◌-◌, ◌*◌, ◌<◌, ◌≤◌, ◌⊎◌, List, length, slice_index}
 use Rattle.cet_words.specs.Job.{ImageData}
 use Rattle.cet_words.specs.Layout.{entry_word, entry_of}
 use Rattle.cet_book.specs.Facts.{In, LiesIn, Place, IsParkedAt, Returns, Stack}
 use Rattle.cet_book.specs.Book.{Holder, Maker, Current, Parked, Left, Lost, Book, Region, region, top, stack_of}
 use Rattle.cet_book.proofs.Shape.{IsBook}
 use Rattle.cet_book.specs.Stack.{slot_word, tops}
-use Rattle.cet_own.specs.Past.{restorer_word, draw_word, next_word}
-use Rattle.cet_page.specs.Gate.{token, token_word, handler_word}
+use Rattle.cet_own.specs.Past.{draw_word, next_word}
+use Rattle.cet_page.specs.Gate.{token, token_word}
 use Rattle.cet_own.specs.Stands.{Restorers, IsEntry, busy}
 
 -- the facts on the book alone

@@ -1,6 +1,6 @@
 -- The last book of a run, while no row draws pages of the shadow area or bears a thread: one thread, and one region. This
 -- file goes when reports are read from many stacks. Source: own.
-use Rattle.std.proofs.Common.{◌≡◌, ◌≢◌, ℕ, ◌+◌, ◌*◌, ◌<◌, ◌≤◌, ◌⊎◌, inl, inr, List, [], ◌∷◌, ◌++◌, length, Option, Some, None, refl, sym, ◌∙◌, ap, subst, arith, get_or}
+use Rattle.std.proofs.Common.{◌≡◌, ℕ, ◌+◌, ◌*◌, ◌<◌, ◌≤◌, ◌⊎◌, inl, inr, List, [], ◌∷◌, ◌++◌, length, Option, Some, None, refl, sym, ◌∙◌, ap, subst, arith, get_or}
 use Rattle.std.specs.Prelude.{option_and_then, slice_get, slice_index}
 use Rattle.std.proofs.lemmas.Bool.{cases_lt}
 use Rattle.cet_words.specs.Job.{JobData, IsJob}
@@ -12,12 +12,12 @@ use Rattle.cet_book.specs.Facts.{Stack}
 use Rattle.cet_book.specs.Stack.{tops}
 use Rattle.cet_book.proofs.Shape.{IsBook}
 use Rattle.cet_book.proofs.Edits.{SameBounds, current_holds, owned_there}
-use Rattle.cet_book.proofs.Acquire.{taken_there, taken_apart, acquire_same}
+use Rattle.cet_book.proofs.Acquire.{taken_there, taken_apart}
 use Rattle.cet_book.proofs.Append.{append_length}
 use Rattle.cet_book.proofs.Changes.{same_book, then_by}
 use Rattle.cet_book.proofs.Comes.{changes_last}
 use Rattle.cet_book.proofs.Edited.{Edited, relists, unlinks, raises, acquires, appends, seeds_region, bears_child, ends_region, busies, frees, edited}
-use Rattle.cet_book.proofs.Hand.{hand, hand_same, hand_here, seeds, bears, ends, made_there}
+use Rattle.cet_book.proofs.Hand.{hand, hand_same, hand_here, ends, made_there}
 use Rattle.cet_book.proofs.Kept.{book_kept}
 use Rattle.cet_book.proofs.Relist.{relist_same, relist_holder}
 use Rattle.cet_book.proofs.Removes.{raised_shortened}

@@ -1,20 +1,19 @@
 -- Tokens, zeros and the counter of draws after an access. Three kinds serve every class: a change of the book without a
 -- write, a write that the marks don't see, and a write at an address of a region. Source: own.
-use Rattle.std.proofs.Common.{◌≡◌, ◌≢◌, ℕ, ◌+◌, ◌-◌, ◌*◌, ◌%◌, ◌<◌, ◌≤◌, ◌⊎◌, inl, inr, List, ◌∷◌, length, refl, sym, ◌∙◌, ap, subst, arith, get_or-set_other}
-use Rattle.std.specs.Prelude.{slice_index, slice_set}
+use Rattle.std.proofs.Common.{◌≡◌, ◌≢◌, ℕ, ◌+◌, ◌-◌, ◌<◌, ◌≤◌, ◌⊎◌, inl, inr, List, length, refl, sym, ◌∙◌, ap, subst, arith, get_or-set_other}
+use Rattle.std.specs.Prelude.{slice_set}
 use Rattle.std.proofs.lemmas.Bool.Decides.{eqb_tells}
 use Rattle.cet_book.specs.Facts.{IsParkedAt, In, Place}
 use Rattle.cet_book.proofs.Acquire.{parked_fits}
-use Rattle.cet_book.specs.Book.{Entry, Maker, Current, Parked, Left, Lost, Region, Book, region, top, relist, unlink}
+use Rattle.cet_book.specs.Book.{Entry, Current, Parked, Lost, Region, Book, region, top, relist, unlink}
 use Rattle.cet_book.proofs.Edits.{Owned, is_there, SameBounds}
 use Rattle.cet_book.proofs.Hand.{hand, hand_all, hand_same, hand_other, ends}
 use Rattle.cet_book.proofs.Relist.{relist_all, relist_same, relist_other}
-use Rattle.cet_book.proofs.Removes.{Removal, plain, linked}
 use Rattle.cet_book.proofs.Shape.{Shape}
 use Rattle.cet_book.specs.Stack.{slot, slot_word}
 use Rattle.cet_book.proofs.Unlink.{Linked, linked_left, unlink_all, unlink_same, unlink_other}
 use Rattle.cet_own.specs.Past.{draw_word}
-use Rattle.cet_own.proofs.Holds.{IsMaker, InUse, Marks}
+use Rattle.cet_own.proofs.Holds.{IsMaker, Marks}
 use Rattle.cet_own.proofs.Writes.{in_one, in_place, slot_same, slot_other, slot_out}
 
 -- the token of a parked region stands in it

@@ -1,5 +1,5 @@
 -- A thread that was just born stands at the start of its first row. Source: own.
-use Rattle.std.proofs.Common.{◌≡◌, ◌≢◌, ℕ, ◌+◌, ◌<◌, ◌≤◌, List, [], ◌∷◌, length, Option, Some, None, refl, sym, ◌∙◌, ap, subst, arith}
+use Rattle.std.proofs.Common.{◌≡◌, ℕ, ◌+◌, [], Some, refl, ◌∙◌, subst, arith}
 use Rattle.cet_words.specs.Job.{JobData, IsJob}
 use Rattle.cet_isa.specs.declared.threads.Arch.{Arch}
 use Rattle.cet_book.specs.Book.{Current, Book, region}
@@ -17,7 +17,7 @@ use Rattle.cet_own.proofs.Rows.{row_claim}
 use Rattle.cet_own.proofs.Standing.{stacked, AtRest}
 use Rattle.cet_book.proofs.Held.{Free}
 use Rattle.cet_own.specs.Stands.{HasMade}
-use Rattle.cet_own.proofs.Threads.{InRow, ThreadStands}
+use Rattle.cet_own.proofs.Threads.{ThreadStands}
 
 -- thread x is new: it has made no access and no record, and has number y
 pub record IsNewborn (job : JobData) (next : State) (y : ℕ) (x : Thread) : Type 0 where

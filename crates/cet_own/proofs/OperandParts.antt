@@ -1,5 +1,5 @@
 -- What a thread claims of the accesses to operands, each with what follows it. Source: own.
-use Rattle.std.proofs.Common.{ℕ, ◌%◌, refl, Bool, true, false, List, [], ◌∷◌}
+use Rattle.std.proofs.Common.{ℕ, ◌%◌, refl, List}
 use Rattle.std.specs.Int.{cast_unsigned}
 use Rattle.cet_words.specs.Job.{JobData}
 use Rattle.cet_words.specs.Layout.{word_in}
@@ -14,14 +14,13 @@ use Rattle.cet_page.specs.Values.{width, limit}
 use Rattle.cet_page.specs.declared.checks.Kind.TheVariants as kind
 use Rattle.cet_page.specs.declared.checks.Who.TheVariants.{User}
 use Rattle.cet_own.proofs.Holds.{IsOut}
-use Rattle.cet_own.proofs.Standing.{AtRest}
 use Rattle.cet_own.proofs.Owed.{State}
 use Rattle.cet_own.proofs.Classes.{loads, stores}
 use Rattle.cet_own.proofs.Parts.{Claim, claim_bind, tested_then, look_then, store_look_then}
 use Rattle.cet_own.proofs.Places.{page_word}
-use Rattle.cet_own.specs.Past.{Progress, progress, untouched, drew, frame_pushed, below_frame}
-use Rattle.cet_page.specs.Trail.{Visit, visit}
-use Rattle.cet_own.proofs.Resting.{Resting, rest_kept, Inside, inside_kept, rest_stacked, inside_stacked, rested, row_starts}
+use Rattle.cet_own.specs.Past.{progress, untouched}
+use Rattle.cet_page.specs.Trail.{Visit}
+use Rattle.cet_own.proofs.Resting.{Resting, rest_kept, rest_stacked}
 
 module _ (job : JobData) (arch : Arch) where
   pub load_at_then : {A : Type 0} (Q : List Visit → State → State → A → Type 0) (past : List Visit) (before s : State) (addr count : ℕ) (f : ℕ → Script A) → Resting arch.number untouched (progress past) s.book arch.ssp → ((p : List Visit) (z n : State) → Resting arch.number untouched (progress p) n.book arch.ssp → (v : ℕ) → Claim job arch Q p z n (f v)) → Claim job arch Q past before s (load_at addr count >>= f)

@@ -1,23 +1,21 @@
 -- Each add to a counter is paid for by a record of its thread, so the counters stay small. They are sums over the machine's
 -- threads, outside of what claims speak of. Source: own.
-use Rattle.std.proofs.Common.{◌≡◌, ◌≢◌, ℕ, ◌+◌, ◌*◌, ◌%◌, ◌^◌, ◌<◌, ◌≤◌, Bool, true, false, List, [], ◌∷◌, length, Option, Some, None, refl, sym, ◌∙◌, ap, subst, arith, get_or, get_or-set_same, get_or-set_other}
+use Rattle.std.proofs.Common.{◌≡◌, ◌≢◌, ℕ, ◌+◌, ◌*◌, ◌%◌, ◌^◌, ◌<◌, ◌≤◌, Bool, true, false, List, [], length, Option, Some, None, refl, sym, ap, subst, arith, get_or, get_or-set_same, get_or-set_other}
 use Rattle.std.specs.Prelude.{slice_index, slice_set, slice_get, ◌==◌, ◌||◌, if◌then◌else◌, min, sum_by, All, bit_or, bit_and}
-use Rattle.std.proofs.lemmas.Bool.{false≢true, eqb-true}
 use Rattle.std.proofs.lemmas.Bool.Decides.{nat_tests}
 use Rattle.std.proofs.lemmas.List.Elements.{All-from_get_or}
 use Rattle.std.proofs.lemmas.List.Sums.{sum_by-set, sum_by-le}
 use Rattle.std.proofs.lemmas.Option.{get_or_from_slice_get, slice_get-get_or, slice_get_past, slice_get_within}
-use Rattle.cet_words.specs.Access.{answer, after}
+use Rattle.cet_words.specs.Access.{after}
 use Rattle.cet_words.specs.Job.{JobData, IsJob}
 use Rattle.cet_words.specs.declared.accesses.Access.{Access}
 use Rattle.cet_words.specs.declared.accesses.Access.TheVariants as access
 use Rattle.cet_isa.specs.declared.threads.Arch.{Arch}
-use Rattle.cet_isa.specs.declared.threads.Fault.{Fault}
 use Rattle.cet_words.specs.Change.{Change}
 use Rattle.cet_book.specs.Book.{Book}
 use Rattle.cet_book.specs.Facts.{one}
 use Rattle.cet_page.specs.Core.{Core, unheld, core_by}
-use Rattle.cet_page.specs.Machine.{Machine, Thread}
+use Rattle.cet_page.specs.Machine.{Thread}
 use Rattle.cet_page.proofs.OrderlyLaws.{OnOver}
 use Rattle.cet_page.proofs.OrderlyRows.{Ends}
 use Rattle.cet_page.specs.Row.{row}
@@ -26,7 +24,7 @@ use Rattle.cet_page.specs.Seen.{Seen}
 use Rattle.cet_page.specs.declared.finishes.Finish.{Finish}
 use Rattle.cet_page.specs.declared.finishes.Finish.TheVariants.{Noted, Posted, Exited, Stopped}
 use Rattle.cet_own.proofs.Calls as calls
-use Rattle.cet_page.specs.Trail.{trail_of, Visit, visit}
+use Rattle.cet_page.specs.Trail.{trail_of, Visit}
 use Rattle.cet_own.proofs.Frame.{OnCame}
 use Rattle.cet_own.proofs.Owed.{State, rules}
 use Rattle.cet_own.proofs.Parts.{During, Fails}

@@ -1,6 +1,6 @@
 -- Where a thread stands within a row. What the row has done so far is an index read off its trail, which an access that
 -- does none of it leaves as it is; so claims needn't speak of trails. Source: own.
-use Rattle.std.proofs.Common.{◌≡◌, ◌≢◌, ℕ, Bool, true, false, Option, Some, refl, sym, ◌∙◌, subst}
+use Rattle.std.proofs.Common.{◌≡◌, ℕ, Bool, false, Option, Some, refl, sym, ◌∙◌, subst}
 use Rattle.cet_page.specs.Gate.{kernel_return}
 use Rattle.cet_book.specs.Book.{Book, stack_of}
 use Rattle.cet_book.proofs.Relies.{Relies}

@@ -26,16 +26,16 @@ use Rattle.cet_page.specs.declared.checks.Kind.TheVariants as kind
 use Rattle.cet_page.specs.declared.checks.Who.TheVariants.{User}
 use Rattle.cet_own.specs.Safe.{GoesRight}
 use Rattle.cet_book.specs.Facts.{In}
-use Rattle.cet_own.proofs.Standing.{stacked, AtRest}
+use Rattle.cet_own.proofs.Standing.{stacked}
 use Rattle.cet_book.proofs.Held.{Free}
 use Rattle.cet_own.proofs.Owed.{State, state_after, HeadWord, Known, Owed, own_stack}
 use Rattle.cet_own.proofs.Classes.{loads, pops}
 use Rattle.cet_own.proofs.Parts.{Claim, one_after, claim_bind, tested_then, look_then, shadow_look_then, load_then}
 use Rattle.cet_own.proofs.Places.{shadow_slot, above_is, entry_at}
 use Rattle.cet_own.proofs.Calls.{entries_of, EndsRow, own_kept}
-use Rattle.cet_own.specs.Past.{Progress, progress, untouched, drew, frame_pushed, below_frame}
+use Rattle.cet_own.specs.Past.{progress, untouched}
 use Rattle.cet_page.specs.Trail.{Visit, visit}
-use Rattle.cet_own.proofs.Resting.{Resting, rest_kept, Inside, inside_kept, rest_stacked, inside_stacked, rested, row_starts}
+use Rattle.cet_own.proofs.Resting.{Resting, rest_kept, rest_stacked, rested}
 
 -- ---- where it goes
 

@@ -1,5 +1,5 @@
 -- What a thread claims of each of its rows. Source: own.
-use Rattle.std.proofs.Common.{◌≢◌, ◌≡◌, ℕ, zero, suc, ◌+◌, ◌-◌, ◌<◌, ◌≤◌, inl, inr, true, length, Option, Some, None, refl, ap, subst, arith, Bool, false, List, [], ◌∷◌}
+use Rattle.std.proofs.Common.{◌≢◌, ◌≡◌, ℕ, zero, suc, ◌+◌, ◌-◌, ◌<◌, ◌≤◌, inl, inr, true, length, Option, Some, None, refl, ap, subst, arith, false, List, [], ◌∷◌}
 use Rattle.std.specs.Prelude.{◌==◌}
 use Rattle.std.proofs.Math.Nat.{mod-lt}
 use Rattle.cet_words.specs.Bytes.{code_byte}
@@ -36,7 +36,7 @@ use Rattle.cet_own.proofs.GateParts.{gate_in_then, gate_out_then, exit_out_then}
 use Rattle.cet_own.proofs.Calls.{Ends, EndsRow, call_relative_claim, call_indirect_claim}
 use Rattle.cet_own.proofs.Returns.{ret_claim}
 use Rattle.cet_own.proofs.Steps.{push_claim, pop_claim, leave_claim, jump_indirect_claim, arithmetic_claim}
-use Rattle.cet_own.specs.Past.{Progress, progress, untouched, drew, left_in, frame_pushed, below_frame}
+use Rattle.cet_own.specs.Past.{Progress, progress, untouched, left_in}
 use Rattle.cet_page.specs.Trail.{Visit, visit}
 use Rattle.cet_own.proofs.Resting.{Resting, rest_kept, Inside, inside_kept, inside_left, rest_stacked, inside_stacked, rested, row_starts}
 

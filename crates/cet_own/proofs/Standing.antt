@@ -1,6 +1,6 @@
 -- Where a thread stands on its shadow stack, and that other threads leave it there. Source: own.
-use Rattle.std.proofs.Common.{◌≡◌, ◌≢◌, ℕ, ◌+◌, ◌<◌, ◌≤◌, length, Some, ◌∙◌, arith}
-use Rattle.cet_book.specs.Book.{Book, region, current_of, stack_of}
+use Rattle.std.proofs.Common.{ℕ, ◌≤◌, length, ◌∙◌, arith}
+use Rattle.cet_book.specs.Book.{Book, current_of}
 use Rattle.cet_book.proofs.Shape.{Shape}
 use Rattle.cet_book.proofs.Relies.{Relies}
 use Rattle.cet_book.proofs.Top.{AtTop, top_relies}

@@ -1,21 +1,20 @@
 -- The facts of the ownership invariant, from what is carried from turn to turn. Source: own.
-use Rattle.std.proofs.Common.{◌≡◌, ◌≢◌, ℕ, ◌+◌, ◌-◌, ◌*◌, ◌/◌, ◌%◌, ◌^◌, ◌<◌, ◌≤◌, inl, inr, List, [], Option, Some, None, refl, sym, ◌∙◌, ap, subst, arith, lit<}
-use Rattle.std.specs.Prelude.{◌↔◌, slice_index, slice_get, bit_or}
+use Rattle.std.proofs.Common.{◌≡◌, ℕ, ◌+◌, ◌-◌, ◌*◌, ◌/◌, ◌%◌, ◌^◌, ◌<◌, inl, inr, List, Option, Some, None, refl, sym, ◌∙◌, ap, subst, arith, lit<}
+use Rattle.std.specs.Prelude.{◌↔◌, slice_get, bit_or}
 use Rattle.std.specs.Int.Bits.{or_zero_r}
 use Rattle.std.proofs.lemmas.Nat.{or_block}
 use Rattle.std.proofs.lemmas.Bool.Decides.{eqb_tells}
-use Rattle.cet_words.specs.Job.{JobData, ImageData}
+use Rattle.cet_words.specs.Job.{JobData}
 use Rattle.cet_isa.specs.declared.threads.End.{End}
-use Rattle.cet_isa.specs.declared.threads.End.TheVariants as ending
-use Rattle.cet_book.specs.Book.{Maker, Parked, Book, region, top}
+use Rattle.cet_book.specs.Book.{Book, region, top}
 use Rattle.cet_book.specs.Facts.{In, Place}
 use Rattle.cet_book.specs.Stack.{slot_word}
 use Rattle.cet_book.proofs.Hand.{Made, made_empty}
 use Rattle.cet_page.specs.Machine.{Machine, Thread}
 use Rattle.cet_page.specs.Within.{CoreAt}
 use Rattle.cet_own.specs.Restores.{IsToken}
-use Rattle.cet_own.specs.Stands.{ShadowPages, Counters, Counts, AllBounds, RowValues, Stands}
-use Rattle.cet_own.proofs.Holds.{IsMaker, Marks, Holds}
+use Rattle.cet_own.specs.Stands.{ShadowPages, AllBounds, Stands}
+use Rattle.cet_own.proofs.Holds.{IsMaker, Marks}
 use Rattle.cet_own.proofs.Owed.{State}
 use Rattle.cet_own.proofs.Threads.{CoreStands, ThreadStands}
 use Rattle.cet_own.proofs.Turns.{Invariant, safe_at}

@@ -1,6 +1,6 @@
 -- What a thread claims of the instructions that leave the shadow stack alone: moves, arithmetic, locked operations, pushes, pops
 -- and jumps. Source: own.
-use Rattle.std.proofs.Common.{ℕ, ◌%◌, Bool, true, false, cond, List, [], ◌∷◌}
+use Rattle.std.proofs.Common.{ℕ, ◌%◌, Bool, true, false, cond, List}
 use Rattle.std.specs.Prelude.{◌==◌}
 use Rattle.cet_words.specs.Job.{JobData}
 use Rattle.cet_isa.specs.Address.{canonical}
@@ -23,14 +23,13 @@ use Rattle.cet_page.specs.Operands.{register, assigned, settled}
 use Rattle.cet_page.specs.Parts.{invalid_opcode}
 use Rattle.cet_page.specs.Values.{limit, shifted_left, shifted_right, shifted_arithmetic}
 use Rattle.cet_own.specs.Safe.{IsElsewhere}
-use Rattle.cet_own.proofs.Standing.{AtRest}
 use Rattle.cet_own.proofs.Owed.{State}
 use Rattle.cet_own.proofs.Parts.{Fails, Claim, claim_cond, exchange_then, swap_then, fetch_add_then}
 use Rattle.cet_own.proofs.OperandParts.{load_at_then, write_place_then, store_at_then, read_operand_then}
 use Rattle.cet_own.proofs.Calls.{EndsRow}
-use Rattle.cet_own.specs.Past.{Progress, progress, untouched, drew, frame_pushed, below_frame}
-use Rattle.cet_page.specs.Trail.{Visit, visit}
-use Rattle.cet_own.proofs.Resting.{Resting, rest_kept, Inside, inside_kept, rest_stacked, inside_stacked, rested, row_starts}
+use Rattle.cet_own.specs.Past.{Progress, progress, untouched}
+use Rattle.cet_page.specs.Trail.{Visit}
+use Rattle.cet_own.proofs.Resting.{Resting, rest_kept, rest_stacked, rested}
 
 module _ (job : JobData) (arch : Arch) (free : IsElsewhere job arch) where
   -- an invalid opcode elsewhere than at a return

@@ -1,5 +1,5 @@
 -- What a row has seen of words of its thread's own is still there, whatever the others did since. Source: own.
-use Rattle.std.proofs.Common.{◌⊎◌, ◌-◌, ◌≡◌, ◌≢◌, ℕ, ◌+◌, ◌%◌, ◌^◌, ◌<◌, ◌≤◌, inl, inr, Bool, true, false, cond, List, [], ◌∷◌, length, Option, Some, None, refl, sym, ◌∙◌, ap, subst, arith, get_or-set_other, get_or-set_same}
+use Rattle.std.proofs.Common.{◌⊎◌, ◌≡◌, ◌≢◌, ℕ, ◌+◌, ◌%◌, ◌^◌, ◌<◌, inl, inr, Bool, true, false, List, [], ◌∷◌, length, Some, None, refl, sym, ◌∙◌, ap, subst, arith, get_or-set_other, get_or-set_same}
 use Rattle.std.specs.Prelude.{◌||◌, nat_lt, slice_index, slice_set, bit_or, bit_and, ◌==◌, if◌then◌else◌}
 use Rattle.std.proofs.lemmas.Bool.Decides.{eqb_tells, nat_tests}
 use Rattle.std.proofs.lemmas.Bool.{false≢true, eqb-true}
@@ -8,13 +8,10 @@ use Rattle.cet_words.specs.Job.{ImageData}
 use Rattle.cet_words.specs.Change.{Change, Acquired, Busied}
 use Rattle.cet_words.specs.declared.accesses.Access.{Access}
 use Rattle.cet_words.specs.declared.accesses.Access.TheVariants as access
-use Rattle.cet_book.specs.Book.{Book, region, stack_of, books_after}
+use Rattle.cet_book.specs.Book.{Book, books_after}
 use Rattle.cet_book.proofs.Shape.{IsBook}
 use Rattle.cet_book.proofs.Kept.{NoneBorn}
-use Rattle.cet_book.specs.Facts.{Owns}
-use Rattle.cet_book.specs.Stack.{slot}
-use Rattle.cet_page.specs.Gate.{token_word, handler_word}
-use Rattle.cet_book.specs.Facts.{Place, In}
+use Rattle.cet_page.specs.Gate.{handler_word}
 use Rattle.cet_own.proofs.Writes.{in_there}
 use Rattle.cet_page.specs.Trail.{Visit, visit}
 use Rattle.cet_own.specs.Past.{is_taking, touches, leaves_word, takes_any, left_in, restorer_word, shows_restorer, has_restorer}

@@ -19,7 +19,6 @@ use Rattle.cet_own.specs.Safe.{NotedReturns}
 use Rattle.cet_own.specs.Restores.{NotedRestores}
 use Rattle.cet_page.specs.Trail.{Visit, trail_of}
 use Rattle.cet_page.specs.Trail.{trail}
-use Rattle.cet_own.specs.Past.{in_force}
 use Rattle.cet_own.proofs.Still.{Still, still_none}
 use Rattle.cet_own.proofs.Frame.{SteadyAt, others_at, OnCame}
 use Rattle.cet_own.proofs.Standing.{stacked_kept, AtRest, rest_kept, HasNone, none_kept}

@@ -1,5 +1,5 @@
 -- One access of a thread keeps where all threads stand. Source: own.
-use Rattle.std.proofs.Common.{[], ◌∷◌, inl, add-one, ◌≡◌, ◌≢◌, ℕ, ◌+◌, ◌*◌, ◌<◌, ◌≤◌, ap, arith, false, List, Option, Some, refl, sym, subst, ◌∙◌}
+use Rattle.std.proofs.Common.{[], ◌∷◌, add-one, ◌≡◌, ◌≢◌, ℕ, ◌+◌, ◌*◌, ◌≤◌, ap, arith, false, List, Option, Some, refl, sym, subst, ◌∙◌}
 use Rattle.cet_words.specs.Access.{answer, after}
 use Rattle.cet_words.specs.Job.{JobData, IsJob}
 use Rattle.cet_words.specs.declared.accesses.Access.{Access}
@@ -17,7 +17,7 @@ use Rattle.cet_page.proofs.OrderlyRows.{Ends, orderly_row}
 use Rattle.std.specs.Prelude.{slice_index, ◌||◌}
 use Rattle.cet_book.specs.Facts.{one}
 use Rattle.cet_own.specs.Stands.{paid_draws, paid_births}
-use Rattle.cet_own.proofs.Paid.{Pays, counted, came_pays}
+use Rattle.cet_own.proofs.Paid.{counted, came_pays}
 use Rattle.cet_own.proofs.Counters.{CountsBy, no_count, draws_pages, bears_child, bears_nobody, none_born, CountersTell}
 use Rattle.cet_words.specs.Change.{Change}
 use Rattle.cet_page.proofs.OrderlyLaws.{Results, over_play}

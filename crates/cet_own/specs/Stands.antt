@@ -4,8 +4,8 @@ use Rattle.std.specs.Prelude.{◌≡◌, ◌≢◌, ℕ, ◌+◌, ◌-◌, ◌*�
 use Rattle.cet_words.specs.Bytes.{code_byte}
 use Rattle.cet_words.specs.Job.{JobData, ImageData}
 use Rattle.cet_words.specs.Layout.{entry_word, entry_of}
-use Rattle.cet_book.specs.Book.{Holder, Maker, Book, region, top, stack_of}
-use Rattle.cet_book.specs.Facts.{Bounds, In, Place, LiesIn, Owns, Stack, IsParkedAt, is_left, one, links, Returns}
+use Rattle.cet_book.specs.Book.{Maker, Book, region, top, stack_of}
+use Rattle.cet_book.specs.Facts.{Bounds, In, Place, LiesIn, Owns, Stack, is_left, one, links, Returns}
 use Rattle.cet_book.specs.Stack.{slot, slot_word, tops}
 use Rattle.cet_page.specs.Core.{Core}
 use Rattle.cet_page.specs.Gate.{token, token_word, handler_word}
