@@ -14,6 +14,7 @@ use Rattle.cet_book.specs.declared.entries.Holder.TheVariants.{Parked, Current, 
 use Rattle.cet_book.proofs.Edits.{current_holds}
 use Rattle.cet_book.proofs.Acquire.{parked_at_holds}
 use Rattle.std.proofs.lemmas.Bool.{cases_lt}
+use Rattle.cet_words.specs.Layout.{first_region_start}
 use Rattle.cet_words.specs.Change as change
 use Rattle.cet_book.specs.Shape.{StackShape, IsBook, HolderFits}
 use Rattle.cet_book.specs.Facts.{links, one, is_left}
@@ -237,7 +238,7 @@ takeable t p m q R g h em im eq iq =
     }
 
 -- there are few regions
-high : (R : List Region) (g : List (Option ℕ)) → IsBook (book_of R g) → (i : ℕ) → i < length R → 0x200001000 + i ≤ (get_or R i nowhere).start
+high : (R : List Region) (g : List (Option ℕ)) → IsBook (book_of R g) → (i : ℕ) → i < length R → first_region_start + i ≤ (get_or R i nowhere).start
 high R g h zero l = let b = h.shape.bounds 0 l in let low = b.low in omega arith
 high R g h (suc i) l =
     let r = high R g h i (omega arith) in

@@ -4,6 +4,7 @@ use Rattle.std.specs.Prelude.{◌==◌}
 use Rattle.std.proofs.lemmas.Bool.{false≢true, cases_lt}
 use Rattle.std.proofs.lemmas.Bool.Decides.{eqb_tells, nat_tests}
 use Rattle.std.proofs.lemmas.List.{get_or-map}
+use Rattle.cet_words.specs.Layout.{image_end}
 use Rattle.cet_words.specs.Job.{ImageData}
 use Rattle.cet_book.specs.declared.entries.Entry.{Entry}
 use Rattle.cet_book.specs.declared.entries.Entry.TheVariants.{Call, Restorer, Frame, Previous, Blank}
@@ -92,11 +93,11 @@ module _ {image : ImageData} {W : List ℕ} {b : Book} {numbers : List ℕ} {rs 
   unfolding followed
   follow_right k l [] a ms sub ret r seen = r
   follow_right k l (Call x ∷ es) a ms sub ret r seen =
-      let low : x ≤ 0x800000 = ret.0.1 in
+      let low : x ≤ image_end = ret.0.1 in
       rw (top_out rs (x - 3) shown.Left ms (place_out g (x - 3) (λ m h. absurd (omega arith))) r.size, followed)
       (follow_right k l es (a + 8) ms (λ s n. sub s (λ z. n (let q : links s (Call x ∷ es) ≡ links s es = omega arith in omega arith))) ret.1 r seen)
   follow_right k l (Restorer x ∷ es) a ms sub ret r seen =
-      let low : x ≤ 0x800000 = ret.0.1 in
+      let low : x ≤ image_end = ret.0.1 in
       rw (top_out rs (x - 3) shown.Left ms (place_out g (x - 3) (λ m h. absurd (omega arith))) r.size, followed)
       (follow_right k l es (a + 8) ms (λ s n. sub s (λ z. n (let q : links s (Restorer x ∷ es) ≡ links s es = omega arith in omega arith))) ret.1 r seen)
   follow_right k l (Frame ∷ es) a ms sub ret r seen =

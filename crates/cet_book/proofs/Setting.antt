@@ -6,6 +6,7 @@ use Rattle.std.proofs.lemmas.Bool.Decides.{nat_tests}
 use Rattle.std.proofs.lemmas.List.{get_or-map, length-map}
 use Rattle.std.proofs.lemmas.List.Sums.{position_or_len_is}
 use Rattle.std.proofs.lemmas.List.Elements.{recursion_from_All}
+use Rattle.cet_words.specs.Layout.{first_region_start}
 use Rattle.cet_words.specs.Job.{ImageData}
 use Rattle.cet_book.specs.declared.entries.Entry.{Entry}
 use Rattle.cet_book.specs.declared.entries.Holder.{Holder}
@@ -75,7 +76,7 @@ module _ {image : ImageData} {W : List ℕ} {b : Book} {numbers : List ℕ} {rs 
       (λ _. has_true a (get_or rs k no_span) here)
 
   -- an address outside the shadow area is in none
-  pub place_out : (a : ℕ) → (0x200001000 ≤ a → a ≤ 0x2003ff000 → ⊥) → place a rs ≡ length rs
+  pub place_out : (a : ℕ) → (first_region_start ≤ a → a ≤ 0x2003ff000 → ⊥) → place a rs ≡ length rs
   unfolding place
   place_out a n =
       position_or_len_is (has a) rs (length rs) no_span (omega arith)

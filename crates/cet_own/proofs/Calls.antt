@@ -1,5 +1,5 @@
 -- What a thread claims of CALL and RET. Source: own.
-use Rattle.std.proofs.Common.{◌≡◌, ℕ, ◌+◌, ◌-◌, ◌/◌, ◌<◌, ◌≤◌, List, [], ◌∷◌, length, Option, refl, ◌∙◌, ap, subst, arith}
+use Rattle.std.proofs.Common.{◌≡◌, ℕ, ◌+◌, ◌-◌, ◌/◌, ◌<◌, ◌≤◌, List, [], ◌∷◌, length, Option, refl, ◌∙◌, ap, subst, arith, false}
 use Rattle.std.specs.Prelude.{◌==◌, ℤ}
 use Rattle.std.specs.Int.{w64, cast_unsigned}
 use Rattle.cet_words.specs.Job.{JobData}
@@ -14,7 +14,7 @@ use Rattle.cet_isa.specs.declared.threads.Record.{Record}
 use Rattle.cet_book.specs.declared.entries.Entry.{Entry}
 use Rattle.cet_book.specs.declared.entries.Entry.TheVariants.{Call}
 use Rattle.cet_book.specs.Book.{Book, region, top, current_of, relist}
-use Rattle.cet_book.specs.Facts.{IsReturn}
+use Rattle.cet_book.specs.Facts.{IsReturn, In}
 use Rattle.cet_book.proofs.Edits.{Owned, owned, current_holds}
 use Rattle.cet_book.proofs.Kept.{book_kept}
 use Rattle.cet_book.proofs.Relies.{Relies, owns_current}
@@ -30,12 +30,16 @@ use Rattle.cet_page.specs.declared.checks.Kind.TheVariants as kind
 use Rattle.cet_page.specs.declared.finishes.Finish.{Finish}
 use Rattle.cet_page.specs.declared.finishes.Finish.TheVariants.{Noted, Posted, Exited, Stopped}
 use Rattle.cet_own.specs.Safe.{IsElsewhere, ReturnsBy}
-use Rattle.cet_own.proofs.Holds.{In}
-use Rattle.cet_own.proofs.Standing.{stacked, AtRest, rest_kept, HasNone}
-use Rattle.cet_own.proofs.Classes.{State, pushes}
+use Rattle.cet_own.specs.Restores.{RestoresBy}
+use Rattle.cet_own.proofs.Standing.{stacked, AtRest, HasNone}
+use Rattle.cet_own.proofs.Owed.{State}
+use Rattle.cet_own.proofs.Classes.{pushes}
 use Rattle.cet_own.proofs.Parts.{Claim, one_after, claim_bind, claim_cond, tested_then, store_look_then, shadow_look_then, store_then}
 use Rattle.cet_own.proofs.OperandParts.{read_operand_then}
 use Rattle.cet_own.proofs.Places.{page_word, shadow_slot, below_is, room_below}
+use Rattle.cet_own.specs.Past.{progress, untouched, drew, numbered}
+use Rattle.cet_page.specs.Trail.{Visit}
+use Rattle.cet_own.proofs.Resting.{Resting, rest_kept, rest_stacked, rested}
 
 -- the entries of a thread's region
 abbrev pub entries_of : (t : ℕ) → Book → List Entry
@@ -43,17 +47,17 @@ entries_of t b = (region b (current_of t b)).entries
 
 -- What holds at the end of a row: the thread is at rest, or has nothing left, and a return goes right by the entries
 -- before the last access.
-abbrev pub Ends : JobData → Arch → (before s : State) → Finish → Type 0
-Ends job arch before s (Noted next r) =
-    AtRest arch.number s.book next.ssp × ((held now : Option ℕ) → ReturnsBy job (entries_of arch.number before.book) (record arch { held = held }) (kept_by arch now next) r r.what)
-Ends job arch before s (Posted next) = ⊥
-Ends job arch before s (Exited next r status) =
-    HasNone arch.number s.book × ((held now : Option ℕ) → ReturnsBy job (entries_of arch.number before.book) (record arch { held = held }) (kept_by arch now next) r r.what)
-Ends job arch before s Stopped = AtRest arch.number s.book arch.ssp
+abbrev pub Ends : JobData → Arch → (past : List Visit) → (before s : State) → Finish → Type 0
+Ends job arch past before s (Noted next r) =
+    AtRest arch.number s.book next.ssp × ((held now : Option ℕ) → ReturnsBy job (entries_of arch.number before.book) (record arch { held = held }) (kept_by arch now next) r r.what) × RestoresBy before.book s.book r r.what
+Ends job arch past before s (Posted next) = AtRest arch.number s.book next.ssp × (drew past ≡ false) × (numbered past ≡ false)
+Ends job arch past before s (Exited next r status) =
+    HasNone arch.number s.book × ((held now : Option ℕ) → ReturnsBy job (entries_of arch.number before.book) (record arch { held = held }) (kept_by arch now next) r r.what) × RestoresBy before.book s.book r r.what
+Ends job arch past before s Stopped = AtRest arch.number s.book arch.ssp × (drew past ≡ false) × (numbered past ≡ false)
 
 -- the same of the part of an instruction
-abbrev pub EndsRow : JobData → Arch → (before s : State) → Arch × Record → Type 0
-EndsRow job arch before s x = Ends job arch before s (Noted x.0 x.1)
+abbrev pub EndsRow : JobData → Arch → (past : List Visit) → (before s : State) → Arch × Record → Type 0
+EndsRow job arch past before s x = Ends job arch past before s (Noted x.0 x.1)
 
 -- the thread's region, whatever the others did
 pub own_kept : (t : ℕ) (b now : Book) → Relies t b now → current_of t b < length b.regions → region now (current_of t now) ≡ region b (current_of t b)
@@ -67,11 +71,11 @@ module _ (job : JobData) (arch : Arch) where
   pushed b back = relist (current_of arch.number b) (Call back ∷ (region b (current_of arch.number b)).entries) b
 
   -- the return address goes on the shadow stack
-  push_claim : (before s : State) (target sp word back : ℕ) → AtRest arch.number s.book arch.ssp → word ≡ slot (arch.ssp - 8) → (region s.book (current_of arch.number s.book)).start + 8 ≤ top (region s.book (current_of arch.number s.book)) → IsReturn back → IsElsewhere job arch → Claim job arch (EndsRow job arch) before s (store_as (Called back ∷ []) word back >>= (λ _. done (called arch target sp (below arch.ssp 8))))
+  push_claim : (past : List Visit) (before s : State) (target sp word back : ℕ) → Resting arch.number untouched (progress past) s.book arch.ssp → word ≡ slot (arch.ssp - 8) → (region s.book (current_of arch.number s.book)).start + 8 ≤ top (region s.book (current_of arch.number s.book)) → IsReturn back → IsElsewhere job arch → Claim job arch (EndsRow job arch) past before s (store_as (Called back ∷ []) word back >>= (λ _. done (called arch target sp (below arch.ssp 8))))
   unfolding store_as
-  push_claim before s target sp word back rest w room is_return free =
-      claim_bind job arch (EndsRow job arch) before s (store_as (Called back ∷ []) word back) _ (
-        rest.stacked,
+  push_claim past before s target sp word back rest w room is_return free =
+      claim_bind job arch (EndsRow job arch) past before s (store_as (Called back ∷ []) word back) _ (
+        (rest_stacked rest),
         λ now r known.
             let rest' = rest_kept r rest in
             let has = rest'.stacked.top.has in
@@ -92,48 +96,49 @@ module _ (job : JobData) (arch : Arch) where
               (
                 record { stacked = stacked arch.number (pushed now.book back) (below arch.ssp 8) sh top'; free = rest'.free },
                 λ held later. free,
+                tt,
               ),
             ),
       )
 
-  pub call_claim : (before s : State) (back target : ℕ) → AtRest arch.number s.book arch.ssp → IsReturn back → IsElsewhere job arch → Claim job arch (EndsRow job arch) before s (call arch back target)
+  pub call_claim : (past : List Visit) (before s : State) (back target : ℕ) → Resting arch.number untouched (progress past) s.book arch.ssp → IsReturn back → IsElsewhere job arch → Claim job arch (EndsRow job arch) past before s (call arch back target)
   unfolding call
-  call_claim before s back target rest is_return free =
+  call_claim past before s back target rest is_return free =
       let low = rest.stacked.low in
       let high = rest.stacked.high in
       let even = rest.stacked.top.aligned in
       let is : below arch.ssp 8 ≡ arch.ssp - 8 = below_is arch.ssp low high in
-      tested_then job arch (EndsRow job arch) before s (below (rsp arch) 8) 8 _ rest (λ c e.
-      store_look_then job arch (EndsRow job arch) before s (below (rsp arch) 8) _ rest (λ now r page p.
+      tested_then job arch (EndsRow job arch) past before s (below (rsp arch) 8) 8 _ rest (λ c e.
+      store_look_then job arch (EndsRow job arch) past before s (below (rsp arch) 8) _ rest (λ now r page v' p.
       let rest1 = rest_kept r rest in
-      shadow_look_then job arch (EndsRow job arch) now now kind.ShadowStore (below arch.ssp 8) _ (omega arith) (omega arith) rest1 (λ now2 r2 v known i inn.
+      shadow_look_then job arch (EndsRow job arch) _ now now kind.ShadowStore (below arch.ssp 8) _ (omega arith) (omega arith) rest1 (λ now2 r2 v known i inn.
       let rest2 = rest_kept r2 rest1 in
       let at = rest2.stacked.top.at in
       let room = room_below now2.book (current_of arch.number now2.book) i known.sound.book.shape rest2.stacked.top.has
       (subst (In (region now2.book i)) (is ∙ ap (λ n. n - 8) at) inn) in
-      store_then job arch (EndsRow job arch) now2 now2 (word_in page (below (rsp arch) 8)) back _ (page_word page (below (rsp arch) 8) p) rest2.stacked (λ now3 r3.
+      store_then job arch (EndsRow job arch) _ now2 now2 (word_in page (below (rsp arch) 8)) back _ (page_word page (below (rsp arch) 8) p) (rest_stacked rest2) (λ now3 r3.
       let rest3 = rest_kept r3 rest2 in
       let same = own_kept arch.number now2.book now3.book r3 rest2.stacked.top.has in
-      push_claim now3 now3 target (below (rsp arch) 8) (word_in (first_shadow_page + (below arch.ssp 8 - shadow_start) / 4096) (below arch.ssp 8)) back rest3
+      push_claim _ now3 now3 target (below (rsp arch) 8) (word_in (first_shadow_page + (below arch.ssp 8 - shadow_start) / 4096) (below arch.ssp 8)) back rest3
       (shadow_slot (below arch.ssp 8) (omega arith) (omega arith) ∙ ap slot is) (rw same room) is_return free))))
 
-  pub call_next_claim : (before s : State) (back : ℕ) → AtRest arch.number s.book arch.ssp → IsElsewhere job arch → Claim job arch (EndsRow job arch) before s (call_next arch back)
+  pub call_next_claim : (past : List Visit) (before s : State) (back : ℕ) → Resting arch.number untouched (progress past) s.book arch.ssp → IsElsewhere job arch → Claim job arch (EndsRow job arch) past before s (call_next arch back)
   unfolding call_next
-  call_next_claim before s back rest free =
-      tested_then job arch (EndsRow job arch) before s (below (rsp arch) 8) 8 _ rest (λ c e.
-      store_look_then job arch (EndsRow job arch) before s (below (rsp arch) 8) _ rest (λ now r page p.
+  call_next_claim past before s back rest free =
+      tested_then job arch (EndsRow job arch) past before s (below (rsp arch) 8) 8 _ rest (λ c e.
+      store_look_then job arch (EndsRow job arch) past before s (below (rsp arch) 8) _ rest (λ now r page v' p.
       let rest1 = rest_kept r rest in
-      store_then job arch (EndsRow job arch) now now (word_in page (below (rsp arch) 8)) back _ (page_word page (below (rsp arch) 8) p) rest1.stacked (λ now2 r2.
-      (rest_kept r2 rest1, λ held later. free))))
+      store_then job arch (EndsRow job arch) _ now now (word_in page (below (rsp arch) 8)) back _ (page_word page (below (rsp arch) 8) p) (rest_stacked rest1) (λ now2 r2.
+      (rested (rest_kept r2 rest1), λ held later. free, tt))))
 
-  pub call_relative_claim : (before s : State) (disp : ℤ) (next : ℕ) → AtRest arch.number s.book arch.ssp → IsReturn next → IsElsewhere job arch → Claim job arch (EndsRow job arch) before s (call_relative arch disp next)
-  call_relative_claim before s disp next rest is_return free =
-      claim_cond job arch (EndsRow job arch) before s (cast_unsigned w64 disp == 0) _ _
-      (λ _. call_next_claim before s next rest free) (λ _. call_claim before s next (relative next disp) rest is_return free)
+  pub call_relative_claim : (past : List Visit) (before s : State) (disp : ℤ) (next : ℕ) → Resting arch.number untouched (progress past) s.book arch.ssp → IsReturn next → IsElsewhere job arch → Claim job arch (EndsRow job arch) past before s (call_relative arch disp next)
+  call_relative_claim past before s disp next rest is_return free =
+      claim_cond job arch (EndsRow job arch) past before s (cast_unsigned w64 disp == 0) _ _
+      (λ _. call_next_claim past before s next rest free) (λ _. call_claim past before s next (relative next disp) rest is_return free)
 
-  pub call_indirect_claim : (before s : State) (src : Operand) (next : ℕ) → AtRest arch.number s.book arch.ssp → IsReturn next → IsElsewhere job arch → Claim job arch (EndsRow job arch) before s (call_indirect arch src next)
+  pub call_indirect_claim : (past : List Visit) (before s : State) (src : Operand) (next : ℕ) → Resting arch.number untouched (progress past) s.book arch.ssp → IsReturn next → IsElsewhere job arch → Claim job arch (EndsRow job arch) past before s (call_indirect arch src next)
   unfolding call_indirect
-  call_indirect_claim before s src next rest is_return free =
-      read_operand_then job arch (EndsRow job arch) before s size.Qword src next _ rest (λ z n rest1 target.
-      claim_cond job arch (EndsRow job arch) z n (canonical target) _ _
-      (λ _. call_claim z n next target rest1 is_return free) (λ _. (rest1, λ _. tt)))
+  call_indirect_claim past before s src next rest is_return free =
+      read_operand_then job arch (EndsRow job arch) past before s size.Qword src next _ rest (λ p z n rest1 target.
+      claim_cond job arch (EndsRow job arch) p z n (canonical target) _ _
+      (λ _. call_claim p z n next target rest1 is_return free) (λ _. (rested rest1, λ _. tt, tt)))

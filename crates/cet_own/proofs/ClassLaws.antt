@@ -1,6 +1,6 @@
 -- Each class of access keeps words and book in step, and leaves to other threads what they rely on. Source: own.
-use Rattle.std.proofs.Common.{◌≡◌, ◌≢◌, ℕ, ◌+◌, ◌<◌, inr, Bool, true, false, List, [], ◌∷◌, Option, Some, None, refl, sym, ◌∙◌, ap, subst, arith}
-use Rattle.std.specs.Prelude.{slice_index, slice_set, option_and_then, ◌==◌}
+use Rattle.std.proofs.Common.{◌≡◌, ◌≢◌, ℕ, ◌+◌, ◌-◌, ◌<◌, inr, Bool, true, false, List, [], ◌∷◌, Option, Some, refl, sym, ◌∙◌, ap, subst, arith}
+use Rattle.std.specs.Prelude.{slice_index, slice_set, ◌==◌}
 use Rattle.std.proofs.lemmas.Bool.Decides.{nat_tests}
 use Rattle.cet_words.specs.Layout.{token, token_word}
 use Rattle.cet_words.specs.Access.{answer, after}
@@ -16,11 +16,19 @@ use Rattle.cet_book.proofs.Edits.{Owned}
 use Rattle.cet_book.proofs.Hand.{hand, hand_all, hand_same, ends}
 use Rattle.cet_book.proofs.Addresses.{ChangeReturns}
 use Rattle.cet_book.proofs.Kept.{book_kept}
-use Rattle.cet_book.specs.Stack.{slot, word_of, tops}
+use Rattle.cet_book.specs.Stack.{slot, slot_word, word_of, tops}
 use Rattle.cet_book.specs.Facts.{Stack}
-use Rattle.cet_own.proofs.Holds.{Sound, IsEntry, busy, Holds}
-use Rattle.cet_own.proofs.Kept.{size_kept, lists_out, pages_out, pages_same, gates_set, gates_same}
-use Rattle.cet_own.proofs.Classes.{HeadWord, Known}
+use Rattle.cet_own.specs.Past.{next_word, draw_word}
+use Rattle.cet_own.proofs.Holds.{Sound, Holds}
+use Rattle.cet_own.specs.Stands.{IsRestorer, IsEntry, busy}
+use Rattle.cet_own.proofs.Marks.{marks_out, marks_same, tokens_end}
+use Rattle.cet_own.proofs.Kept.{restorers_out, size_kept, lists_out, pages_out, pages_same, gates_set, gates_same}
+use Rattle.cet_book.proofs.Changes.{same_book, then_by}
+use Rattle.cet_page.specs.Trail.{Visit}
+use Rattle.cet_own.proofs.Still.{Still}
+use Rattle.cet_own.proofs.Standing.{HasNone}
+use Rattle.cet_own.proofs.Counters.{CountersTell}
+use Rattle.cet_own.proofs.Owed.{HeadWord, Known}
 
 -- ---- what an answer tells
 
@@ -28,26 +36,33 @@ head_word : (words : List ℕ) (f : ℕ → ℕ) (a : ℕ) (es : List Entry) →
 head_word words f a [] s = tt
 head_word words f a (e ∷ es) s = s.0
 
-pub known : (image : ImageData) (t : ℕ) (words : List ℕ) (b : Book) (a : Access) → Holds image words b → Known image t b a (answer words a)
-known image t words b a h = record {
+pub known : (image : ImageData) (t : ℕ) (words : List ℕ) (past : List Visit) (b : Book) (a : Access) → CountersTell words t b → Holds image words b → Still words t b past → Known image t past b a (answer words a)
+known image t words past b a counters_tell h still = record {
+  few = λ n e. (let w : answer words a ≡ slice_index words draw_word = ap (answer words) e in let few = counters_tell.draws in omega arith);
+  fresh = λ n e l.
+      let w : answer words a ≡ slice_index words next_word = ap (answer words) e in
+      subst (λ x. HasNone x b) (sym w) (counters_tell.none (omega arith));
+  next_few = λ n e. (let w : answer words a ≡ slice_index words next_word = ap (answer words) e in let few = counters_tell.nexts in omega arith);
+  code = λ s l e. subst (IsRestorer image) (sym (ap (answer words) e)) (h.restorers.executable s l);
+  restorer = λ s l r e z. still.restorer s l r (sym (ap (answer words) e) ∙ z);
+  left = λ w x own k e. ap (answer words) e ∙ still.word w x own k;
   sound = h.sound;
   entry = λ page e. subst (IsEntry image page) (sym (ap (answer words) e)) (h.pages.entries page);
   look = λ page e lo hi n. h.pages.shadow page lo hi (λ z. n (ap (answer words) e ∙ z));
   head = λ l e.
       subst (HeadWord (tops b) (top (region b (current_of t b))) (region b (current_of t b)).entries) (sym (ap (answer words) e))
       (head_word words (tops b) (top (region b (current_of t b))) (region b (current_of t b)).entries (h.stacks (current_of t b)));
+  finds = λ p expected value pp e found. h.marks.token p pp (sym (ap (answer words) e) ∙ found);
+  stands = λ p q expected value k e.
+      let at = k.top_is in
+      let place : top (region b q) - 8 ≡ p = omega arith in
+      let w : slot_word words p ≡ top (region b q) + 1 = subst (λ n. slot_word words n ≡ top (region b q) + 1) place (h.marks.parked q k.parked) in
+      ap (answer words) e ∙ w ∙ omega arith;
+  draw = λ n e i. (let w : answer words a ≡ slice_index words draw_word = ap (answer words) e in let d = h.marks.drawn i in omega arith);
   gate = λ k expected value l e. ap (answer words) e ∙ h.gates k l;
 }
 
 -- ---- the book after
-
-pub same_book : (t : ℕ) (b next : Book) (changes : List Change) → changes ≡ [] → books_after t b changes ≡ Some next → b ≡ next
-same_book t b next changes e q = let r : books_after t b [] ≡ Some next = subst (λ l. books_after t b l ≡ Some next) e q in cc
-
--- the first of some changes
-pub then_by : (t : ℕ) (o : Option Book) (next : Book) (cs : List Change) → option_and_then (λ b. books_after t b cs) o ≡ Some next → (mid : Book) × (o ≡ Some mid) × (books_after t mid cs ≡ Some next)
-then_by t None next cs e = cc
-then_by t (Some mid) next cs e = (mid, refl, e)
 
 pub one_book : (t : ℕ) (b next : Book) (c : Change) (changes : List Change) → changes ≡ c ∷ [] → books_after t b changes ≡ Some next → book_after t b c ≡ Some next
 one_book t b next c changes e q =
@@ -79,6 +94,8 @@ holds_gate image words b k x o l e sound h = record {
   stacks = lists_out words b (token_word k) x h.sound.book.shape (inr (omega arith)) h.stacks;
   pages = (let p = pages_out image words b (token_word k) x (omega arith) h.pages in record { entries = p.entries; fixed = p.fixed; shadow = p.shadow });
   gates = gates_set words b k x o h.size h.sound.book.stacks.eight l e h.gates;
+  restorers = restorers_out image words (token_word k) x (inr (omega arith)) h.restorers;
+  marks = (let m = marks_out words b (token_word k) x (inr (omega arith)) (omega arith) h.sound.book.shape h.marks in record { parked = m.parked; token = m.token; zeros = m.zeros; drawn = m.drawn });
 }
 
 -- the region of a thread ends
@@ -92,6 +109,8 @@ holds_end image words t m b o sound h =
           (λ i n. tops_agree words (tops b) (tops (hand m (region b m).entries Lost b)) (top (region b i)) (region b i).entries same (h.stacks i));
       pages = pages_same image words b (hand m (region b m).entries Lost b) (hand_same (ends o)) h.pages;
       gates = gates_same words b (hand m (region b m).entries Lost b) refl h.gates;
+      restorers = h.restorers;
+      marks = marks_same words (tokens_end o) h.marks;
     }
   where
     word_agrees : (f g : ℕ → ℕ) (a : ℕ) (e : Entry) → ((i : ℕ) → g i ≡ f i) → word_of g a e ≡ word_of f a e

@@ -1,5 +1,5 @@
 -- The start words and the first book are in step, and thread 0 is at rest. Source: own.
-use Rattle.std.proofs.Common.{◌≡◌, ◌≢◌, ℕ, zero, suc, ◌+◌, ◌-◌, ◌*◌, ◌%◌, ◌<◌, ◌≤◌, ◌⊎◌, inl, inr, Bool, true, false, List, [], ◌∷◌, length, None, refl, sym, ◌∙◌, ap, subst, arith}
+use Rattle.std.proofs.Common.{Some, ◌≡◌, ◌≢◌, ℕ, zero, suc, ◌+◌, ◌-◌, ◌*◌, ◌%◌, ◌<◌, ◌≤◌, ◌⊎◌, inl, inr, Bool, true, false, List, [], ◌∷◌, length, None, refl, sym, ◌∙◌, ap, subst, arith}
 use Rattle.std.specs.Prelude.{slice_index, slice_get, nat_lt, ◌==◌}
 use Rattle.std.proofs.lemmas.Bool.{cases_lt, false≢true}
 use Rattle.std.proofs.lemmas.Bool.Decides.{nat_tests}
@@ -8,21 +8,27 @@ use Rattle.cet_words.specs.Entries.{entry_of}
 use Rattle.cet_words.specs.Job.{JobData, IsJob, ImageData}
 use Rattle.cet_words.specs.Layout.{entry_word, token, token_word, first_entry_word, first_kernel_page, first_kernel_word, first_mmap_page, first_region_end, first_shadow_page, first_stack_word, page_count}
 use Rattle.cet_words.specs.Start.{kernel_word, is_present, start_entry, start_word, IsStart}
-use Rattle.cet_book.specs.declared.entries.Holder.TheVariants.{Current}
+use Rattle.cet_book.specs.declared.entries.Holder.TheVariants.{Parked, Current}
 use Rattle.cet_book.specs.Book.{region, top, current_of, stack_of, first_book}
 use Rattle.cet_book.proofs.Addresses.{first_returns}
 use Rattle.cet_book.proofs.Edits.{current_holds}
-use Rattle.cet_book.proofs.First.{first_empty, first_current, first_is_book, no_stack}
-use Rattle.cet_book.specs.Stack.{tops}
-use Rattle.cet_book.specs.Facts.{Stack}
+use Rattle.cet_book.proofs.First.{first_empty, first_current, first_is_book}
+use Rattle.cet_book.specs.Stack.{slot, slot_word, tops}
+use Rattle.cet_book.specs.Facts.{Stack, Place, LiesIn}
 use Rattle.cet_page.specs.Core.{first_core, unheld}
 use Rattle.cet_page.specs.Machine.{Machine, Thread, Starts}
 use Rattle.cet_page.proofs.WithinLaws.{first_waits}
-use Rattle.cet_own.proofs.Holds.{LiesIn, IsEntry, Pages, busy, Gates, Holds}
-use Rattle.cet_own.proofs.Standing.{Free, AtRest, HasNone}
-use Rattle.cet_own.proofs.Held.{held_free}
+use Rattle.cet_own.specs.Past.{restorer_word, next_word, draw_word}
+use Rattle.cet_own.proofs.Holds.{Marks, Pages, Gates, Holds}
+use Rattle.cet_own.specs.Stands.{Restorers, IsEntry, busy}
+use Rattle.cet_book.proofs.Held.{Free, held_free}
+use Rattle.cet_own.proofs.Standing.{AtRest, HasNone}
+use Rattle.cet_own.specs.Stands.{HasMade}
 use Rattle.cet_own.proofs.Rows.{row_claim}
-use Rattle.cet_own.proofs.Stands.{InRow, ThreadStands}
+use Rattle.cet_page.specs.Trail.{trail_of}
+use Rattle.cet_own.proofs.Paid.{Paid}
+use Rattle.cet_own.proofs.Still.{Still, still_none}
+use Rattle.cet_own.proofs.Threads.{InRow, ThreadStands}
 
 -- ---- words
 
@@ -50,7 +56,7 @@ unfolding start_entry
 absent_is image page e = rw e refl
 
 -- a present page of the shadow area is one of the first region's
-shadow_present : (page : ℕ) (c : Bool) → is_present page ≡ c → first_shadow_page ≤ page → page < first_kernel_page → ((c ≡ true) → (first_shadow_page < page) × (page < first_shadow_page + 9))
+shadow_present : (page : ℕ) (c : Bool) → is_present page ≡ c → first_shadow_page ≤ page → page < first_kernel_page → ((c ≡ true) → (first_shadow_page < page) × (page < 2121))
 shadow_present page true e lo hi f = (grind (arith, nat_tests), grind (arith, nat_tests))
 shadow_present page false e lo hi f = absurd (false≢true f)
 
@@ -86,6 +92,17 @@ token_start k l =
     let d : ((1535 + 1024 * k) % 1024 == 511) ≡ true = grind (arith, nat_tests) in
     rw (a, b, c, d) (omega arith)
 
+no_stack : (k : ℕ) → stack_of first_book k ≡ None
+no_stack zero = refl
+no_stack (suc zero) = refl
+no_stack (suc (suc zero)) = refl
+no_stack (suc (suc (suc zero))) = refl
+no_stack (suc (suc (suc (suc zero)))) = refl
+no_stack (suc (suc (suc (suc (suc zero))))) = refl
+no_stack (suc (suc (suc (suc (suc (suc zero)))))) = refl
+no_stack (suc (suc (suc (suc (suc (suc (suc zero))))))) = refl
+no_stack (suc (suc (suc (suc (suc (suc (suc (suc k)))))))) = refl
+
 first_gates : (image : ImageData) (words : List ℕ) → IsStart image words → Gates words first_book
 unfolding start_word
 first_gates image words s k l =
@@ -97,6 +114,59 @@ first_gates image words s k l =
     let none : busy (stack_of first_book k) ≡ 0 = ap busy (no_stack k) in
     s.each (token_word k) (omega arith) ∙ is ∙ omega arith
 
+-- the words of signals are 0
+action_start : (image : ImageData) (words : List ℕ) (n : ℕ) → IsStart image words → n < 256 → slice_index words (1605696 + n) ≡ 0
+unfolding start_word kernel_word
+action_start image words n s l =
+    let a : nat_lt (1605696 + n) first_stack_word ≡ false = grind (arith, nat_tests) in
+    let b : nat_lt (1605696 + n) first_kernel_word ≡ false = grind (arith, nat_tests) in
+    let c : nat_lt (1605696 + n) first_entry_word ≡ true = grind (arith, nat_tests) in
+    let at : 1605696 + n - first_kernel_word ≡ 64 + n = omega arith in
+    let d : (64 + n == 1) ≡ false = grind (arith, nat_tests) in
+    let e : (64 + n == 2) ≡ false = grind (arith, nat_tests) in
+    let f : nat_lt 511 (64 + n) ≡ false = grind (arith, nat_tests) in
+    let zero : kernel_word (64 + n) ≡ 0 = rw (d, e, f) refl in
+    s.each (1605696 + n) (omega arith) ∙ rw (a, b, c) (ap kernel_word at ∙ zero)
+
+first_restorers : (image : ImageData) (words : List ℕ) → IsStart image words → Restorers image words
+first_restorers image words s = record {
+  executable = λ k l. inl (let at : restorer_word k ≡ 1605696 + (4 * k + 2) = omega arith in ap (slice_index words) at ∙ action_start image words (4 * k + 2) s (omega arith));
+  shown = λ k l above. (let none = action_start image words (4 * k) s (omega arith) in absurd (omega arith));
+}
+
+shadow_start : (image : ImageData) (words : List ℕ) (p : ℕ) → IsStart image words → Place p → slot_word words p ≡ 0
+unfolding start_word
+shadow_start image words p s pp =
+    let low = pp.low in
+    let high = pp.high in
+    let a : nat_lt (slot p) first_stack_word ≡ false = grind (arith, nat_tests) in
+    let b : nat_lt (slot p) first_kernel_word ≡ true = grind (arith, nat_tests) in
+    s.each (slot p) (omega arith) ∙ rw (a, b) refl
+
+pub draw_start : (image : ImageData) (words : List ℕ) → IsStart image words → slice_index words draw_word ≡ 9
+unfolding start_word kernel_word
+draw_start image words s = s.each draw_word (omega arith)
+
+pub next_start : (image : ImageData) (words : List ℕ) → IsStart image words → slice_index words next_word ≡ 1
+unfolding start_word kernel_word
+next_start image words s = s.each next_word (omega arith)
+
+first_parked : (i : ℕ) → (region first_book i).holder ≢ Parked
+first_parked zero e = cc
+first_parked (suc i) e = cc
+
+first_end : (i : ℕ) → (region first_book i).end ≤ first_region_end
+first_end zero = omega arith
+first_end (suc i) = omega arith
+
+first_marks : (image : ImageData) (words : List ℕ) → IsStart image words → Marks words first_book
+first_marks image words s = record {
+  parked = λ i e. absurd (first_parked i e);
+  token = λ p pp e. absurd (let z = shadow_start image words p s pp in omega arith);
+  zeros = λ p pp n. absurd (n (shadow_start image words p s pp));
+  drawn = λ i. (let e = draw_start image words s in let l = first_end i in omega arith);
+}
+
 pub first_holds : (image : ImageData) (words : List ℕ) → IsStart image words → Holds image words first_book
 first_holds image words s = record {
   size = s.size;
@@ -104,6 +174,8 @@ first_holds image words s = record {
   stacks = λ i. subst (Stack words (tops first_book) (top (region first_book i))) (sym (first_empty i)) tt;
   pages = first_pages image words s;
   gates = first_gates image words s;
+  restorers = first_restorers image words s;
+  marks = first_marks image words s;
 }
 
 -- ---- threads
@@ -152,3 +224,50 @@ first_thread job j (suc t) = first_none t
 
 pub first_threads : (job : JobData) (start : Machine) → IsJob job → Starts job start → (t : ℕ) → ThreadStands job t (record { book = first_book }) (slice_get start.threads t)
 first_threads job start j s t = subst (λ (l : List Thread). ThreadStands job t (record { book = first_book }) (slice_get l t)) (sym s.threads) (first_thread job j t)
+
+-- no row has begun
+still_by : (job : JobData) (words : List ℕ) (t : ℕ) (x : Thread) → slice_get {X = Thread} (record { core = first_core job; trace = [] } ∷ []) t ≡ Some x → Still words t first_book (trail_of job x.core)
+still_by job words zero x e =
+    let threads : List Thread = record { core = first_core job; trace = [] } ∷ [] in
+    let e' : slice_get threads 0 ≡ Some x = e in
+    let f : slice_get threads 0 ≡ Some (record { core = first_core job; trace = [] }) = refl in
+    let is : record { core = first_core job; trace = [] } ≡ x = cc in
+    subst (λ (z : Thread). Still words zero first_book (trail_of job z.core)) is (still_none words zero first_book)
+still_by job words (suc t) x e = cc
+
+pub first_still : (job : JobData) (start : Machine) → Starts job start → (t : ℕ) (x : Thread) → slice_get start.threads t ≡ Some x → Still start.words t first_book (trail_of job x.core)
+first_still job start s t x e = still_by job start.words t x (subst (λ (l : List Thread). slice_get l t ≡ Some x) s.threads e)
+
+-- ---- draws
+
+count_by : (job : JobData) (t : ℕ) (x : Thread) → slice_get {X = Thread} (record { core = first_core job; trace = [] } ∷ []) t ≡ Some x → x.core.arch.count ≤ job.limit
+count_by job zero x e =
+    let threads : List Thread = record { core = first_core job; trace = [] } ∷ [] in
+    let e' : slice_get threads 0 ≡ Some x = e in
+    let f : slice_get threads 0 ≡ Some (record { core = first_core job; trace = [] }) = refl in
+    let is : record { core = first_core job; trace = [] } ≡ x = cc in
+    subst (λ (z : Thread). z.core.arch.count ≤ job.limit) is (omega arith)
+count_by job (suc t) x e = cc
+
+pub first_paid : (job : JobData) (start : Machine) → Starts job start → Paid job start.words start.threads
+first_paid job start s = subst (Paid job start.words) (sym s.threads) (record {
+  least = (let e = next_start job.image start.words s.words in omega arith);
+  number = (let e = next_start job.image start.words s.words in omega arith);
+  counts = λ t x e. count_by job t x e;
+  nexts = (let e = next_start job.image start.words s.words in omega arith);
+  draws = (let e = draw_start job.image start.words s.words in omega arith);
+})
+
+-- ---- the region that the kernel made
+
+made_by : (job : JobData) (t : ℕ) (x : Thread) → slice_get {X = Thread} (record { core = first_core job; trace = [] } ∷ []) t ≡ Some x → HasMade x.core.arch.made first_book
+made_by job zero x e =
+    let threads : List Thread = record { core = first_core job; trace = [] } ∷ [] in
+    let e' : slice_get threads 0 ≡ Some x = e in
+    let f : slice_get threads 0 ≡ Some (record { core = first_core job; trace = [] }) = refl in
+    let is : record { core = first_core job; trace = [] } ≡ x = cc in
+    subst (λ (z : Thread). HasMade z.core.arch.made first_book) is (record { number = 0; there = omega arith; first = refl; last = refl })
+made_by job (suc t) x e = cc
+
+pub first_made : (job : JobData) (start : Machine) → Starts job start → (t : ℕ) (x : Thread) → slice_get start.threads t ≡ Some x → HasMade x.core.arch.made first_book
+first_made job start s t x e = made_by job t x (subst (λ (l : List Thread). slice_get l t ≡ Some x) s.threads e)

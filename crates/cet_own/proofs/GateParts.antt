@@ -1,5 +1,5 @@
 -- What a thread claims of the gate's way in and way out. Source: own.
-use Rattle.std.proofs.Common.{◌≡◌, ℕ, ◌+◌, ◌-◌, ◌<◌, ◌≤◌, inl, inr, true, [], ◌∷◌, length, Option, Some, None, refl, sym, ◌∙◌, ap, arith, eqb}
+use Rattle.std.proofs.Common.{◌≡◌, ℕ, ◌+◌, ◌-◌, ◌<◌, ◌≤◌, inl, inr, true, [], ◌∷◌, length, Option, Some, None, refl, sym, ◌∙◌, ap, arith, eqb, List}
 use Rattle.std.specs.Prelude.{option_map, option_and_then}
 use Rattle.std.proofs.lemmas.Bool.{cases_lt}
 use Rattle.std.proofs.lemmas.Bool.Decides.{eqb_tells, nat_tests}
@@ -15,13 +15,18 @@ use Rattle.cet_book.proofs.Hand.{hand, end_none}
 use Rattle.cet_book.proofs.Supervisor.{stack_of-put_stack, current_of-put_stack}
 use Rattle.cet_book.proofs.Ways.{busied_way, freed_way, ended_way}
 use Rattle.cet_page.specs.Script.{Script, ◌>>=◌}
-use Rattle.cet_page.specs.Parts.{exchange_as}
+use Rattle.cet_page.specs.Parts.{exchange_as, store, store_as, load, load_as}
 use Rattle.cet_page.specs.Gate.{gate_in, gate_out}
-use Rattle.cet_own.proofs.Holds.{IsOut, busy}
-use Rattle.cet_own.proofs.Standing.{Stacked, Free, AtRest, rest_kept, Inside, inside_kept, HasNone}
-use Rattle.cet_own.proofs.Held.{held_given}
-use Rattle.cet_own.proofs.Classes.{State, refused, enters, leaves, exits, own_stack}
-use Rattle.cet_own.proofs.Parts.{Claim, one_after, claim_bind, peek_then, load_then, store_then}
+use Rattle.cet_own.specs.Stands.{busy}
+use Rattle.cet_own.proofs.Standing.{Stacked, HasNone}
+use Rattle.cet_book.proofs.Held.{Free, given_held}
+use Rattle.cet_own.specs.Stands.{below_token}
+use Rattle.cet_own.proofs.Owed.{State, own_stack}
+use Rattle.cet_own.proofs.Classes.{refused, settles, reloads, enters, leaves, exits}
+use Rattle.cet_own.proofs.Parts.{Claim, one_after, claim_bind, peek_then}
+use Rattle.cet_own.specs.Past.{Progress, progress, untouched, left_in, below_frame}
+use Rattle.cet_page.specs.Trail.{Visit}
+use Rattle.cet_own.proofs.Resting.{Resting, rest_kept, Inside, inside_kept, inside_left, rest_stacked, inside_stacked}
 
 -- regions don't see supervisor stacks
 stacked_put : (t k ssp : ℕ) (o : Option ℕ) (b : Book) → Stacked t b ssp → Stacked t (put_stack b k o) ssp
@@ -41,13 +46,9 @@ free_by (Some t) p v e f = absurd (omega arith)
 
 free_given : (t k : ℕ) (b : Book) → length b.stacks ≡ 8 → k < 8 → StackShape b.stacks → stack_of b k ≡ Some t → Free t (put_stack b k None)
 free_given t k b eight l s holds j e =
-    let h = held_given t k b (omega arith) s holds j in
+    let h = given_held t k b (omega arith) s holds j in
     let none : None ≡ Some j = h.1 e in
     cc
-
--- the word below a token
-below_token : (k : ℕ) → k < 8 → IsOut (token_word k - 1)
-below_token k l = record { shadow = inr (omega arith); entry = omega arith; token = λ j lj. omega arith }
 
 ended_none : (t m : ℕ) (b : Book) → Owned t m b → length (hand m (region b m).entries Lost b).regions ≤ current_of t (hand m (region b m).entries Lost b)
 ended_none t m b o = elim (cases_lt (current_of t (hand m (region b m).entries Lost b)) (length (hand m (region b m).entries Lost b).regions)) [
@@ -72,14 +73,14 @@ module _ (job : JobData) (arch : Arch) (l : own_stack job arch.number < 8) where
   ended b = hand (current_of arch.number b) (region b (current_of arch.number b)).entries Lost b
 
   -- the way in: the thread is inside, or it is at rest as before
-  pub gate_in_then : {A : Type 0} (Q : State → State → A → Type 0) (before s : State) (f : Option ℕ → Script A) → AtRest arch.number s.book arch.ssp → ((z n : State) → Inside arch.number gate n.book arch.ssp → Claim job arch Q z n (f None)) → ((z n : State) (found : ℕ) → AtRest arch.number n.book arch.ssp → Claim job arch Q z n (f (Some found))) → Claim job arch Q before s (gate_in gate >>= f)
-  unfolding gate_in exchange_as
-  gate_in_then Q before s f rest inside busied =
-      claim_bind job arch Q before s (gate_in gate) f
-      (peek_then job arch (λ z n x. Claim job arch Q z n (f x)) before s (token_page gate) _ rest.stacked (λ now r v.
+  pub gate_in_then : {A : Type 0} (Q : List Visit → State → State → A → Type 0) (past : List Visit) (before s : State) (f : Option ℕ → Script A) → Resting arch.number untouched (progress past) s.book arch.ssp → ((p : List Visit) (z n : State) → Inside arch.number gate untouched (progress p) (left_in p (token_word gate - 1)) n.book arch.ssp → Claim job arch Q p z n (f None)) → ((p : List Visit) (z n : State) (found : ℕ) → Resting arch.number untouched (progress p) n.book arch.ssp → Claim job arch Q p z n (f (Some found))) → Claim job arch Q past before s (gate_in gate >>= f)
+  unfolding gate_in exchange_as store_as
+  gate_in_then Q past before s f rest inside busied =
+      claim_bind job arch Q past before s (gate_in gate) f
+      (peek_then job arch (λ p z n x. Claim job arch Q p z n (f x)) past before s (token_page gate) _ (rest_stacked rest) (λ now r v.
       let rest' = rest_kept r rest in
-      claim_bind job arch (λ z n x. Claim job arch Q z n (f x)) now now _ _ (
-        rest'.stacked,
+      claim_bind job arch (λ p z n x. Claim job arch Q p z n (f x)) _ now now _ _ (
+        (rest_stacked rest'),
         λ later r' found known.
             let rest'' = rest_kept r' rest' in
             elim (eqb_tells found (token gate)) [
@@ -88,72 +89,93 @@ module _ (job : JobData) (arch : Arch) (l : own_stack job arch.number < 8) where
                   (known.gate gate (token gate) (token gate + 1) l refl) e.1 in
                   let eight = known.sound.book.stacks.eight in
                   let same : eqb gate gate ≡ true = grind (arith, nat_tests) in
+                  let same' : eqb (token_word gate - 1) (token_word gate - 1) ≡ true = grind (arith, nat_tests) in
                   let within : gate < length later.book.stacks = omega arith in
                   let holds : stack_of (taken later.book) gate ≡ Some arch.number
                   = stack_of-put_stack later.book gate gate (Some arch.number) within ∙ rw same refl in
-                  let in_kernel : Inside arch.number gate (taken later.book) arch.ssp
-                  = record { stacked = stacked_put arch.number gate arch.ssp (Some arch.number) later.book rest''.stacked; holds = holds } in
+                  let in_kernel : Inside arch.number gate untouched (progress past) (Some kernel_return) (taken later.book) arch.ssp
+                  = record { stacked = stacked_put arch.number gate arch.ssp (Some arch.number) later.book rest''.stacked; holds = holds; level = rest''.level; settled = refl } in
                   rw e.0 (
                     enters l refl e.1 rest''.free refl,
                     record later { book = taken later.book },
                     one_after arch.number later (taken later.book) (Busied gate)
                         (busied_way arch.number gate later.book l none rest''.free),
-                    store_then job arch (λ z n x. Claim job arch Q z n (f x)) later (record later { book = taken later.book })
-                        (token_word gate - 1) kernel_return _ (below_token gate l) in_kernel.stacked
-                        (λ last r''. inside last last (inside_kept r'' in_kernel)),
+                    claim_bind job arch (λ p z n x. Claim job arch Q p z n (f x)) _ later (record later { book = taken later.book }) (store (token_word gate - 1) kernel_return) _ (
+                      inside_stacked in_kernel,
+                      λ last r'' known'.
+                          let in_kernel' = inside_kept r'' in_kernel in
+                          (settles l refl in_kernel'.holds refl, last, refl, inside _ last last (inside_left (rw same' refl) in_kernel')),
+                    ),
                   )
-              | inr e ↦ rw e.0 (refused (token gate + 1) l refl e.1 refl, later, refl, busied later later found rest'')
+              | inr e ↦ rw e.0 (refused (token gate + 1) l refl e.1 refl, later, refl, busied _ later later found rest'')
             ],
       )))
 
   -- the way out
-  pub gate_out_then : {A : Type 0} (Q : State → State → A → Type 0) (before s : State) (f : Unit {0} → Script A) → Inside arch.number gate s.book arch.ssp → ((z n : State) → AtRest arch.number n.book arch.ssp → Claim job arch Q z n (f tt)) → Claim job arch Q before s (gate_out [] gate >>= f)
-  unfolding gate_out exchange_as
-  gate_out_then Q before s f inside h =
-      claim_bind job arch Q before s (gate_out [] gate) f
-      (load_then job arch (λ z n x. Claim job arch Q z n (f x)) before s (token_word gate - 1) _ inside.stacked (λ now r v.
-      let inside' = inside_kept r inside in
-      claim_bind job arch (λ z n x. Claim job arch Q z n (f x)) now now _ _ (
-        inside'.stacked,
-        λ later r' found known.
-            let inside'' = inside_kept r' inside' in
-            let stacks = known.sound.book.stacks in (
-              leaves l refl inside''.holds refl,
-              record later { book = given later.book },
-              one_after arch.number later (given later.book) (Freed gate)
-                  (freed_way arch.number gate later.book inside''.holds),
-              h later (record later { book = given later.book }) (record {
-                stacked = stacked_put arch.number gate arch.ssp None later.book inside''.stacked;
-                free = free_given arch.number gate later.book stacks.eight l stacks inside''.holds;
-              }),
+  pub gate_out_then : {A : Type 0} {d : Progress} (Q : List Visit → State → State → A → Type 0) (past : List Visit) (before s : State) (f : Unit {0} → Script A) → Inside arch.number gate d (progress past) (left_in past (token_word gate - 1)) s.book arch.ssp → ((p : List Visit) (z n : State) → Resting arch.number d (progress p) n.book arch.ssp → Claim job arch Q p z n (f tt)) → Claim job arch Q past before s (gate_out [] gate >>= f)
+  unfolding gate_out exchange_as load_as
+  gate_out_then {d = d} Q past before s f inside h =
+      claim_bind job arch Q past before s (gate_out [] gate) f
+      (claim_bind job arch (λ p z n x. Claim job arch Q p z n (f x)) past before s (load (token_word gate - 1)) _ (
+        inside_stacked inside,
+        λ now r v known.
+            let inside' = inside_kept r inside in
+            let found : v ≡ kernel_return = known.left (token_word gate - 1) kernel_return (below_token gate l inside'.holds refl) inside.settled refl in (
+              reloads l refl found refl,
+              now,
+              refl,
+              claim_bind job arch (λ p z n x. Claim job arch Q p z n (f x)) _ now now _ _ (
+                (inside_stacked inside'),
+                λ later r' found known.
+                    let inside'' = inside_kept r' inside' in
+                    let stacks = known.sound.book.stacks in (
+                      leaves l refl inside''.holds refl,
+                      record later { book = given later.book },
+                      one_after arch.number later (given later.book) (Freed gate)
+                          (freed_way arch.number gate later.book inside''.holds),
+                      h _ later (record later { book = given later.book }) (record {
+                        stacked = stacked_put arch.number gate (below_frame d.framed arch.ssp) None later.book inside''.stacked;
+                        level = inside''.level;
+                        free = free_given arch.number gate later.book stacks.eight l stacks inside''.holds;
+                      }),
+                    ),
+              ),
             ),
-      )))
+      ))
 
   -- the way out of a thread that ends
-  pub exit_out_then : {A : Type 0} (Q : State → State → A → Type 0) (before s : State) (f : Unit {0} → Script A) → Inside arch.number gate s.book arch.ssp → ((z n : State) → HasNone arch.number n.book → Claim job arch Q z n (f tt)) → Claim job arch Q before s (gate_out (Ended ∷ []) gate >>= f)
-  unfolding gate_out exchange_as
-  exit_out_then Q before s f inside h =
-      claim_bind job arch Q before s (gate_out (Ended ∷ []) gate) f
-      (load_then job arch (λ z n x. Claim job arch Q z n (f x)) before s (token_word gate - 1) _ inside.stacked (λ now r v.
-      let inside' = inside_kept r inside in
-      claim_bind job arch (λ z n x. Claim job arch Q z n (f x)) now now _ _ (
-        inside'.stacked,
-        λ later r' found known.
-            let inside'' = inside_kept r' inside' in
-            let stacks = known.sound.book.stacks in
-            let has = inside''.stacked.top.has in
-            let o : Owned arch.number (current_of arch.number later.book) later.book = owned arch.number later.book known.sound.book.shape has in
-            let holds : stack_of (ended later.book) gate ≡ Some arch.number = inside''.holds in
-            let gone = ended_none arch.number (current_of arch.number later.book) later.book o in
-            let same = current_of-put_stack arch.number gate None (ended later.book) in (
-              exits (current_of arch.number later.book) l refl inside''.holds o.current refl,
-              record later { book = given (ended later.book) },
-              ap (λ (q : Option Book). option_map (λ b. record later { book = b }) (option_and_then (λ n. option_and_then (λ x. Some x) (book_after arch.number n (Freed gate))) q)) (ended_way o)
-                  ∙ ap (λ (q : Option Book). option_map (λ b. record later { book = b }) (option_and_then (λ x. Some x) q))
-                  (freed_way arch.number gate (ended later.book) holds),
-              h later (record later { book = given (ended later.book) }) (record {
-                regions = omega arith;
-                free = free_given arch.number gate (ended later.book) stacks.eight l stacks holds;
-              }),
+  pub exit_out_then : {A : Type 0} (Q : List Visit → State → State → A → Type 0) (past : List Visit) (before s : State) (f : Unit {0} → Script A) → Inside arch.number gate untouched (progress past) (left_in past (token_word gate - 1)) s.book arch.ssp → ((p : List Visit) (z n : State) → HasNone arch.number n.book → Claim job arch Q p z n (f tt)) → Claim job arch Q past before s (gate_out (Ended ∷ []) gate >>= f)
+  unfolding gate_out exchange_as load_as
+  exit_out_then Q past before s f inside h =
+      claim_bind job arch Q past before s (gate_out (Ended ∷ []) gate) f
+      (claim_bind job arch (λ p z n x. Claim job arch Q p z n (f x)) past before s (load (token_word gate - 1)) _ (
+        inside_stacked inside,
+        λ now r v known.
+            let inside' = inside_kept r inside in
+            let found : v ≡ kernel_return = known.left (token_word gate - 1) kernel_return (below_token gate l inside'.holds refl) inside.settled refl in (
+              reloads l refl found refl,
+              now,
+              refl,
+              claim_bind job arch (λ p z n x. Claim job arch Q p z n (f x)) _ now now _ _ (
+                (inside_stacked inside'),
+                λ later r' found known.
+                    let inside'' = inside_kept r' inside' in
+                    let stacks = known.sound.book.stacks in
+                    let has = inside''.stacked.top.has in
+                    let o : Owned arch.number (current_of arch.number later.book) later.book = owned arch.number later.book known.sound.book.shape has in
+                    let holds : stack_of (ended later.book) gate ≡ Some arch.number = inside''.holds in
+                    let gone = ended_none arch.number (current_of arch.number later.book) later.book o in
+                    let same = current_of-put_stack arch.number gate None (ended later.book) in (
+                      exits (current_of arch.number later.book) l refl inside''.holds o.current refl,
+                      record later { book = given (ended later.book) },
+                      ap (λ (q : Option Book). option_map (λ b. record later { book = b }) (option_and_then (λ n. option_and_then (λ x. Some x) (book_after arch.number n (Freed gate))) q)) (ended_way o)
+                          ∙ ap (λ (q : Option Book). option_map (λ b. record later { book = b }) (option_and_then (λ x. Some x) q))
+                          (freed_way arch.number gate (ended later.book) holds),
+                      h _ later (record later { book = given (ended later.book) }) (record {
+                        regions = omega arith;
+                        free = free_given arch.number gate (ended later.book) stacks.eight l stacks holds;
+                      }),
+                    ),
+              ),
             ),
-      )))
+      ))

@@ -1,17 +1,21 @@
--- Writes that change no book: words of no stack, cleared entries. And what pages and tokens are after a change. Source: own.
-use Rattle.std.proofs.Common.{◌≡◌, ◌≢◌, ℕ, ◌+◌, ◌<◌, ◌≤◌, ◌⊎◌, inl, inr, List, length, Option, None, refl, sym, ◌∙◌, ap, subst, arith, get_or, length-set, get_or-set_other, get_or-set_same}
+-- What a write leaves of the facts on words: one lemma a fact for a write that it doesn't see, and for a change of the book
+-- that it doesn't see. Source: own.
+use Rattle.std.proofs.Common.{◌-◌, ◌≡◌, ◌≢◌, ℕ, ◌+◌, ◌<◌, ◌≤◌, ◌⊎◌, inl, inr, List, length, Option, None, refl, sym, ◌∙◌, ap, subst, arith, get_or, length-set, get_or-set_other, get_or-set_same}
 use Rattle.std.specs.Prelude.{slice_index, slice_set}
 use Rattle.std.proofs.lemmas.Bool.Decides.{eqb_tells}
 use Rattle.cet_words.specs.Job.{ImageData}
-use Rattle.cet_words.specs.Layout.{entry_word, token, token_word, first_entry_word, first_kernel_page, first_kernel_word, first_shadow_page, first_shadow_word, word_count}
+use Rattle.cet_words.specs.Layout.{entry_word, token, token_word, action_word, first_entry_word, first_kernel_page, first_kernel_word, first_shadow_page, first_shadow_word, word_count}
 use Rattle.cet_book.specs.Book.{Book, region, top, stack_of, put_stack}
 use Rattle.cet_book.specs.Shape.{Shape}
 use Rattle.cet_book.proofs.Edits.{SameBounds}
 use Rattle.cet_book.proofs.Supervisor.{stack_of-put_stack}
+use Rattle.cet_book.specs.Facts.{Stack, LiesIn}
 use Rattle.cet_book.specs.Stack.{tops}
-use Rattle.cet_book.specs.Facts.{Stack}
-use Rattle.cet_own.proofs.Holds.{LiesIn, IsEntry, Pages, busy, Gates, Holds, IsOut}
+use Rattle.cet_own.specs.Past.{restorer_word}
+use Rattle.cet_own.proofs.Holds.{NoAction, Pages, Gates, Holds, IsOut}
+use Rattle.cet_own.specs.Stands.{IsRestorer, Restorers, IsEntry, busy}
 use Rattle.cet_own.proofs.Writes.{stack_agrees, top_even, list_out}
+use Rattle.cet_own.proofs.Marks.{marks_out}
 
 -- the lists, where no word of the shadow area was written
 pub lists_out : (words : List ℕ) (b : Book) (w x : ℕ) → Shape b → (w < first_shadow_word) ⊎ (first_kernel_word ≤ w) → ((i : ℕ) → Stack words (tops b) (top (region b i)) (region b i).entries) → (i : ℕ) → Stack (slice_set words w x) (tops b) (top (region b i)) (region b i).entries
@@ -70,10 +74,22 @@ gates_set words b k x o size eight l e h j lj =
           get_or-set_other words (token_word k) (token_word j) x 0 other ∙ h j lj ∙ ap (λ q. token j + busy q) (sym (rw u.0 at now))
     ]
 
+-- handlers and restorers, where none was written
+pub restorers_out : (image : ImageData) (words : List ℕ) (w x : ℕ) → NoAction w → Restorers image words → Restorers image (slice_set words w x)
+restorers_out image words w x out h =
+    let restorer : (s : ℕ) → s < 64 → slice_index (slice_set words w x) (restorer_word s) ≡ slice_index words (restorer_word s) = λ s l. (let other : restorer_word s ≢ w = elim out [ inl p ↦ omega arith | inr g ↦ omega arith ] in get_or-set_other words w (restorer_word s) x 0 other) in
+    record {
+      executable = λ s l. subst (IsRestorer image) (sym (restorer s l)) (h.executable s l);
+      shown = λ s l above.
+          let other : action_word s ≢ w = elim out [ inl p ↦ omega arith | inr g ↦ omega arith ] in
+          let same = get_or-set_other words w (action_word s) x 0 other in
+          λ z. h.shown s l (omega arith) (sym (restorer s l) ∙ z);
+    }
+
 pub size_kept : (words : List ℕ) (w x : ℕ) → length words ≡ word_count → length (slice_set words w x) ≡ word_count
 size_kept words w x e = length-set words w x ∙ e
 
--- ---- accesses that change no book
+-- ---- writes that leave the book as it is
 
 pub holds_out : (image : ImageData) (words : List ℕ) (b : Book) (w x : ℕ) → IsOut w → Holds image words b → Holds image (slice_set words w x) b
 holds_out image words b w x out h = record {
@@ -82,6 +98,20 @@ holds_out image words b w x out h = record {
   stacks = lists_out words b w x h.sound.book.shape out.shadow h.stacks;
   pages = pages_out image words b w x out.entry h.pages;
   gates = gates_out words b w x out.token h.gates;
+  restorers = restorers_out image words w x out.actions h.restorers;
+  marks = marks_out words b w x out.shadow out.draw h.sound.book.shape h.marks;
+}
+
+-- the word below a supervisor token is written
+pub holds_below_token : (image : ImageData) (words : List ℕ) (b : Book) (k x : ℕ) → k < 8 → Holds image words b → Holds image (slice_set words (token_word k - 1) x) b
+holds_below_token image words b k x l h = record {
+  size = size_kept words (token_word k - 1) x h.size;
+  sound = h.sound;
+  stacks = lists_out words b (token_word k - 1) x h.sound.book.shape (inr (omega arith)) h.stacks;
+  pages = pages_out image words b (token_word k - 1) x (omega arith) h.pages;
+  gates = gates_out words b (token_word k - 1) x (λ j lj. omega arith) h.gates;
+  restorers = restorers_out image words (token_word k - 1) x (inr (omega arith)) h.restorers;
+  marks = marks_out words b (token_word k - 1) x (inr (omega arith)) (omega arith) h.sound.book.shape h.marks;
 }
 
 pages_clear : (image : ImageData) (words : List ℕ) (b : Book) (page : ℕ) → length words ≡ word_count → first_shadow_page ≤ page → page < first_kernel_page → Pages image words b → Pages image (slice_set words (entry_word page) 0) b
@@ -111,4 +141,6 @@ holds_clear image words b page lo hi h = record {
   stacks = lists_out words b (entry_word page) 0 h.sound.book.shape (inr (omega arith)) h.stacks;
   pages = pages_clear image words b page h.size lo hi h.pages;
   gates = gates_out words b (entry_word page) 0 (λ k l. omega arith) h.gates;
+  restorers = restorers_out image words (entry_word page) 0 (inr (omega arith)) h.restorers;
+  marks = marks_out words b (entry_word page) 0 (inr (omega arith)) (omega arith) h.sound.book.shape h.marks;
 }

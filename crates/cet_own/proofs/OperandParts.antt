@@ -1,5 +1,5 @@
 -- What a thread claims of the accesses to operands, each with what follows it. Source: own.
-use Rattle.std.proofs.Common.{ℕ, ◌%◌, refl}
+use Rattle.std.proofs.Common.{ℕ, ◌%◌, refl, List}
 use Rattle.std.specs.Int.{cast_unsigned}
 use Rattle.cet_words.specs.Job.{JobData}
 use Rattle.cet_words.specs.Layout.{word_in}
@@ -14,44 +14,47 @@ use Rattle.cet_page.specs.Values.{width, limit}
 use Rattle.cet_page.specs.declared.checks.Kind.TheVariants as kind
 use Rattle.cet_page.specs.declared.checks.Who.TheVariants.{User}
 use Rattle.cet_own.proofs.Holds.{IsOut}
-use Rattle.cet_own.proofs.Standing.{AtRest, rest_kept}
-use Rattle.cet_own.proofs.Classes.{State, loads, stores}
+use Rattle.cet_own.proofs.Owed.{State}
+use Rattle.cet_own.proofs.Classes.{loads, stores}
 use Rattle.cet_own.proofs.Parts.{Claim, claim_bind, tested_then, look_then, store_look_then}
 use Rattle.cet_own.proofs.Places.{page_word}
+use Rattle.cet_own.specs.Past.{progress, untouched}
+use Rattle.cet_page.specs.Trail.{Visit}
+use Rattle.cet_own.proofs.Resting.{Resting, rest_kept, rest_stacked}
 
 module _ (job : JobData) (arch : Arch) where
-  pub load_at_then : {A : Type 0} (Q : State → State → A → Type 0) (before s : State) (addr count : ℕ) (f : ℕ → Script A) → AtRest arch.number s.book arch.ssp → ((z n : State) → AtRest arch.number n.book arch.ssp → (v : ℕ) → Claim job arch Q z n (f v)) → Claim job arch Q before s (load_at addr count >>= f)
+  pub load_at_then : {A : Type 0} (Q : List Visit → State → State → A → Type 0) (past : List Visit) (before s : State) (addr count : ℕ) (f : ℕ → Script A) → Resting arch.number untouched (progress past) s.book arch.ssp → ((p : List Visit) (z n : State) → Resting arch.number untouched (progress p) n.book arch.ssp → (v : ℕ) → Claim job arch Q p z n (f v)) → Claim job arch Q past before s (load_at addr count >>= f)
   unfolding load_at load_word load_as
-  load_at_then Q before s addr count f rest h =
-      claim_bind job arch Q before s (load_at addr count) f
-      (claim_bind job arch (λ z n x. Claim job arch Q z n (f x)) before s (load_word addr count) _
-      (tested_then job arch (λ z n x. Claim job arch Q z n (f (bytes_at addr count x))) before s addr count _ rest (λ c e.
-      look_then job arch (λ z n x. Claim job arch Q z n (f (bytes_at addr count x))) before s User kind.Load addr _ rest (λ now r page v at known a.
+  load_at_then Q past before s addr count f rest h =
+      claim_bind job arch Q past before s (load_at addr count) f
+      (claim_bind job arch (λ p z n x. Claim job arch Q p z n (f x)) past before s (load_word addr count) _
+      (tested_then job arch (λ p z n x. Claim job arch Q p z n (f (bytes_at addr count x))) past before s addr count _ rest (λ c e.
+      look_then job arch (λ p z n x. Claim job arch Q p z n (f (bytes_at addr count x))) past before s User kind.Load addr _ rest (λ now r page v at known a.
       let rest1 = rest_kept r rest in (
-        rest1.stacked,
-        λ later r' word known'. (loads (word_in page addr) refl refl, later, refl, h later later (rest_kept r' rest1) (bytes_at addr count word)),
+        (rest_stacked rest1),
+        λ later r' word known'. (loads (word_in page addr) refl refl, later, refl, h _ later later (rest_kept r' rest1) (bytes_at addr count word)),
       )))))
 
   -- a write goes to a word that matters for no stack
-  pub write_place_then : {A : Type 0} (Q : State → State → A → Type 0) (before s : State) (addr : ℕ) (f : ℕ → Script A) → AtRest arch.number s.book arch.ssp → ((z n : State) → AtRest arch.number n.book arch.ssp → (word : ℕ) → IsOut word → Claim job arch Q z n (f word)) → Claim job arch Q before s (write_place addr >>= f)
+  pub write_place_then : {A : Type 0} (Q : List Visit → State → State → A → Type 0) (past : List Visit) (before s : State) (addr : ℕ) (f : ℕ → Script A) → Resting arch.number untouched (progress past) s.book arch.ssp → ((p : List Visit) (z n : State) → Resting arch.number untouched (progress p) n.book arch.ssp → (word : ℕ) → IsOut word → Claim job arch Q p z n (f word)) → Claim job arch Q past before s (write_place addr >>= f)
   unfolding write_place
-  write_place_then Q before s addr f rest h =
-      claim_bind job arch Q before s (write_place addr) f
-      (tested_then job arch (λ z n x. Claim job arch Q z n (f x)) before s addr 8 _ rest (λ c e.
-      store_look_then job arch (λ z n x. Claim job arch Q z n (f x)) before s addr _ rest (λ now r page l.
-      h now now (rest_kept r rest) (word_in page addr) (page_word page addr l))))
+  write_place_then Q past before s addr f rest h =
+      claim_bind job arch Q past before s (write_place addr) f
+      (tested_then job arch (λ p z n x. Claim job arch Q p z n (f x)) past before s addr 8 _ rest (λ c e.
+      store_look_then job arch (λ p z n x. Claim job arch Q p z n (f x)) past before s addr _ rest (λ now r page v l.
+      h _ now now (rest_kept r rest) (word_in page addr) (page_word page addr l))))
 
-  pub store_at_then : {A : Type 0} (Q : State → State → A → Type 0) (before s : State) (addr value : ℕ) (f : Unit {0} → Script A) → AtRest arch.number s.book arch.ssp → ((z n : State) → AtRest arch.number n.book arch.ssp → Claim job arch Q z n (f tt)) → Claim job arch Q before s (store_at addr value >>= f)
+  pub store_at_then : {A : Type 0} (Q : List Visit → State → State → A → Type 0) (past : List Visit) (before s : State) (addr value : ℕ) (f : Unit {0} → Script A) → Resting arch.number untouched (progress past) s.book arch.ssp → ((p : List Visit) (z n : State) → Resting arch.number untouched (progress p) n.book arch.ssp → Claim job arch Q p z n (f tt)) → Claim job arch Q past before s (store_at addr value >>= f)
   unfolding store_at store_as
-  store_at_then Q before s addr value f rest h =
-      claim_bind job arch Q before s (store_at addr value) f
-      (write_place_then (λ z n x. Claim job arch Q z n (f x)) before s addr _ rest (λ z n rest1 word out. (
-        rest1.stacked,
-        λ now r known. (stores word value refl out refl, now, refl, h now now (rest_kept r rest1)),
+  store_at_then Q past before s addr value f rest h =
+      claim_bind job arch Q past before s (store_at addr value) f
+      (write_place_then (λ p z n x. Claim job arch Q p z n (f x)) past before s addr _ rest (λ p z n rest1 word out. (
+        (rest_stacked rest1),
+        λ now r known. (stores word value refl out refl, now, refl, h _ now now (rest_kept r rest1)),
       )))
 
-  pub read_operand_then : {A : Type 0} (Q : State → State → A → Type 0) (before s : State) (sz : Size) (o : Operand) (next : ℕ) (f : ℕ → Script A) → AtRest arch.number s.book arch.ssp → ((z n : State) → AtRest arch.number n.book arch.ssp → (v : ℕ) → Claim job arch Q z n (f v)) → Claim job arch Q before s (read_operand arch sz o next >>= f)
+  pub read_operand_then : {A : Type 0} (Q : List Visit → State → State → A → Type 0) (past : List Visit) (before s : State) (sz : Size) (o : Operand) (next : ℕ) (f : ℕ → Script A) → Resting arch.number untouched (progress past) s.book arch.ssp → ((p : List Visit) (z n : State) → Resting arch.number untouched (progress p) n.book arch.ssp → (v : ℕ) → Claim job arch Q p z n (f v)) → Claim job arch Q past before s (read_operand arch sz o next >>= f)
   unfolding read_operand ◌>>=◌
-  read_operand_then Q before s sz (operand.Reg r) next f rest h = h before s rest (register arch r % limit sz)
-  read_operand_then Q before s sz (operand.Imm z) next f rest h = h before s rest (cast_unsigned (width sz) z)
-  read_operand_then Q before s sz (operand.Mem m) next f rest h = load_at_then Q before s (effective arch m next) (byte_count sz) f rest h
+  read_operand_then Q past before s sz (operand.Reg r) next f rest h = h past before s rest (register arch r % limit sz)
+  read_operand_then Q past before s sz (operand.Imm z) next f rest h = h past before s rest (cast_unsigned (width sz) z)
+  read_operand_then Q past before s sz (operand.Mem m) next f rest h = load_at_then Q past before s (effective arch m next) (byte_count sz) f rest h

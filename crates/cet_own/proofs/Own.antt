@@ -1,24 +1,26 @@
 -- The list of the region that is current on a thread changes, in memory and in the book. Source: own.
-use Rattle.std.proofs.Common.{◌≡◌, ◌≢◌, ℕ, suc, ◌+◌, ◌-◌, ◌*◌, ◌≤◌, List, ◌∷◌, length, refl, sym, ap, subst, arith}
+use Rattle.std.proofs.Common.{inl, ◌≡◌, ◌≢◌, ℕ, suc, ◌+◌, ◌-◌, ◌*◌, ◌≤◌, List, ◌∷◌, length, refl, sym, ◌∙◌, ap, subst, arith}
 use Rattle.std.specs.Prelude.{slice_set}
+use Rattle.cet_words.specs.Layout.{image_end}
 use Rattle.cet_words.specs.Job.{ImageData}
 use Rattle.cet_book.specs.declared.entries.Entry.{Entry}
 use Rattle.cet_book.specs.declared.entries.Entry.TheVariants.{Call, Previous}
 use Rattle.cet_book.specs.declared.entries.Holder.TheVariants.{Current, Lost}
 use Rattle.cet_book.specs.Book.{Book, Region, region, top, relist, unlink}
-use Rattle.cet_book.specs.Facts.{links, Stack}
+use Rattle.cet_book.specs.Facts.{links, Stack, Place, In}
 use Rattle.cet_book.proofs.Edits.{Owned, owned_there}
 use Rattle.cet_book.proofs.Acquire.{unlinked}
-use Rattle.cet_book.proofs.Relist.{relist_all, relist_same, relist_other}
+use Rattle.cet_book.proofs.Relist.{relist_all, relist_same, relist_other, relist_holder}
 use Rattle.cet_book.proofs.Unlink.{unlink_all, unlink_same, unlink_top}
 use Rattle.cet_book.proofs.Removes.{Removal, plain, linked}
 use Rattle.cet_book.specs.Stack.{slot, tops}
-use Rattle.cet_own.proofs.Holds.{Sound, In, Holds}
-use Rattle.cet_own.proofs.Writes.{Place, in_place, list_kept, list_free, slot_same}
-use Rattle.cet_own.proofs.Kept.{size_kept, pages_out, pages_same, gates_out, gates_same}
+use Rattle.cet_own.proofs.Holds.{Sound, Holds}
+use Rattle.cet_own.proofs.Writes.{in_place, list_kept, list_free, slot_same}
+use Rattle.cet_own.proofs.Marks.{marks_same, marks_write, writes_own, tokens_relist, tokens_unlink}
+use Rattle.cet_own.proofs.Kept.{restorers_out, size_kept, pages_out, pages_same, gates_out, gates_same}
 
 -- no entry leads to the region
-none_leads : {t m : ℕ} {b : Book} (o : Owned t m b) (i : ℕ) → links m (region b i).entries ≡ 0
+pub none_leads : {t m : ℕ} {b : Book} (o : Owned t m b) (i : ℕ) → links m (region b i).entries ≡ 0
 none_leads {t = t} {m = m} o i = unlinked m i (Current t) o.shape o.current refl
 
 -- the place below the top, where there is room
@@ -43,8 +45,8 @@ module _ (image : ImageData) (words : List ℕ) {t m : ℕ} {b : Book} (o : Owne
   stored = slice_set words (slot (top (region b m) - 8)) back
 
   -- a return address is stored below the top, and is the newest entry
-  pub holds_push : (region b m).start + 8 ≤ top (region b m) → Sound pushed → Holds image words b → Holds image stored pushed
-  holds_push room sound h =
+  pub holds_push : (region b m).start + 8 ≤ top (region b m) → back ≤ image_end → Sound pushed → Holds image words b → Holds image stored pushed
+  holds_push room low_back sound h =
       let at = below_top o room in
       let low = at.place.low in
       let high = at.place.high in
@@ -66,12 +68,14 @@ module _ (image : ImageData) (words : List ℕ) {t m : ℕ} {b : Book} (o : Owne
             (λ i n. old i);
         pages = pages_same image stored b pushed (relist_same o (Call back ∷ (region b m).entries))
             (pages_out image words b (slot (top (region b m) - 8)) back (omega arith) h.pages);
+        restorers = restorers_out image words (slot (top (region b m) - 8)) back (inl (omega arith)) h.restorers;
+        marks = marks_write words (writes_own (tokens_relist o (Call back ∷ (region b m).entries)) o (relist_holder o (Call back ∷ (region b m).entries) m ∙ o.current) at.place at.inside (omega arith)) h.size o.shape h.marks;
         gates = gates_same stored b pushed refl
             (gates_out words b (slot (top (region b m) - 8)) back (λ k l. omega arith) h.gates);
       }
 
 -- the old list without its newest entry
-tail_of : (words : List ℕ) (f : ℕ → ℕ) (end : ℕ) (e : Entry) (es l : List Entry) → l ≡ e ∷ es → 8 * length l ≤ end → Stack words f (end - 8 * length l) l → Stack words f (end - 8 * length es) es
+pub tail_of : (words : List ℕ) (f : ℕ → ℕ) (end : ℕ) (e : Entry) (es l : List Entry) → l ≡ e ∷ es → 8 * length l ≤ end → Stack words f (end - 8 * length l) l → Stack words f (end - 8 * length es) es
 tail_of words f end e es l is room h =
     let s : Stack words f (end - 8 * length l) (e ∷ es) = subst (Stack words f (end - 8 * length l)) is h in
     let longer : length l ≡ suc (length es) = ap (λ (q : List Entry). length q) is in
@@ -92,6 +96,8 @@ holds_pop image words {m = m} {b = b} {next = next} o (plain e es list not_link 
           (tail_of words (tops (relist m es b)) (region b m).end e es (region b m).entries list (omega arith) (old m)) (λ i n. old i);
       pages = pages_same image words b (relist m es b) (relist_same o es) h.pages;
       gates = gates_same words b (relist m es b) refl h.gates;
+      restorers = h.restorers;
+      marks = marks_same words (tokens_relist o es) h.marks;
     }) sound
 holds_pop image words {m = m} {b = b} {next = next} o (linked s es l is) sound h =
     subst (λ n. Sound n → Holds image words n) is (λ sound'.
@@ -104,4 +110,6 @@ holds_pop image words {m = m} {b = b} {next = next} o (linked s es l is) sound h
           (tail_of words (tops (unlink m s es Lost b)) (region b m).end (Previous s) es (region b m).entries l.entries (omega arith) (old m)) (λ i n n'. old i);
       pages = pages_same image words b (unlink m s es Lost b) (unlink_same l Lost) h.pages;
       gates = gates_same words b (unlink m s es Lost b) refl h.gates;
+      restorers = h.restorers;
+      marks = marks_same words (tokens_unlink l) h.marks;
     }) sound

@@ -16,13 +16,15 @@ use Rattle.cet_page.specs.Finish.{above, below}
 use Rattle.cet_page.specs.declared.checks.Kind.{Kind}
 use Rattle.cet_page.specs.declared.checks.Kind.TheVariants as kind
 use Rattle.cet_page.specs.declared.checks.Who.TheVariants.{User}
-use Rattle.cet_own.proofs.Holds.{In, LiesIn, IsEntry, IsOut}
+use Rattle.cet_book.specs.Facts.{In, LiesIn}
+use Rattle.cet_own.specs.Stands.{IsEntry}
+use Rattle.cet_own.proofs.Holds.{IsOut}
 use Rattle.cet_own.proofs.Writes.{in_there}
 
 -- ---- the bits of an entry
 
 -- the low bits decide
-low_bits : (frame bits mask : ℕ) → bits < 2 ^ 12 → mask < 2 ^ 12 → bit_and (frame * 2 ^ 12 + bits) mask ≡ bit_and bits mask
+pub low_bits : (frame bits mask : ℕ) → bits < 2 ^ 12 → mask < 2 ^ 12 → bit_and (frame * 2 ^ 12 + bits) mask ≡ bit_and bits mask
 low_bits frame bits mask b m =
     let z : mask ≡ 0 * 2 ^ 12 + mask = omega arith in
     ap (bit_and (frame * 2 ^ 12 + bits)) z ∙ and_block 12 frame 0 bits mask b m ∙ rw (and_zero_r frame) (omega arith)
@@ -59,7 +61,7 @@ store_page image page v (inr e) a = elim (cases_lt page first_shadow_page) [
 
 -- its words matter for no stack
 pub page_word : (page addr : ℕ) → page < first_shadow_page → IsOut (word_in page addr)
-page_word page addr l = record { shadow = inl (omega arith); entry = omega arith; token = λ k lk. omega arith }
+page_word page addr l = record { shadow = inl (omega arith); entry = omega arith; token = λ k lk. omega arith; below = λ k lk. omega arith; actions = inl (omega arith); draw = omega arith; next = omega arith }
 
 -- an entry that allows something is present
 pub entry_there : (k : Kind) (v : ℕ) → allows v k User ≡ true → v ≢ 0

@@ -28,12 +28,17 @@ use Rattle.cet_page.specs.Parts.{general_protection, load_as}
 use Rattle.cet_page.specs.declared.checks.Kind.TheVariants as kind
 use Rattle.cet_page.specs.declared.checks.Who.TheVariants.{User}
 use Rattle.cet_own.specs.Safe.{GoesRight}
-use Rattle.cet_own.proofs.Holds.{In}
-use Rattle.cet_own.proofs.Standing.{stacked, Free, AtRest, rest_kept}
-use Rattle.cet_own.proofs.Classes.{State, state_after, HeadWord, Known, Owed, loads, pops, own_stack}
+use Rattle.cet_book.specs.Facts.{In}
+use Rattle.cet_own.proofs.Standing.{stacked}
+use Rattle.cet_book.proofs.Held.{Free}
+use Rattle.cet_own.proofs.Owed.{State, state_after, HeadWord, Known, Owed, own_stack}
+use Rattle.cet_own.proofs.Classes.{loads, pops}
 use Rattle.cet_own.proofs.Parts.{Claim, one_after, claim_bind, tested_then, look_then, shadow_look_then, load_then}
 use Rattle.cet_own.proofs.Places.{shadow_slot, above_is, entry_at}
 use Rattle.cet_own.proofs.Calls.{entries_of, EndsRow, own_kept}
+use Rattle.cet_own.specs.Past.{progress, untouched}
+use Rattle.cet_page.specs.Trail.{Visit, visit}
+use Rattle.cet_own.proofs.Resting.{Resting, rest_kept, rest_stacked, rested}
 
 -- ---- where it goes
 
@@ -81,10 +86,10 @@ left_top t m s es b o e =
 -- ---- the shadow load, and what follows it
 
 module _ (job : JobData) (j : IsJob job) (arch : Arch) where
-  loaded : (now : State) (bytes w word v : ℕ) → Known job.image arch.number now.book (access.Load w) v → w ≡ slot arch.ssp → AtRest arch.number now.book arch.ssp → 1 ≤ length (entries_of arch.number now.book) → (c d : Bool) → (word == v) ≡ c → canonical word ≡ d → Owed arch.number (own_stack job arch.number) now.book (access.Load w) v (if c && d then Returned ∷ [] else []) × (next : State) × (state_after arch.number now (if c && d then Returned ∷ [] else []) ≡ Some next) × Claim job arch (EndsRow job arch) now next (if c then (if d then done (returned arch bytes word) else fault general_protection) else fault (return_differs word v))
-  loaded now bytes w word v known ws rest some false d e f = (loads w refl refl, now, refl, (rest, λ r. refl))
-  loaded now bytes w word v known ws rest some true false e f = (loads w refl refl, now, refl, (rest, λ r. tt))
-  loaded now bytes w word v known ws rest some true true e f =
+  loaded : (past : List Visit) (now : State) (bytes w word v : ℕ) → Known job.image arch.number past now.book (access.Load w) v → w ≡ slot arch.ssp → Resting arch.number untouched (progress past) now.book arch.ssp → 1 ≤ length (entries_of arch.number now.book) → (c d : Bool) → (word == v) ≡ c → canonical word ≡ d → Owed job.image arch.number (own_stack job arch.number) past now.book (access.Load w) v (if c && d then Returned ∷ [] else []) × (next : State) × (state_after arch.number now (if c && d then Returned ∷ [] else []) ≡ Some next) × Claim job arch (EndsRow job arch) (visit (access.Load w) v (if c && d then Returned ∷ [] else []) ∷ past) now next (if c then (if d then done (returned arch bytes word) else fault general_protection) else fault (return_differs word v))
+  loaded past now bytes w word v known ws rest some false d e f = (loads w refl refl, now, refl, (rested rest, λ r. refl, λ z k. absurd (omega arith)))
+  loaded past now bytes w word v known ws rest some true false e f = (loads w refl refl, now, refl, (rested rest, λ r. tt, tt))
+  loaded past now bytes w word v known ws rest some true true e f =
       let same : word ≡ v = eqb-true word v e in
       let has = rest.stacked.top.has in
       let at = rest.stacked.top.at in
@@ -104,31 +109,32 @@ module _ (job : JobData) (j : IsJob job) (arch : Arch) where
         (
           record { stacked = stacked arch.number r.next (above arch.ssp 8) short.owned.shape (subst (AtTop arch.number r.next) up top'); free = free },
           λ held later. subst (GoesRight job (entries_of arch.number now.book)) (sym same) r.goes,
+          tt,
         ),
       )
 
-  load_claim : (before s : State) (bytes w word : ℕ) → w ≡ slot arch.ssp → AtRest arch.number s.book arch.ssp → 1 ≤ length (entries_of arch.number s.book) → Claim job arch (EndsRow job arch) before s (load_as (returned_if word) w >>= (λ v. if word == v then (if canonical word then done (returned arch bytes word) else fault general_protection) else fault (return_differs word v)))
+  load_claim : (past : List Visit) (before s : State) (bytes w word : ℕ) → w ≡ slot arch.ssp → Resting arch.number untouched (progress past) s.book arch.ssp → 1 ≤ length (entries_of arch.number s.book) → Claim job arch (EndsRow job arch) past before s (load_as (returned_if word) w >>= (λ v. if word == v then (if canonical word then done (returned arch bytes word) else fault general_protection) else fault (return_differs word v)))
   unfolding load_as
-  load_claim before s bytes w word ws rest some =
-      claim_bind job arch (EndsRow job arch) before s (load_as (returned_if word) w) _ (
-        rest.stacked,
+  load_claim past before s bytes w word ws rest some =
+      claim_bind job arch (EndsRow job arch) past before s (load_as (returned_if word) w) _ (
+        (rest_stacked rest),
         λ now r v known.
             let same = own_kept arch.number s.book now.book r rest.stacked.top.has in
-            loaded now bytes w word v known ws (rest_kept r rest) (subst (λ (r : Region). 1 ≤ length r.entries) (sym same) some) (word == v) (canonical word) refl refl,
+            loaded past now bytes w word v known ws (rest_kept r rest) (subst (λ (r : Region). 1 ≤ length r.entries) (sym same) some) (word == v) (canonical word) refl refl,
       )
 
-  pub ret_claim : (before s : State) (bytes : ℕ) → AtRest arch.number s.book arch.ssp → Claim job arch (EndsRow job arch) before s (ret arch bytes)
+  pub ret_claim : (past : List Visit) (before s : State) (bytes : ℕ) → Resting arch.number untouched (progress past) s.book arch.ssp → Claim job arch (EndsRow job arch) past before s (ret arch bytes)
   unfolding ret
-  ret_claim before s bytes rest =
+  ret_claim past before s bytes rest =
       let low = rest.stacked.low in
       let high = rest.stacked.high in
-      tested_then job arch (EndsRow job arch) before s (rsp arch) 8 _ rest (λ c e.
-      look_then job arch (EndsRow job arch) before s User kind.Load (rsp arch) _ rest (λ now r page v at_page known a.
+      tested_then job arch (EndsRow job arch) past before s (rsp arch) 8 _ rest (λ c e.
+      look_then job arch (EndsRow job arch) past before s User kind.Load (rsp arch) _ rest (λ now r page v at_page known a.
       let rest1 = rest_kept r rest in
-      shadow_look_then job arch (EndsRow job arch) now now kind.ShadowLoad arch.ssp _ (omega arith) (omega arith) rest1 (λ now2 r2 v2 known2 i inn.
+      shadow_look_then job arch (EndsRow job arch) _ now now kind.ShadowLoad arch.ssp _ (omega arith) (omega arith) rest1 (λ now2 r2 v2 known2 i inn.
       let rest2 = rest_kept r2 rest1 in
       let at = rest2.stacked.top.at in
       let some = entry_at now2.book (current_of arch.number now2.book) i known2.sound.book.shape rest2.stacked.top.has (subst (In (region now2.book i)) at inn) in
-      load_then job arch (EndsRow job arch) now2 now2 (word_in page (rsp arch)) _ rest2.stacked (λ now3 r3 word.
+      load_then job arch (EndsRow job arch) _ now2 now2 (word_in page (rsp arch)) _ (rest_stacked rest2) (λ now3 r3 word.
       let same = own_kept arch.number now2.book now3.book r3 rest2.stacked.top.has in
-      load_claim now3 now3 bytes (word_in (first_shadow_page + (arch.ssp - shadow_start) / 4096) arch.ssp) word (shadow_slot arch.ssp (omega arith) (omega arith)) (rest_kept r3 rest2) (subst (λ (r : Region). 1 ≤ length r.entries) (sym same) some)))))
+      load_claim _ now3 now3 bytes (word_in (first_shadow_page + (arch.ssp - shadow_start) / 4096) arch.ssp) word (shadow_slot arch.ssp (omega arith) (omega arith)) (rest_kept r3 rest2) (subst (λ (r : Region). 1 ≤ length r.entries) (sym same) some)))))

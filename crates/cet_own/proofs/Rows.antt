@@ -1,11 +1,13 @@
 -- What a thread claims of each of its rows. Source: own.
-use Rattle.std.proofs.Common.{◌≡◌, ℕ, zero, suc, ◌+◌, ◌-◌, ◌<◌, ◌≤◌, inr, true, length, Option, Some, None, refl, subst, arith}
+use Rattle.std.proofs.Common.{◌≢◌, ◌≡◌, ℕ, zero, suc, ◌+◌, ◌-◌, ◌<◌, ◌≤◌, inl, inr, true, length, Option, Some, None, refl, ap, subst, arith, false, List, [], ◌∷◌}
 use Rattle.std.specs.Prelude.{◌==◌}
 use Rattle.std.proofs.Math.Nat.{mod-lt}
 use Rattle.cet_words.specs.Bytes.{code_byte}
 use Rattle.cet_words.proofs.ByteLaws.{code_place}
 use Rattle.cet_words.specs.Job.{JobData, IsJob}
-use Rattle.cet_words.specs.Layout.{page_at, exit_word, pend_word, action_word, image_end, image_start}
+use Rattle.std.proofs.lemmas.Bool.Decides.{nat_tests}
+use Rattle.cet_words.specs.declared.accesses.Access.TheVariants as access
+use Rattle.cet_words.specs.Layout.{page_at, token_word, exit_word, pend_word, action_word, image_end, image_start}
 use Rattle.cet_isa.specs.Address.{canonical}
 use Rattle.cet_isa.specs.Reading.{Decoding, Read, Short, Unknown, decoded}
 use Rattle.cet_isa.proofs.ReadingLaws.{decoded_within}
@@ -26,13 +28,17 @@ use Rattle.cet_page.specs.Parts.{invalid_opcode}
 use Rattle.cet_page.specs.Row.{execute_family, fetched, instruction, instruction_bytes, boundary, row, row_from}
 use Rattle.cet_own.specs.Safe.{is_near_return, IsElsewhere, IsNearReturn}
 use Rattle.cet_own.proofs.Holds.{IsOut}
-use Rattle.cet_own.proofs.Standing.{AtRest, rest_kept, Inside, inside_kept}
-use Rattle.cet_own.proofs.Classes.{State, looks, own_stack}
+use Rattle.cet_own.proofs.Standing.{AtRest}
+use Rattle.cet_own.proofs.Owed.{State, own_stack}
+use Rattle.cet_own.proofs.Classes.{looks}
 use Rattle.cet_own.proofs.Parts.{Fails, Claim, claim_bind, claim_cond, load_then, exchange_then, clears_claim}
 use Rattle.cet_own.proofs.GateParts.{gate_in_then, gate_out_then, exit_out_then}
 use Rattle.cet_own.proofs.Calls.{Ends, EndsRow, call_relative_claim, call_indirect_claim}
 use Rattle.cet_own.proofs.Returns.{ret_claim}
 use Rattle.cet_own.proofs.Steps.{push_claim, pop_claim, leave_claim, jump_indirect_claim, arithmetic_claim}
+use Rattle.cet_own.specs.Past.{Progress, progress, untouched, left_in}
+use Rattle.cet_page.specs.Trail.{Visit, visit}
+use Rattle.cet_own.proofs.Resting.{Resting, rest_kept, Inside, inside_kept, inside_left, rest_stacked, inside_stacked, rested, row_starts}
 
 -- ---- where instructions lie
 
@@ -74,122 +80,131 @@ returns_flow (instr.RetImm bytes) r = refl
 returns_flow i r = cc
 
 exit_out : IsOut exit_word
-exit_out = record { shadow = inr (omega arith); entry = omega arith; token = λ k l. omega arith }
+exit_out = record { shadow = inr (omega arith); entry = omega arith; token = λ k l. omega arith; below = λ k l. omega arith; actions = inl (omega arith); draw = omega arith; next = omega arith }
+
+-- no word below a token
+exit_apart : (k : ℕ) → (exit_word == token_word k - 1) ≡ false
+exit_apart k = let n : exit_word ≢ token_word k - 1 = omega arith in grind (arith, nat_tests)
+
+handler_apart : (signal k : ℕ) → (action_word signal == token_word k - 1) ≡ false
+handler_apart signal k = let n : action_word signal ≢ token_word k - 1 = omega arith in grind (arith, nat_tests)
 
 module _ (job : JobData) (j : IsJob job) (arch : Arch) where
   -- an invalid opcode is at no return
   elsewhere : (d : Decoding) → decoded (instruction_bytes job arch) ≡ d → (IsNearReturn d → ⊥) → IsElsewhere job arch
   elsewhere d e n r = n (subst IsNearReturn e r.1)
 
-  no_return : (s : State) (d : Decoding) → AtRest arch.number s.book arch.ssp → decoded (instruction_bytes job arch) ≡ d → (IsNearReturn d → ⊥) → Fails job arch s invalid_opcode
-  no_return s d rest e n = (rest, λ r. absurd (elsewhere d e n r))
+  no_return : {down : Progress} (s : State) (d : Decoding) → Resting arch.number untouched down s.book arch.ssp → decoded (instruction_bytes job arch) ≡ d → (IsNearReturn d → ⊥) → Fails job arch s invalid_opcode
+  no_return s d rest e n = (rested rest, λ r. absurd (elsewhere d e n r), tt)
 
   -- ---- kernel calls and the kill
 
-  exit_claim : (before s : State) → IsElsewhere job arch → IsMade arch.made → Inside arch.number (own_stack job arch.number) s.book arch.ssp → Claim job arch (Ends job arch) before s (exit arch (own_stack job arch.number))
+  exit_claim : (past : List Visit) (before s : State) → IsElsewhere job arch → IsMade arch.made → Inside arch.number (own_stack job arch.number) untouched (progress past) (left_in past (token_word (own_stack job arch.number) - 1)) s.book arch.ssp → Claim job arch (Ends job arch) past before s (exit arch (own_stack job arch.number))
   unfolding exit
-  exit_claim before s free made inside =
+  exit_claim past before s free made inside =
       let low = made.low in
       let high = made.high in
-      claim_bind job arch (Ends job arch) before s (clears 8 (made_page arch)) _
-      (clears_claim job arch (own_stack job arch.number) _ before s 8 (made_page arch) (omega arith) (omega arith) inside (λ z n inside'.
-      exit_out_then job arch (stack_below job arch.number j) (Ends job arch) z n _ inside' (λ z' n' none. (none, λ held now. free))))
+      claim_bind job arch (Ends job arch) past before s (clears 8 (made_page arch)) _
+      (clears_claim job arch (own_stack job arch.number) (stack_below job arch.number j) _ past before s 8 (made_page arch) (omega arith) (omega arith) inside (λ p z n inside'.
+      exit_out_then job arch (stack_below job arch.number j) (Ends job arch) p z n _ inside' (λ p' z' n' none. (none, λ held now. free, tt))))
 
-  no_call_claim : (before s : State) (next : ℕ) → IsElsewhere job arch → Inside arch.number (own_stack job arch.number) s.book arch.ssp → Claim job arch (Ends job arch) before s (no_call arch next (own_stack job arch.number))
+  no_call_claim : (past : List Visit) (before s : State) (next : ℕ) → IsElsewhere job arch → Inside arch.number (own_stack job arch.number) untouched (progress past) (left_in past (token_word (own_stack job arch.number) - 1)) s.book arch.ssp → Claim job arch (Ends job arch) past before s (no_call arch next (own_stack job arch.number))
   unfolding no_call
-  no_call_claim before s next free inside =
-      gate_out_then job arch (stack_below job arch.number j) (Ends job arch) before s _ inside (λ z n rest. (rest, λ held now. free))
+  no_call_claim past before s next free inside =
+      gate_out_then job arch (stack_below job arch.number j) (Ends job arch) past before s _ inside (λ p z n rest. (rested rest, λ held now. free, tt))
 
-  exit_group_claim : (before s : State) (next : ℕ) → IsElsewhere job arch → Inside arch.number (own_stack job arch.number) s.book arch.ssp → Claim job arch (Ends job arch) before s (exit_group arch next (own_stack job arch.number))
+  exit_group_claim : (past : List Visit) (before s : State) (next : ℕ) → IsElsewhere job arch → Inside arch.number (own_stack job arch.number) untouched (progress past) (left_in past (token_word (own_stack job arch.number) - 1)) s.book arch.ssp → Claim job arch (Ends job arch) past before s (exit_group arch next (own_stack job arch.number))
   unfolding exit_group
-  exit_group_claim before s next free within =
-      exchange_then job arch (Ends job arch) before s exit_word 0 (0x100 + exit_status arch) _ exit_out within.stacked (λ now r found.
-      gate_out_then job arch (stack_below job arch.number j) (Ends job arch) now now _ (inside_kept r within) (λ z n rest. (rest, λ held later. free)))
+  exit_group_claim past before s next free within =
+      exchange_then job arch (Ends job arch) past before s exit_word 0 (0x100 + exit_status arch) _ exit_out (inside_stacked within) (λ now r found.
+      gate_out_then job arch (stack_below job arch.number j) (Ends job arch) _ now now _ (inside_left (rw (exit_apart (own_stack job arch.number)) refl) (inside_kept r within)) (λ p z n rest. (rested rest, λ held later. free, tt)))
 
-  service_claim : (before s : State) (next : ℕ) → IsElsewhere job arch → IsMade arch.made → Inside arch.number (own_stack job arch.number) s.book arch.ssp → Claim job arch (Ends job arch) before s (service arch next (own_stack job arch.number))
-  service_claim before s next free made within =
-      claim_cond job arch (Ends job arch) before s (rax arch == 60) _ _ (λ _. exit_claim before s free made within)
-      (λ _. claim_cond job arch (Ends job arch) before s (rax arch == 231) _ _ (λ _. exit_group_claim before s next free within) (λ _. no_call_claim before s next free within))
+  service_claim : (past : List Visit) (before s : State) (next : ℕ) → IsElsewhere job arch → IsMade arch.made → Inside arch.number (own_stack job arch.number) untouched (progress past) (left_in past (token_word (own_stack job arch.number) - 1)) s.book arch.ssp → Claim job arch (Ends job arch) past before s (service arch next (own_stack job arch.number))
+  service_claim past before s next free made within =
+      claim_cond job arch (Ends job arch) past before s (rax arch == 60) _ _ (λ _. exit_claim past before s free made within)
+      (λ _. claim_cond job arch (Ends job arch) past before s (rax arch == 231) _ _ (λ _. exit_group_claim past before s next free within)
+      (λ _. no_call_claim past before s next free within))
 
-  syscall_claim : (before s : State) (next : ℕ) → IsElsewhere job arch → IsMade arch.made → AtRest arch.number s.book arch.ssp → Claim job arch (Ends job arch) before s (syscall job arch next)
+  syscall_claim : (past : List Visit) (before s : State) (next : ℕ) → IsElsewhere job arch → IsMade arch.made → Resting arch.number untouched (progress past) s.book arch.ssp → Claim job arch (Ends job arch) past before s (syscall job arch next)
   unfolding syscall
-  syscall_claim before s next free made rest =
-      gate_in_then job arch (stack_below job arch.number j) (Ends job arch) before s (inside arch (own_stack job arch.number) (service arch next (own_stack job arch.number))) rest
-      (λ z n within. service_claim z n next free made within)
-      (λ z n found rest'. (rest', λ held now. tt))
+  syscall_claim past before s next free made rest =
+      gate_in_then job arch (stack_below job arch.number j) (Ends job arch) past before s (inside arch (own_stack job arch.number) (service arch next (own_stack job arch.number))) rest
+      (λ p z n within. service_claim p z n next free made within)
+      (λ p z n found rest'. (rested rest', λ held now. tt, tt))
 
-  kill_claim : (before s : State) (signal : ℕ) → Inside arch.number (own_stack job arch.number) s.book arch.ssp → Claim job arch (Ends job arch) before s (kill arch signal (own_stack job arch.number))
+  kill_claim : (past : List Visit) (before s : State) (signal : ℕ) → Inside arch.number (own_stack job arch.number) untouched (progress past) (left_in past (token_word (own_stack job arch.number) - 1)) s.book arch.ssp → Claim job arch (Ends job arch) past before s (kill arch signal (own_stack job arch.number))
   unfolding kill
-  kill_claim before s signal within =
-      load_then job arch (Ends job arch) before s (action_word signal) _ within.stacked (λ now r v.
-      let within1 = inside_kept r within in
-      exchange_then job arch (Ends job arch) now now exit_word 0 (0x200 + signal) _ exit_out within1.stacked (λ now2 r2 found.
-      gate_out_then job arch (stack_below job arch.number j) (Ends job arch) now2 now2 _ (inside_kept r2 within1) (λ z n rest. (rest, λ held later. tt))))
+  kill_claim past before s signal within =
+      load_then job arch (Ends job arch) past before s (action_word signal) _ (inside_stacked within) (λ now r v.
+      let within1 : Inside arch.number (own_stack job arch.number) untouched (progress past) (left_in (visit (access.Load (action_word signal)) v [] ∷ past) (token_word (own_stack job arch.number) - 1)) now.book arch.ssp
+      = inside_left (rw (handler_apart signal (own_stack job arch.number)) refl) (inside_kept r within) in
+      exchange_then job arch (Ends job arch) _ now now exit_word 0 (0x200 + signal) _ exit_out (inside_stacked within1) (λ now2 r2 found.
+      gate_out_then job arch (stack_below job arch.number j) (Ends job arch) _ now2 now2 _ (inside_left (rw (exit_apart (own_stack job arch.number)) refl) (inside_kept r2 within1)) (λ p z n rest. (rested rest, λ held later. tt, tt))))
 
-  deliver_claim : (before s : State) (e : Fault) → AtRest arch.number s.book arch.ssp → Claim job arch (Ends job arch) before s (deliver job arch e)
+  deliver_claim : (past : List Visit) (before s : State) (e : Fault) → Resting arch.number untouched (progress past) s.book arch.ssp → Claim job arch (Ends job arch) past before s (deliver job arch e)
   unfolding deliver
-  deliver_claim before s e rest =
-      gate_in_then job arch (stack_below job arch.number j) (Ends job arch) before s (inside arch (own_stack job arch.number) (kill arch (signal_of e.name) (own_stack job arch.number))) rest
-      (λ z n within. kill_claim z n (signal_of e.name) within)
-      (λ z n found rest'. (rest', λ held now. tt))
+  deliver_claim past before s e rest =
+      gate_in_then job arch (stack_below job arch.number j) (Ends job arch) past before s (inside arch (own_stack job arch.number) (kill arch (signal_of e.name) (own_stack job arch.number))) rest
+      (λ p z n within. kill_claim p z n (signal_of e.name) within)
+      (λ p z n found rest'. (rested rest', λ held now. tt, tt))
 
   -- ---- instructions
 
-  noted_claim : (before s : State) (m : Row) → Claim job arch (EndsRow job arch) before s m → Claim job arch (Ends job arch) before s (m >>= noted)
-  noted_claim before s m h = claim_bind job arch (Ends job arch) before s m noted h
+  noted_claim : (past : List Visit) (before s : State) (m : Row) → Claim job arch (EndsRow job arch) past before s m → Claim job arch (Ends job arch) past before s (m >>= noted)
+  noted_claim past before s m h = claim_bind job arch (Ends job arch) past before s m noted h
 
-  flow_claim : (before s : State) (i : Instr) (len : ℕ) → AtRest arch.number s.book arch.ssp → decoded (instruction_bytes job arch) ≡ Read i len → Claim job arch (EndsRow job arch) before s (flow arch i (above arch.rip len))
-  flow_claim before s (instr.CallRel disp) len rest e =
-      call_relative_claim job arch before s disp (above arch.rip len) rest (next_place job arch (instr.CallRel disp) len j e) (elsewhere _ e (λ x. cc))
-  flow_claim before s (instr.CallInd target notrack) len rest e =
-      call_indirect_claim job arch before s target (above arch.rip len) rest (next_place job arch (instr.CallInd target notrack) len j e) (elsewhere _ e (λ x. cc))
-  flow_claim before s instr.Ret len rest e = ret_claim job j arch before s 0 rest
-  flow_claim before s (instr.RetImm bytes) len rest e = ret_claim job j arch before s bytes rest
-  flow_claim before s (instr.Push src) len rest e = push_claim job arch (elsewhere _ e (λ x. cc)) before s src (above arch.rip len) rest
-  flow_claim before s (instr.Pop r) len rest e = pop_claim job arch (elsewhere _ e (λ x. cc)) before s r (above arch.rip len) rest
-  flow_claim before s instr.Leave len rest e = leave_claim job arch (elsewhere _ e (λ x. cc)) before s (above arch.rip len) rest
-  flow_claim before s (instr.JmpRel disp) len rest e = (rest, λ held now. elsewhere _ e (λ x. cc))
-  flow_claim before s (instr.JmpInd target notrack) len rest e = jump_indirect_claim job arch (elsewhere _ e (λ x. cc)) before s target (above arch.rip len) rest
-  flow_claim before s (instr.Jcc c disp) len rest e = (rest, λ held now. elsewhere _ e (λ x. cc))
-  flow_claim before s i len rest e = no_return s _ rest e (λ x. cc)
+  flow_claim : (past : List Visit) (before s : State) (i : Instr) (len : ℕ) → Resting arch.number untouched (progress past) s.book arch.ssp → decoded (instruction_bytes job arch) ≡ Read i len → Claim job arch (EndsRow job arch) past before s (flow arch i (above arch.rip len))
+  flow_claim past before s (instr.CallRel disp) len rest e =
+      call_relative_claim job arch past before s disp (above arch.rip len) rest (next_place job arch (instr.CallRel disp) len j e) (elsewhere _ e (λ x. cc))
+  flow_claim past before s (instr.CallInd target notrack) len rest e =
+      call_indirect_claim job arch past before s target (above arch.rip len) rest (next_place job arch (instr.CallInd target notrack) len j e) (elsewhere _ e (λ x. cc))
+  flow_claim past before s instr.Ret len rest e = ret_claim job j arch past before s 0 rest
+  flow_claim past before s (instr.RetImm bytes) len rest e = ret_claim job j arch past before s bytes rest
+  flow_claim past before s (instr.Push src) len rest e = push_claim job arch (elsewhere _ e (λ x. cc)) past before s src (above arch.rip len) rest
+  flow_claim past before s (instr.Pop r) len rest e = pop_claim job arch (elsewhere _ e (λ x. cc)) past before s r (above arch.rip len) rest
+  flow_claim past before s instr.Leave len rest e = leave_claim job arch (elsewhere _ e (λ x. cc)) past before s (above arch.rip len) rest
+  flow_claim past before s (instr.JmpRel disp) len rest e = (rested rest, λ held now. elsewhere _ e (λ x. cc), tt)
+  flow_claim past before s (instr.JmpInd target notrack) len rest e = jump_indirect_claim job arch (elsewhere _ e (λ x. cc)) past before s target (above arch.rip len) rest
+  flow_claim past before s (instr.Jcc c disp) len rest e = (rested rest, λ held now. elsewhere _ e (λ x. cc), tt)
+  flow_claim past before s i len rest e = no_return s _ rest e (λ x. cc)
 
-  family_claim : (before s : State) (i : Instr) (len : ℕ) (p : Family) → family_of i ≡ p → IsMade arch.made → AtRest arch.number s.book arch.ssp → decoded (instruction_bytes job arch) ≡ Read i len → Claim job arch (Ends job arch) before s (execute_family job arch i (above arch.rip len) p)
-  family_claim before s i len families.Arithmetic f made rest e =
-      noted_claim before s _ (arithmetic_claim job arch (elsewhere _ e (λ r. let t = returns_flow i r in cc)) before s i (above arch.rip len) rest)
-  family_claim before s i len families.Flow f made rest e = noted_claim before s _ (flow_claim before s i len rest e)
-  family_claim before s i len families.SystemCall f made rest e =
-      syscall_claim before s (above arch.rip len) (elsewhere _ e (λ r. let t = returns_flow i r in cc)) made rest
-  family_claim before s i len families.Unbuilt f made rest e = no_return s _ rest e (λ r. let t = returns_flow i r in cc)
+  family_claim : (past : List Visit) (before s : State) (i : Instr) (len : ℕ) (p : Family) → family_of i ≡ p → IsMade arch.made → Resting arch.number untouched (progress past) s.book arch.ssp → decoded (instruction_bytes job arch) ≡ Read i len → Claim job arch (Ends job arch) past before s (execute_family job arch i (above arch.rip len) p)
+  family_claim past before s i len families.Arithmetic f made rest e =
+      noted_claim past before s _ (arithmetic_claim job arch (elsewhere _ e (λ r. let t = returns_flow i r in cc)) past before s i (above arch.rip len) rest)
+  family_claim past before s i len families.Flow f made rest e = noted_claim past before s _ (flow_claim past before s i len rest e)
+  family_claim past before s i len families.SystemCall f made rest e =
+      syscall_claim past before s (above arch.rip len) (elsewhere _ e (λ r. let t = returns_flow i r in cc)) made rest
+  family_claim past before s i len families.Unbuilt f made rest e = no_return s _ rest e (λ r. let t = returns_flow i r in cc)
 
-  missing_claim : (before s : State) (at : Option ℕ) (addr : ℕ) → AtRest arch.number s.book arch.ssp → Claim job arch (Ends job arch) before s (missing_in at addr)
-  missing_claim before s None addr rest = (rest, λ r. tt)
-  missing_claim before s (Some page) addr rest = (rest.stacked, λ now r v known. (looks page refl refl, now, refl, (rest_kept r rest, λ q. tt)))
+  missing_claim : (past : List Visit) (before s : State) (at : Option ℕ) (addr : ℕ) → Resting arch.number untouched (progress past) s.book arch.ssp → Claim job arch (Ends job arch) past before s (missing_in at addr)
+  missing_claim past before s None addr rest = (rested rest, λ r. tt, tt)
+  missing_claim past before s (Some page) addr rest = ((rest_stacked rest), λ now r v known. (looks page refl refl, now, refl, (rested (rest_kept r rest), λ q. tt, tt)))
 
-  fetched_claim : (before s : State) (d : Decoding) → IsMade arch.made → AtRest arch.number s.book arch.ssp → decoded (instruction_bytes job arch) ≡ d → Claim job arch (Ends job arch) before s (fetched job arch (instruction_bytes job arch) d)
+  fetched_claim : (past : List Visit) (before s : State) (d : Decoding) → IsMade arch.made → Resting arch.number untouched (progress past) s.book arch.ssp → decoded (instruction_bytes job arch) ≡ d → Claim job arch (Ends job arch) past before s (fetched job arch (instruction_bytes job arch) d)
   unfolding missing
-  fetched_claim before s (Read i len) made rest e = family_claim before s i len (family_of i) refl made rest e
-  fetched_claim before s Short made rest e = missing_claim before s (page_at (arch.rip + length (instruction_bytes job arch))) (arch.rip + length (instruction_bytes job arch)) rest
-  fetched_claim before s Unknown made rest e = no_return s Unknown rest e (λ x. x)
+  fetched_claim past before s (Read i len) made rest e = family_claim past before s i len (family_of i) refl made rest e
+  fetched_claim past before s Short made rest e = missing_claim past before s (page_at (arch.rip + length (instruction_bytes job arch))) (arch.rip + length (instruction_bytes job arch)) rest
+  fetched_claim past before s Unknown made rest e = no_return s Unknown rest e (λ x. x)
 
-  instruction_claim : (before s : State) → IsMade arch.made → AtRest arch.number s.book arch.ssp → Claim job arch (Ends job arch) before s (instruction job arch)
+  instruction_claim : (past : List Visit) (before s : State) → IsMade arch.made → Resting arch.number untouched (progress past) s.book arch.ssp → Claim job arch (Ends job arch) past before s (instruction job arch)
   unfolding instruction
-  instruction_claim before s made rest =
-      claim_cond job arch (Ends job arch) before s (canonical arch.rip) _ _
-      (λ _. fetched_claim before s (decoded (instruction_bytes job arch)) made rest refl) (λ _. (rest, λ r. tt))
+  instruction_claim past before s made rest =
+      claim_cond job arch (Ends job arch) past before s (canonical arch.rip) _ _
+      (λ _. fetched_claim past before s (decoded (instruction_bytes job arch)) made rest refl) (λ _. (rested rest, λ r. tt, tt))
 
-  boundary_claim : (before s : State) → IsMade arch.made → AtRest arch.number s.book arch.ssp → Claim job arch (Ends job arch) before s (boundary job arch)
+  boundary_claim : (past : List Visit) (before s : State) → IsMade arch.made → Resting arch.number untouched (progress past) s.book arch.ssp → Claim job arch (Ends job arch) past before s (boundary job arch)
   unfolding boundary
-  boundary_claim before s made rest =
-      load_then job arch (Ends job arch) before s exit_word _ rest.stacked (λ now r ending.
+  boundary_claim past before s made rest =
+      load_then job arch (Ends job arch) past before s exit_word _ (rest_stacked rest) (λ now r ending.
       let rest1 = rest_kept r rest in
-      claim_cond job arch (Ends job arch) now now (ending == 0) _ _
-      (λ _. load_then job arch (Ends job arch) now now (pend_word arch.number) _ rest1.stacked (λ now2 r2 v. instruction_claim now2 now2 made (rest_kept r2 rest1)))
-      (λ _. rest1))
+      claim_cond job arch (Ends job arch) _ now now (ending == 0) _ _
+      (λ _. load_then job arch (Ends job arch) _ now now (pend_word arch.number) _ (rest_stacked rest1) (λ now2 r2 v. instruction_claim _ now2 now2 made (rest_kept r2 rest1)))
+      (λ _. (rested rest1, ap (λ (x : Progress). x.drawing) rest1.level, ap (λ (x : Progress). x.numbering) rest1.level)))
 
-  from_claim : (before s : State) (due : Option Fault) → IsMade arch.made → AtRest arch.number s.book arch.ssp → Claim job arch (Ends job arch) before s (row_from job arch due)
-  from_claim before s (Some e) made rest = deliver_claim before s e rest
-  from_claim before s None made rest = boundary_claim before s made rest
+  from_claim : (past : List Visit) (before s : State) (due : Option Fault) → IsMade arch.made → Resting arch.number untouched (progress past) s.book arch.ssp → Claim job arch (Ends job arch) past before s (row_from job arch due)
+  from_claim past before s (Some e) made rest = deliver_claim past before s e rest
+  from_claim past before s None made rest = boundary_claim past before s made rest
 
   -- a thread at rest claims its whole next row
-  pub row_claim : (before s : State) → IsMade arch.made → AtRest arch.number s.book arch.ssp → Claim job arch (Ends job arch) before s (row job arch)
-  row_claim before s made rest = from_claim before s arch.due made rest
+  pub row_claim : (before s : State) → IsMade arch.made → AtRest arch.number s.book arch.ssp → Claim job arch (Ends job arch) [] before s (row job arch)
+  row_claim before s made rest = from_claim [] before s arch.due made (row_starts rest)

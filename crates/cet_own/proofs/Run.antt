@@ -1,29 +1,33 @@
--- Every run from the start is safe. Source: own.
-use Rattle.std.proofs.Common.{◌≡◌, ℕ, List, [], ◌∷◌, length, Option, Some, None, refl, sym, ◌∙◌, ap, subst}
+-- The invariant holds along every run from the start, and what follows from it. Source: own.
+use Rattle.std.proofs.Common.{◌≡◌, ℕ, List, [], ◌∷◌, Option, Some, None, refl, sym, ◌∙◌, ap, subst}
 use Rattle.std.specs.Prelude.{slice_get}
 use Rattle.cet_words.specs.Job.{JobData, IsJob}
 use Rattle.cet_isa.specs.declared.threads.End.{End}
-use Rattle.cet_book.specs.Book.{region, books_after, first_book}
+use Rattle.cet_book.specs.Book.{Book, region, books_after, first_book}
 use Rattle.cet_page.specs.Core.{wanted, access_of, next_access}
 use Rattle.cet_page.specs.Machine.{Thread, Machine, step, Starts}
+use Rattle.cet_own.specs.Along.{Along}
 use Rattle.cet_own.specs.Event.{turn_changes}
-use Rattle.cet_own.specs.Safe.{AccessReturns, TurnReturns, Safe}
-use Rattle.cet_own.proofs.Ages.{Ages, ages_none}
-use Rattle.cet_own.proofs.Classes.{State}
-use Rattle.cet_own.proofs.First.{first_holds, first_threads}
-use Rattle.cet_own.proofs.Stands.{CoreStands, ThreadStands}
-use Rattle.cet_own.proofs.Turns.{Stands, safe_at, Turned, TurnedBy, stays, acts}
+use Rattle.cet_own.specs.Safe.{AccessReturns, TurnReturns, IsSafeAt, Safe}
+use Rattle.cet_own.proofs.Owed.{State}
+use Rattle.cet_own.specs.Restores.{TurnRestores}
+use Rattle.cet_own.proofs.Counters.{SameCounters}
+use Rattle.cet_own.proofs.First.{first_holds, first_threads, first_still, first_paid, first_made}
+use Rattle.cet_own.specs.Stands.{Stands}
+use Rattle.cet_own.proofs.StandsAt.{stands_at}
+use Rattle.cet_own.proofs.Threads.{CoreStands, ThreadStands}
+use Rattle.cet_own.proofs.Turns.{Invariant, safe_at, Turned, TurnedBy, stays, acts}
 
 -- a thread's turn, by its end
-turned_core : (job : JobData) (j : IsJob job) (m : Machine) (t : ℕ) (s : State) (thread : Thread) (over : Option End) → Stands job m s → slice_get m.threads t ≡ Some thread → ThreadStands job t s (Some thread) → thread.core.over ≡ over → CoreStands job t s thread.core over → TurnedBy job m t s thread (next_access job thread.core)
+turned_core : (job : JobData) (j : IsJob job) (m : Machine) (t : ℕ) (s : State) (thread : Thread) (over : Option End) → Invariant job m s → slice_get m.threads t ≡ Some thread → ThreadStands job t s (Some thread) → thread.core.over ≡ over → CoreStands job t s thread.core over → TurnedBy job m t s thread (next_access job thread.core)
 unfolding next_access
 turned_core job j m t s thread (Some e) st found at is h = subst (TurnedBy job m t s thread) (sym (ap (access_of job thread.core) is)) (stays job m t s thread st)
 turned_core job j m t s thread None st found at is h =
     let w = h.waits.waits in
     subst (TurnedBy job m t s thread) (sym (ap (access_of job thread.core) is ∙ ap wanted w.1)) (acts job j m t s thread w.0 st found at h w.1)
 
-turned_by : (job : JobData) (j : IsJob job) (m : Machine) (t : ℕ) (s : State) (o : Option Thread) → Stands job m s → slice_get m.threads t ≡ o → ThreadStands job t s o → Turned job m t s o
-turned_by job j m t s None st found at = record { next = s; is = refl; stands = st; ages = ages_none s.book; count = refl; returns = tt }
+turned_by : (job : JobData) (j : IsJob job) (m : Machine) (t : ℕ) (s : State) (o : Option Thread) → Invariant job m s → slice_get m.threads t ≡ o → ThreadStands job t s o → Turned job m t s o
+turned_by job j m t s None st found at = record { next = s; is = refl; stands = st; returns = tt; restores = tt; counters = record { draws = refl; births = refl } }
 turned_by job j m t s (Some thread) st found at =
     let d = turned_core job j m t s thread thread.core.over st found at refl at.1 in
     let sh = st.holds.sound.book.shape in
@@ -31,8 +35,8 @@ turned_by job j m t s (Some thread) st found at =
       next = d.next;
       is = d.is;
       stands = d.stands;
-      ages = d.ages;
-      count = d.count;
+      restores = d.restores;
+      counters = d.counters;
       returns = λ i e. subst (λ n. AccessReturns job m thread (region s.book n).entries (next_access job thread.core)) (sh.alone t i e) d.returns;
     }
 
@@ -40,25 +44,37 @@ turned_by job j m t s (Some thread) st found at =
 pub record Goes (job : JobData) (m : Machine) (t : ℕ) (s : State) : Type 0 where
   pub next : State
   pub is : books_after t s.book (turn_changes job m t) ≡ Some next.book
-  pub stands : Stands job (step job m t) next
-  pub ages : Ages s.book next.book
-  pub count : length (step job m t).threads ≡ length m.threads
+  pub stands : Invariant job (step job m t) next
   pub returns : TurnReturns job m s.book t
+  pub restores : TurnRestores job m s.book next.book t
+  pub counters : SameCounters m.words (step job m t).words
 
-pub turn : (job : JobData) (j : IsJob job) (m : Machine) (t : ℕ) (s : State) → Stands job m s → Goes job m t s
+pub turn : (job : JobData) (j : IsJob job) (m : Machine) (t : ℕ) (s : State) → Invariant job m s → Goes job m t s
 unfolding turn_changes step
 turn job j m t s st =
     let d = turned_by job j m t s (slice_get m.threads t) st refl (st.threads t) in
-    record { next = d.next; is = d.is; stands = d.stands; ages = d.ages; count = d.count; returns = d.returns }
+    record { next = d.next; is = d.is; stands = d.stands; returns = d.returns; restores = d.restores; counters = d.counters }
 
-pub safe_from : (job : JobData) (j : IsJob job) (turns : List ℕ) (m : Machine) (s : State) → Stands job m s → Safe job m s.book turns
-safe_from job j [] m s st = safe_at job m s st
-safe_from job j (t ∷ ts) m s st =
+-- what the invariant tells at each moment, and each turn of itself, holds along a run
+pub along_from : (At : Machine → Book → Type 0) (Turn : Machine → (before after : Book) → ℕ → Type 0) (job : JobData) (j : IsJob job) → ((m : Machine) (s : State) → Invariant job m s → At m s.book) → ((m : Machine) (t : ℕ) (s : State) → (d : Goes job m t s) → Turn m s.book d.next.book t) → (turns : List ℕ) (m : Machine) (s : State) → Invariant job m s → Along At Turn job m s.book turns
+along_from At Turn job j at by [] m s st = at m s st
+along_from At Turn job j at by (t ∷ ts) m s st =
     let d = turn job j m t s st in
-    (safe_at job m s st, d.returns, d.next.book, d.is, safe_from job j ts (step job m t) d.next d.stands)
+    (at m s st, d.next.book, d.is, by m t s d, along_from At Turn job j at by ts (step job m t) d.next d.stands)
 
-pub first_stands : (job : JobData) (start : Machine) → IsJob job → Starts job start → Stands job start (record { book = first_book })
-first_stands job start j s = record { holds = first_holds job.image start.words s.words; threads = first_threads job start j s }
+pub first_stands : (job : JobData) (start : Machine) → IsJob job → Starts job start → Invariant job start (record { book = first_book })
+first_stands job start j s = record {
+  holds = first_holds job.image start.words s.words;
+  threads = first_threads job start j s;
+  still = λ t x e. first_still job start s t x e;
+  paid = first_paid job start s;
+  made = λ t x e. first_made job start s t x e;
+}
 
 pub safe_run : (job : JobData) (start : Machine) (turns : List ℕ) → IsJob job → Starts job start → Safe job start first_book turns
-safe_run job start turns j s = safe_from job j turns start (record { book = first_book }) (first_stands job start j s)
+safe_run job start turns j s =
+    along_from (IsSafeAt job) (λ m before after t. TurnReturns job m before t) job j (safe_at job) (λ m t s d. d.returns) turns start (record { book = first_book }) (first_stands job start j s)
+
+pub stands_run : (job : JobData) (start : Machine) (turns : List ℕ) → IsJob job → Starts job start → Along (Stands job) (TurnRestores job) job start first_book turns
+stands_run job start turns j s =
+    along_from (Stands job) (TurnRestores job) job j (stands_at job) (λ m t s d. d.restores) turns start (record { book = first_book }) (first_stands job start j s)

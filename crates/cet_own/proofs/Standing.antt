@@ -1,10 +1,12 @@
 -- Where a thread stands on its shadow stack, and that other threads leave it there. Source: own.
-use Rattle.std.proofs.Common.{◌≡◌, ◌≢◌, ℕ, ◌≤◌, length, Some, arith}
+use Rattle.std.proofs.Common.{ℕ, ◌≤◌, length, ◌∙◌, arith}
 use Rattle.cet_words.specs.Layout.{first_region_start}
-use Rattle.cet_book.specs.Book.{Book, current_of, stack_of}
+use Rattle.cet_book.specs.Book.{Book, current_of}
 use Rattle.cet_book.specs.Shape.{Shape}
 use Rattle.cet_book.proofs.Relies.{Relies}
 use Rattle.cet_book.proofs.Top.{AtTop, top_relies}
+use Rattle.cet_own.specs.Stands.{HasMade}
+use Rattle.cet_book.proofs.Held.{Free}
 
 -- SSP is at the top of the thread's region, within the shadow area
 pub record Stacked (t : ℕ) (b : Book) (ssp : ℕ) : Type 0 where
@@ -12,19 +14,10 @@ pub record Stacked (t : ℕ) (b : Book) (ssp : ℕ) : Type 0 where
   pub low : first_region_start ≤ ssp
   pub high : ssp ≤ 0x2003ff000
 
--- the thread holds no supervisor stack
-abbrev pub Free : ℕ → Book → Type 0
-Free t b = (k : ℕ) → stack_of b k ≢ Some t
-
 -- so it is between instructions
 pub record AtRest (t : ℕ) (b : Book) (ssp : ℕ) : Type 0 where
   pub stacked : Stacked t b ssp
   pub free : Free t b
-
--- so it is in the kernel
-pub record Inside (t k : ℕ) (b : Book) (ssp : ℕ) : Type 0 where
-  pub stacked : Stacked t b ssp
-  pub holds : stack_of b k ≡ Some t
 
 -- a thread that isn't born, or has ended by exit, has nothing
 pub record HasNone (t : ℕ) (b : Book) : Type 0 where
@@ -50,8 +43,13 @@ module _ {t : ℕ} {b now : Book} (r : Relies t b now) where
   pub rest_kept : {ssp : ℕ} → AtRest t b ssp → AtRest t now ssp
   rest_kept a = record { stacked = stacked_kept a.stacked; free = free_kept a.free }
 
-  pub inside_kept : {k ssp : ℕ} → Inside t k b ssp → Inside t k now ssp
-  inside_kept {k = k} i = record { stacked = stacked_kept i.stacked; holds = r.held k i.holds }
-
   pub none_kept : HasNone t b → HasNone t now
   none_kept h = record { regions = r.none h.regions; free = free_kept h.free }
+
+pub has_made_kept : {y made : ℕ} {b now : Book} → Relies y b now → HasMade made b → HasMade made now
+has_made_kept r p = record {
+  number = p.number;
+  there = let g = r.grows in let l = p.there in omega arith;
+  first = r.start p.number p.there ∙ p.first;
+  last = r.end p.number p.there ∙ p.last;
+}

@@ -1,9 +1,10 @@
 -- One access of a thread keeps where all threads stand. Source: own.
-use Rattle.std.proofs.Common.{add-one, ◌≡◌, ◌≢◌, ℕ, ◌+◌, false, List, Option, Some, refl, sym, subst}
+use Rattle.std.proofs.Common.{[], ◌∷◌, add-one, ◌≡◌, ◌≢◌, ℕ, ◌+◌, ◌*◌, ◌≤◌, ap, arith, false, List, Option, Some, refl, sym, subst, ◌∙◌}
 use Rattle.cet_words.specs.Access.{answer, after}
 use Rattle.cet_words.specs.Job.{JobData, IsJob}
 use Rattle.cet_words.specs.declared.accesses.Access.{Access}
-use Rattle.cet_book.specs.Book.{books_after}
+use Rattle.cet_book.specs.Book.{Book, books_after}
+use Rattle.cet_book.proofs.Kept.{NoneBorn, others_rely}
 use Rattle.cet_book.proofs.Relies.{Relies}
 use Rattle.cet_isa.specs.declared.threads.Arch.{Arch}
 use Rattle.cet_page.specs.Script.{Came, Over, Faulted, Wants}
@@ -13,42 +14,68 @@ use Rattle.cet_page.specs.Seen.{Seen, seen_after}
 use Rattle.cet_page.specs.Row.{row}
 use Rattle.cet_page.specs.Core.{Core, After, unheld, come, next_changes, next_held, core_by, answered, taken, child_of}
 use Rattle.cet_page.proofs.OrderlyRows.{Ends, orderly_row}
-use Rattle.cet_page.proofs.OrderlyLaws.{Results}
+use Rattle.std.specs.Prelude.{slice_index, ◌||◌}
+use Rattle.cet_book.specs.Facts.{one}
+use Rattle.cet_own.specs.Stands.{paid_draws, paid_births}
+use Rattle.cet_own.proofs.Paid.{counted, came_pays}
+use Rattle.cet_own.proofs.Counters.{CountsBy, no_count, draws_pages, bears_child, bears_nobody, none_born, CountersTell}
+use Rattle.cet_words.specs.Change.{Change}
+use Rattle.cet_page.proofs.OrderlyLaws.{Results, over_play}
 use Rattle.cet_page.specs.Within.{IsCore}
 use Rattle.cet_page.proofs.WithinLaws.{taken_is}
 use Rattle.cet_own.specs.Safe.{NotedReturns}
-use Rattle.cet_own.proofs.Frame.{goes, on_came}
+use Rattle.cet_own.specs.Restores.{NotedRestores}
+use Rattle.cet_page.specs.Trail.{Visit, visit, trail_of}
+use Rattle.cet_page.specs.Trail.{trail}
+use Rattle.cet_own.specs.Past.{draw_word, next_word, drew, is_draw, numbered, is_number}
+use Rattle.cet_book.proofs.Comes.{changes_come, other_apart}
+use Rattle.cet_own.proofs.Still.{Still, still_own, still_kept}
+use Rattle.cet_own.proofs.Frame.{goes, on_came, OnCame}
 use Rattle.cet_own.proofs.Holds.{Holds}
-use Rattle.cet_own.proofs.Held.{Held, held_kept}
-use Rattle.cet_own.proofs.Classes.{State, Owed, own_stack, rules}
+use Rattle.cet_book.proofs.Held.{Held}
+use Rattle.cet_own.proofs.HeldAfter.{changes_held}
+use Rattle.cet_own.proofs.Owed.{State, Owed, own_stack, rules}
 use Rattle.cet_own.proofs.ClassLaws.{known}
-use Rattle.cet_own.proofs.Keeps.{keeps, others}
 use Rattle.cet_own.proofs.Parts.{During, Fails}
 use Rattle.cet_own.proofs.Calls.{entries_of}
 use Rattle.cet_own.proofs.Calls as calls
-use Rattle.cet_own.proofs.Stands.{Left, InRow, CoreStands, came_stands, after_book}
+use Rattle.cet_own.proofs.Threads.{Left, InRow, CoreStands, came_still, came_stands, after_book}
 
 -- what an access of thread t leads to
 pub record Led (job : JobData) (words : List ℕ) (t : ℕ) (s : State) (core : Core) (a : Access) : Type 0 where
   pub next : State
-  pub owed : Owed t (own_stack job t) s.book a (answer words a) (next_changes job core (answer words a))
+  pub owed : Owed job.image t (own_stack job t) (trail_of job core) s.book a (answer words a) (next_changes job core (answer words a))
   pub is : books_after t s.book (next_changes job core (answer words a)) ≡ Some next.book
   pub holds : Holds job.image (after words a) next.book
-  pub others : (y : ℕ) → t ≢ y → Relies y s.book next.book
+  pub others : (y : ℕ) → t ≢ y → NoneBorn (next_changes job core (answer words a)) y → Relies y s.book next.book
+  pub still : Still (after words a) t next.book (trail_of job (taken job core (answer words a)).core)
+  pub spared : (y : ℕ) → t ≢ y → NoneBorn (next_changes job core (answer words a)) y → (past : List Visit) → Still words y s.book past → Still (after words a) y next.book past
   pub held : Held t next.book (taken job core (answer words a)).core.arch.held
+  pub draws : slice_index (after words a) draw_word + 1023 * paid_draws job core ≤ slice_index words draw_word + 1023 * paid_draws job (taken job core (answer words a)).core
+  pub nexts : slice_index (after words a) next_word + paid_births job core ≤ slice_index words next_word + paid_births job (taken job core (answer words a)).core
+  pub made : (taken job core (answer words a)).core.arch.made ≡ core.arch.made
+  pub count : (taken job core (answer words a)).core.arch.count ≤ core.arch.count + 1
   pub stands : CoreStands job t next (taken job core (answer words a)).core (taken job core (answer words a)).core.over
   pub returns : NotedReturns job (entries_of t s.book) core (taken job core (answer words a)) (taken job core (answer words a)).noted
+  pub restores : NotedRestores s.book next.book (taken job core (answer words a)).noted
 
 -- the same where the thread's next access is known
 pub record LedBy (job : JobData) (words : List ℕ) (s : State) (core : Core) (a : Access) (left : After) : Type 0 where
   pub next : State
-  pub owed : Owed core.arch.number (own_stack job core.arch.number) s.book a (answer words a) (next_changes job core (answer words a))
+  pub owed : Owed job.image core.arch.number (own_stack job core.arch.number) (trail_of job core) s.book a (answer words a) (next_changes job core (answer words a))
   pub is : books_after core.arch.number s.book (next_changes job core (answer words a)) ≡ Some next.book
   pub holds : Holds job.image (after words a) next.book
-  pub others : (y : ℕ) → core.arch.number ≢ y → Relies y s.book next.book
+  pub others : (y : ℕ) → core.arch.number ≢ y → NoneBorn (next_changes job core (answer words a)) y → Relies y s.book next.book
+  pub still : Still (after words a) core.arch.number next.book (trail_of job left.core)
+  pub spared : (y : ℕ) → core.arch.number ≢ y → NoneBorn (next_changes job core (answer words a)) y → (past : List Visit) → Still words y s.book past → Still (after words a) y next.book past
   pub held : Held core.arch.number next.book left.core.arch.held
+  pub draws : slice_index (after words a) draw_word + 1023 * paid_draws job core ≤ slice_index words draw_word + 1023 * paid_draws job left.core
+  pub nexts : slice_index (after words a) next_word + paid_births job core ≤ slice_index words next_word + paid_births job left.core
+  pub made : left.core.arch.made ≡ core.arch.made
+  pub count : left.core.arch.count ≤ core.arch.count + 1
   pub stands : CoreStands job core.arch.number next left.core left.core.over
   pub returns : NotedReturns job (entries_of core.arch.number s.book) core left left.noted
+  pub restores : NotedRestores s.book next.book left.noted
 
 -- a thread holds what its access left it
 held_by : (job : JobData) (arch : Arch) (held : Option ℕ) (seen : Seen) (c : Came Finish) → (core_by job arch held seen c).arch.held ≡ held
@@ -66,38 +93,73 @@ seen_by core words a = seen_after core.seen a (answer words a)
 abbrev pub come_to : JobData → Core → List ℕ → Access → Came Finish
 come_to job core words a = come job core.arch (seen_by core words a)
 
-led_wants : (job : JobData) (j : IsJob job) (words : List ℕ) (s : State) (core : Core) (a : Access) → Holds job.image words s.book → Held core.arch.number s.book core.arch.held → InRow job core.arch.number s core → come job core.arch core.seen ≡ Wants a → IsCore job (answered job core (answer words a) (Wants a)).core → LedBy job words s core a (answered job core (answer words a) (Wants a))
-led_wants job j words s core a h held r w is_core =
-    let g = goes (rules job core.arch.number) (During (unheld core.arch)) (calls.Ends job (unheld core.arch)) (Fails job (unheld core.arch)) (Results (Ends (unheld core.arch))) false 4096 31 words r.before s
-    (row job (unheld core.arch)) core.seen.count core.seen.kept a (orderly_row job (unheld core.arch)) r.left w (known job.image core.arch.number words s.book a h) in
+-- the thread that makes the access isn't born by it
+own_unborn : {t v : ℕ} {past : List Visit} {b : Book} {a : Access} {changes : List Change} (words : List ℕ) → v ≡ answer words a → CountersTell words t b → CountsBy t past b a v changes → NoneBorn changes t
+own_unborn {t = t} {changes = changes} words is counters_tell (no_count d n none) = none_born changes t none
+own_unborn {t = t} {changes = changes} words is counters_tell (draws_pages n most e once none) = none_born changes t none
+own_unborn {t = t} {v = v} {a = a} words is counters_tell (bears_child s start e few h once ev) =
+    let w : v ≡ slice_index words next_word = is ∙ ap (answer words) e in
+    subst (λ cs. NoneBorn cs t) (sym ev) (λ z. counters_tell.other (omega arith) (sym z ∙ w), tt)
+own_unborn {t = t} {changes = changes} words is counters_tell (bears_nobody e many once none) = none_born changes t none
+
+led_wants : (job : JobData) (j : IsJob job) (words : List ℕ) (s : State) (core : Core) (a : Access) → CountersTell words core.arch.number s.book → Holds job.image words s.book → Still words core.arch.number s.book (trail_of job core) → Held core.arch.number s.book core.arch.held → InRow job core.arch.number s core → come job core.arch core.seen ≡ Wants a → IsCore job (answered job core (answer words a) (Wants a)).core → LedBy job words s core a (answered job core (answer words a) (Wants a))
+led_wants job j words s core a few h still held r w is_core =
+    let g = goes (rules job core.arch.number) (During (unheld core.arch)) (calls.Ends job (unheld core.arch)) (λ p. Fails job (unheld core.arch)) (Results (Ends (unheld core.arch))) false 4096 31 words [] r.before s
+    (row job (unheld core.arch)) core.seen.count core.seen.kept a (orderly_row job (unheld core.arch)) r.left w (known job.image core.arch.number words (trail_of job core) s.book a few h still) in
     let is = after_book core.arch.number s g.next (books_after core.arch.number s.book (next_changes job core (answer words a))) g.is in
+    let grown : trail (core.seen.count + 1) (row job (unheld core.arch)) (seen_by core words a).kept [] ≡ visit a (answer words a) (next_changes job core (answer words a)) ∷ trail_of job core = rw add-one g.grown in
     let left : Left job (unheld core.arch) s g.next (seen_by core words a) = rw add-one g.left in
-    let came = on_came (rules job core.arch.number) (During (unheld core.arch)) (calls.Ends job (unheld core.arch)) (Fails job (unheld core.arch)) s g.next
+    let came = on_came (rules job core.arch.number) (During (unheld core.arch)) (calls.Ends job (unheld core.arch)) (λ p. Fails job (unheld core.arch)) [] s g.next
     (row job (unheld core.arch)) (core.seen.count + 1) (seen_by core words a).kept left in
-    let k = came_stands job core (next_held job core (answer words a)) (seen_by core words a) s g.next
+    let over = over_play (Ends (unheld core.arch)) false (row job (unheld core.arch)) 4096 31 (seen_by core words a).count (seen_by core words a).kept (orderly_row job (unheld core.arch)) in
+    let came' : OnCame (rules job core.arch.number) (During (unheld core.arch)) (calls.Ends job (unheld core.arch)) (λ p. Fails job (unheld core.arch)) (trail (seen_by core words a).count (row job (unheld core.arch)) (seen_by core words a).kept []) s g.next (come_to job core words a) = came in
+    let pays = came_pays job core.arch (next_held job core (answer words a)) (seen_by core words a) s g.next (come_to job core words a) came' over in
+    let now : drew (trail (seen_by core words a).count (row job (unheld core.arch)) (seen_by core words a).kept []) ≡ (is_draw a || drew (trail_of job core)) = ap drew grown in
+    let now' : numbered (trail (seen_by core words a).count (row job (unheld core.arch)) (seen_by core words a).kept []) ≡ (is_number a || numbered (trail_of job core)) = ap numbered grown in
+    let counts = g.owed.counts words refl h in
+    let step = counted words a (trail_of job core) h.size counts in
+    let draws_now = step.draws in
+    let nexts_now = step.nexts in
+    let all = pays.draws in
+    let all' = pays.nexts in
+    let one_now = ap one now in
+    let one_now' = ap one now' in
+    let k = came_stands job core (next_held job core (answer words a)) (seen_by core words a) (trail (core.seen.count + 1) (row job (unheld core.arch)) (seen_by core words a).kept []) s g.next
     (child_of core.arch (next_changes job core (answer words a))) (come_to job core words a) j left came is_core in
     record {
       next = g.next;
       owed = g.owed;
       is = is;
-      holds = keeps job.image core.arch.number (own_stack job core.arch.number) words s.book g.next.book a (next_changes job core (answer words a)) g.owed is h;
-      others = λ y n. others core.arch.number (own_stack job core.arch.number) y s.book g.next.book a (answer words a) (next_changes job core (answer words a)) n h.sound g.owed is;
+      holds = g.owed.keeps words g.next.book refl h still is;
+      others = λ y n none. others_rely core.arch.number y (next_changes job core (answer words a)) s.book g.next.book h.sound.book is n none;
+      still = came_still job core.arch (next_held job core (answer words a)) (seen_by core words a) (come_to job core words a) (after words a) core.arch.number g.next.book
+          (subst (Still (after words a) core.arch.number g.next.book) (sym grown)
+          (still_own words core.arch.number s.book g.next.book (trail_of job core) a (next_changes job core (answer words a)) h.size h.restorers (g.owed.restorers words refl h) h.sound.book (own_unborn words refl few counts) is still));
+      spared = λ y n none past old.
+          still_kept words y s.book g.next.book past a
+          (changes_come core.arch.number y (next_changes job core (answer words a)) s.book g.next.book h.sound.book is none (other_apart core.arch.number y (next_changes job core (answer words a)) n))
+          (λ w own. g.owed.spares words refl h y n w own) (g.owed.restorers words refl h) old;
       held = subst (Held core.arch.number g.next.book)
           (sym (held_by job core.arch (next_held job core (answer words a)) (seen_by core words a) (come_to job core words a)))
-          (held_kept job.image core.arch.number (own_stack job core.arch.number) words s.book g.next.book a (next_changes job core (answer words a)) core.arch.held g.owed is h held);
+          (changes_held core.arch.number (next_changes job core (answer words a)) s.book g.next.book core.arch.held h.sound.book is held);
+      draws = omega (arith, draws_now, all, one_now);
+      nexts = omega (arith, nexts_now, all', one_now');
+      made = pays.made;
+      count = pays.count;
       stands = k.0;
       returns = k.1;
+      restores = k.2;
     }
 
-led_come : (job : JobData) (j : IsJob job) (words : List ℕ) (s : State) (core : Core) (a : Access) → Holds job.image words s.book → Held core.arch.number s.book core.arch.held → InRow job core.arch.number s core → come job core.arch core.seen ≡ Wants a → LedBy job words s core a (taken job core (answer words a))
+led_come : (job : JobData) (j : IsJob job) (words : List ℕ) (s : State) (core : Core) (a : Access) → CountersTell words core.arch.number s.book → Holds job.image words s.book → Still words core.arch.number s.book (trail_of job core) → Held core.arch.number s.book core.arch.held → InRow job core.arch.number s core → come job core.arch core.seen ≡ Wants a → LedBy job words s core a (taken job core (answer words a))
 unfolding taken
-led_come job j words s core a h held r w =
+led_come job j words s core a few h still held r w =
     let is_core : IsCore job (answered job core (answer words a) (Wants a)).core = subst (λ c. IsCore job (answered job core (answer words a) c).core) w (taken_is job core (answer words a) r.waits) in
-    subst (λ c. LedBy job words s core a (answered job core (answer words a) c)) (sym w) (led_wants job j words s core a h held r w is_core)
+    subst (λ c. LedBy job words s core a (answered job core (answer words a) c)) (sym w) (led_wants job j words s core a few h still held r w is_core)
 
 -- an access of a thread that waits for it
-pub led : (job : JobData) (j : IsJob job) (words : List ℕ) (t : ℕ) (s : State) (core : Core) (a : Access) → Holds job.image words s.book → Held t s.book core.arch.held → InRow job t s core → come job core.arch core.seen ≡ Wants a → Led job words t s core a
-led job j words t s core a h held r w =
+pub led : (job : JobData) (j : IsJob job) (words : List ℕ) (t : ℕ) (s : State) (core : Core) (a : Access) → CountersTell words t s.book → Holds job.image words s.book → Still words t s.book (trail_of job core) → Held t s.book core.arch.held → InRow job t s core → come job core.arch core.seen ≡ Wants a → Led job words t s core a
+led job j words t s core a few h still held r w =
     subst (λ n. Led job words n s core a) r.number
-    (let d = led_come job j words s core a h (subst (λ n. Held n s.book core.arch.held) (sym r.number) held) (subst (λ n. InRow job n s core) (sym r.number) r) w in
-    record { next = d.next; owed = d.owed; is = d.is; holds = d.holds; others = d.others; held = d.held; stands = d.stands; returns = d.returns })
+    (let d = led_come job j words s core a (subst (λ n. CountersTell words n s.book) (sym r.number) few) h (subst (λ n. Still words n s.book (trail_of job core)) (sym r.number) still) (subst (λ n. Held n s.book core.arch.held) (sym r.number) held) (subst (λ n. InRow job n s core) (sym r.number) r) w in
+    record { next = d.next; owed = d.owed; is = d.is; holds = d.holds; others = d.others; still = d.still; spared = d.spared; held = d.held; draws = d.draws; nexts = d.nexts; made = d.made; count = d.count; stands = d.stands; returns = d.returns; restores = d.restores })

@@ -4,14 +4,13 @@ use Rattle.std.specs.Prelude.{slice_set}
 use Rattle.std.proofs.lemmas.Bool.{cases_lt}
 use Rattle.std.proofs.lemmas.Bool.Decides.{nat_tests}
 use Rattle.std.proofs.lemmas.List.{get_or_past}
-use Rattle.cet_words.specs.Layout.{first_kernel_word, first_shadow_word, shadow_end, shadow_start, word_count}
+use Rattle.cet_words.specs.Layout.{first_kernel_word, first_shadow_word, word_count}
 use Rattle.cet_book.specs.declared.entries.Entry.{Entry}
 use Rattle.cet_book.specs.declared.entries.Entry.TheVariants.{Call, Restorer, Frame, Previous, Blank}
 use Rattle.cet_book.specs.Book.{Book, Region, nowhere, region, top}
-use Rattle.cet_book.specs.Facts.{is_previous, one, links, Stack}
+use Rattle.cet_book.specs.Facts.{is_previous, one, links, Stack, In, Place}
 use Rattle.cet_book.specs.Shape.{Shape}
 use Rattle.cet_book.specs.Stack.{slot, slot_word, tops, word_of}
-use Rattle.cet_own.proofs.Holds.{In}
 
 -- a region with an address is one of the book's
 pub in_there : (b : Book) (i a : ℕ) → In (region b i) a → i < length b.regions
@@ -62,12 +61,6 @@ list_kept words words' b next m i shape none same w h =
     stack_agrees words words' (tops b) (tops next) (top (region b i)) (region b i).entries (top_even b i shape)
     (λ a lo hi even. w a lo (omega arith) even)
     (λ s n. same s (λ q. n (subst (λ z. links z (region b i).entries ≡ 0) (sym q) (none i)))) h
-
--- an address of the shadow area that is a multiple of 8
-pub record Place (a : ℕ) : Type 0 where
-  pub low : shadow_start ≤ a
-  pub high : a < shadow_end
-  pub even : a % 8 ≡ 0
 
 pub in_place : (b : Book) (i a : ℕ) → Shape b → In (region b i) a → a % 8 ≡ 0 → Place a
 in_place b i a s x even =

@@ -1,2 +1,6 @@
+pub mod Past
 pub mod Event
+pub mod Along
 pub mod Safe
+pub mod Restores
+pub mod Stands

@@ -20,11 +20,12 @@ use Rattle.cet_isa.specs.declared.threads.What.TheVariants as what
 use Rattle.cet_book.specs.declared.entries.Entry.{Entry}
 use Rattle.cet_book.specs.declared.entries.Entry.TheVariants.{Call, Restorer, Frame, Previous, Blank}
 use Rattle.cet_book.specs.declared.entries.Holder.TheVariants.{Current}
-use Rattle.cet_book.specs.Book.{Book, region, top, stack_of, books_after}
+use Rattle.cet_book.specs.Book.{Book, region, top, stack_of}
 use Rattle.cet_page.specs.Core.{Core, After, next_access, taken}
-use Rattle.cet_page.specs.Machine.{Machine, Thread, step}
+use Rattle.cet_page.specs.Machine.{Machine, Thread}
 use Rattle.cet_page.specs.Row.{instruction_bytes}
-use Rattle.cet_own.specs.Event.{turn_changes}
+use Rattle.cet_own.specs.Along.{Along}
+use Rattle.cet_own.specs.Past.{in_force}
 
 -- ---- where returns go
 
@@ -118,9 +119,9 @@ pub record HasStack (b : Book) (t ssp : ℕ) : Type 0 where
   pub only : (i : ℕ) → (region b i).holder ≡ Current t → i ≡ number
   pub at : ssp ≡ top (region b number)
 
-pub record IsSafeAt (m : Machine) (b : Book) : Type 0 where
-  -- each thread that hasn't ended by exit has exactly one region, with its SSP at the top
-  pub stacks : (t : ℕ) (thread : Thread) → slice_get m.threads t ≡ Some thread → KeepsStack thread.core.over → HasStack b t thread.core.arch.ssp
+pub record IsSafeAt (job : JobData) (m : Machine) (b : Book) : Type 0 where
+  -- each thread that hasn't ended by exit has exactly one region, with its SSP in force at the top
+  pub stacks : (t : ℕ) (thread : Thread) → slice_get m.threads t ≡ Some thread → KeepsStack thread.core.over → HasStack b t (in_force job thread.core)
   -- no region is current on a thread that isn't born, or ended by exit
   pub owners : (t i : ℕ) → (region b i).holder ≡ Current t → (thread : Thread) × (slice_get m.threads t ≡ Some thread) × KeepsStack thread.core.over
   -- the closed ranges of two regions have no address in common
@@ -129,9 +130,6 @@ pub record IsSafeAt (m : Machine) (b : Book) : Type 0 where
   pub held : (t : ℕ) (thread : Thread) → slice_get m.threads t ≡ Some thread → (k : ℕ) → (thread.core.arch.held ≡ Some k) ↔ (stack_of b k ≡ Some t)
   pub holders : (t k : ℕ) → stack_of b k ≡ Some t → (thread : Thread) × (slice_get m.threads t ≡ Some thread)
 
--- Along these turns, from this machine and book: the facts hold at each moment, each change has its case in the book before
--- it, and no return goes wrong.
+-- along these turns the facts hold at each moment, the book has each change, and no return goes wrong
 abbrev pub Safe : JobData → Machine → Book → (turns : List ℕ) → Type 0
-Safe job m b [] = IsSafeAt m b
-Safe job m b (t ∷ ts) =
-    IsSafeAt m b × TurnReturns job m b t × (next : Book) × (books_after t b (turn_changes job m t) ≡ Some next) × Safe job (step job m t) next ts
+Safe job m b turns = Along (IsSafeAt job) (λ m before after t. TurnReturns job m before t) job m b turns

@@ -2,7 +2,10 @@ ghost use Rattle.std.specs.Prelude.{ℕ, List};
 ghost use Rattle.cet_words.specs.Job.{JobData, IsJob};
 ghost use Rattle.cet_book.specs.Book.{first_book};
 ghost use Rattle.cet_page.specs.Machine.{Machine, Starts};
+ghost use Rattle.cet_own.specs.Along.{Along};
+ghost use Rattle.cet_own.specs.Restores.{TurnRestores};
 ghost use Rattle.cet_own.specs.Safe.{Safe};
+ghost use Rattle.cet_own.specs.Stands.{Stands};
 
 /// In every run of every job, whatever thread has which turn: no shadow stack is current on two
 /// threads and no supervisor stack is held by two, every change of a stack is one that the book of
@@ -10,4 +13,10 @@ ghost use Rattle.cet_own.specs.Safe.{Safe};
 /// or goes to an address with no executable page.
 pub fn every_run_is_safe()
     ensures { (job : JobData) (start : Machine) (turns : List ℕ) → IsJob job → Starts job start → Safe job start first_book turns }
+{}
+
+/// At each moment of every run of every job the ownership invariant holds of the words, the threads
+/// and the book; and no record tells of a restore token that didn't stand, or of one missed that did.
+pub fn every_run_stands()
+    ensures { (job : JobData) (start : Machine) (turns : List ℕ) → IsJob job → Starts job start → Along (Stands job) (TurnRestores job) job start first_book turns }
 {}

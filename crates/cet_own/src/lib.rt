@@ -3,4 +3,4 @@
 
 mod laws;
 
-pub use laws::every_run_is_safe;
+pub use laws::{every_run_is_safe, every_run_stands};

@@ -9,3 +9,4 @@ pub mod PartLaws
 pub mod PlayLaws
 pub mod ScriptLaws
 pub mod WithinLaws
+pub mod ChildLaws

@@ -1,5 +1,6 @@
 -- What is read of a finished run is its outcome by the last book.
-use Rattle.std.proofs.Common.{◌≡◌, ℕ, ◌+◌, ◌-◌, ◌*◌, ◌/◌, ◌≤◌, arith, lit≤, eq-eqb, List, [], ◌∷◌, ◌++◌, length, Option, Some, None, refl, ap, sym, ◌∙◌, subst, true, false}
+use Rattle.std.specs.Option.{option_or}
+use Rattle.std.proofs.Common.{cond, ◌≡◌, ℕ, ◌+◌, ◌-◌, ◌*◌, ◌/◌, ◌≤◌, arith, lit≤, eq-eqb, List, [], ◌∷◌, ◌++◌, length, Option, Some, None, refl, ap, sym, ◌∙◌, subst, true, false}
 use Rattle.std.specs.Prelude.{map, slice_index, slice_index_or, unwrap_or, ◌==◌}
 use Rattle.std.specs.List.{position_or_len}
 use Rattle.cet_words.specs.Layout.{exit_word, first_region_end, first_region_start}
@@ -12,11 +13,11 @@ use Rattle.cet_book.specs.declared.entries.Holder.TheVariants.{Current, Lost}
 use Rattle.cet_book.specs.Book.{Region, Book, first_book, nowhere, region, top, starting_at}
 use Rattle.cet_book.specs.Stack.{tops, word_of, words_of}
 use Rattle.cet_book.specs.Facts.{Stack}
-use Rattle.cet_page.specs.Machine.{Machine, Thread, Starts, machine, run}
-use Rattle.cet_own.proofs.Report.{LastBook}
+use Rattle.cet_page.specs.Machine.{Machine, Thread, Starts, machine, run, step}
+use Rattle.cet_own.proofs.LastBook.{LastBook}
 use Rattle.cet_own.specs.Safe.{KeepsStack, Safe}
 use Rattle.cet_top.specs.Answer.{SafeRun, outcome_of}
-use Rattle.cet_top.specs.Schedule.{ByRobin}
+use Rattle.cet_top.specs.Schedule.{ByRobin, IsRobin, first_live, goes_on}
 use Rattle.cet_top.specs.Turns.{Robined}
 use Rattle.cet_top.specs.FirstStack.{words_from, first_stack, first_stacks, KeepsFirst, KeepsFirsts, read_outcome}
 use Rattle.cet_top.specs.Outcome.{thread_out, process_end}
@@ -92,40 +93,59 @@ keeps_is words b r (Some (ending.Exit status)) ssp k = tt
 
 -- ---- the run
 
-known : (job : JobData) (start : Machine) (turns : List ℕ) (l : LastBook job start turns) → Known (run job start turns).words l.book l.region l.thread.core.over l.thread.core.arch.ssp
-known job start turns l = record { one = l.only; low = l.low; high = l.high; room = l.room; stack = l.words; holder = l.holder; pointer = l.pointer; exited = l.exited }
+-- a run by Robin goes on until no thread is live
+or_none : (a b : Option ℕ) → option_or a b ≡ None → b ≡ None
+or_none None b e = e
+or_none (Some t) b e = cc
 
-pub keeps : (job : JobData) (start : Machine) (turns : List ℕ) (words : List ℕ) (threads : List Thread) → LastBook job start turns → run job start turns ≡ machine words threads → KeepsFirsts threads × (length threads ≤ 32)
-keeps job start turns words threads l e =
+none_live : (job : JobData) (m : Machine) (last : Option ℕ) (turns : List ℕ) → IsRobin job m last turns → first_live (run job m turns).threads 0 ≡ None
+none_live job m last [] r = or_none _ _ r
+none_live job m last (t ∷ ts) r = none_live job (step job m t) (Some t) ts r.1
+
+over_by : (over : Option End) → cond {A = Option ℕ} (goes_on over) (Some 0) None ≡ None → (e : End) × (over ≡ Some e)
+over_by None e = cc
+over_by (Some end) e = (end, refl)
+
+-- so its one thread has ended
+ended : (job : JobData) (start : Machine) (turns : List ℕ) (l : LastBook job start turns) → IsRobin job start None turns → (e : End) × (l.thread.core.over ≡ Some e)
+ended job start turns l r = over_by l.thread.core.over (sym (ap (λ (threads : List Thread). first_live threads 0) l.alone) ∙ none_live job start None turns r)
+
+known : (job : JobData) (start : Machine) (turns : List ℕ) (l : LastBook job start turns) → IsRobin job start None turns → Known (run job start turns).words l.book l.region l.thread.core.over l.thread.core.arch.ssp
+known job start turns l r =
+    let end = ended job start turns l r in
+    record { one = l.only; low = l.low; high = l.high; room = l.room; stack = l.words; holder = l.holder; pointer = l.pointer end.0 end.1; exited = l.exited }
+
+pub keeps : (job : JobData) (start : Machine) (turns : List ℕ) (words : List ℕ) (threads : List Thread) → LastBook job start turns → IsRobin job start None turns → run job start turns ≡ machine words threads → KeepsFirsts threads × (length threads ≤ 32)
+keeps job start turns words threads l r e =
     let alone : threads ≡ l.thread ∷ [] = sym (ap (λ (m : Machine). m.threads) e) ∙ l.alone in
-    (subst KeepsFirsts (sym alone) (keeps_is _ l.book l.region l.thread.core.over l.thread.core.arch.ssp (known job start turns l)), rw alone (lit≤ tt))
+    (subst KeepsFirsts (sym alone) (keeps_is _ l.book l.region l.thread.core.over l.thread.core.arch.ssp (known job start turns l r)), rw alone (lit≤ tt))
 
 one_start : (thread : Thread) → starts_of thread.trace ≡ [] → shown_starts (thread ∷ []) ≡ first_region_start ∷ []
 one_start thread q = ap (λ (l : List ℕ). in_order (first_region_start ∷ (l ++ []))) q
 
-stacks_shown : (job : JobData) (start : Machine) (turns : List ℕ) (l : LastBook job start turns) → Starts job start → first_stacks (run job start turns).words (l.thread ∷ []) ≡ shown_stacks l.book (l.thread ∷ [])
-stacks_shown job start turns l s =
+stacks_shown : (job : JobData) (start : Machine) (turns : List ℕ) (l : LastBook job start turns) → IsRobin job start None turns → Starts job start → first_stacks (run job start turns).words (l.thread ∷ []) ≡ shown_stacks l.book (l.thread ∷ [])
+stacks_shown job start turns l r s =
     let q : AllQuiet (l.thread ∷ []) = subst AllQuiet l.alone (quiet job start turns s) in
     let f : region l.book (starting_at first_region_start l.book) ≡ l.region = region_found l.book l.region first_region_start l.only l.low in
-    ap (λ x. x ∷ []) (first_is _ l.book l.region l.thread.core.over l.thread.core.arch.ssp (known job start turns l))
+    ap (λ x. x ∷ []) (first_is _ l.book l.region l.thread.core.over l.thread.core.arch.ssp (known job start turns l r))
     ∙ ap (λ r. shown_region l.book r ∷ []) (sym f)
     ∙ ap (map (λ start. shown_region l.book (region l.book (starting_at start l.book)))) (sym (one_start l.thread q.0))
 
 -- what was read is the outcome by the last book
-pub read_is : (job : JobData) (start : Machine) (turns : List ℕ) (words : List ℕ) (threads : List Thread) (l : LastBook job start turns) → Starts job start → run job start turns ≡ machine words threads → read_outcome words threads ≡ outcome_of (run job start turns) l.book
-read_is job start turns words threads l s e =
+pub read_is : (job : JobData) (start : Machine) (turns : List ℕ) (words : List ℕ) (threads : List Thread) (l : LastBook job start turns) → IsRobin job start None turns → Starts job start → run job start turns ≡ machine words threads → read_outcome words threads ≡ outcome_of (run job start turns) l.book
+read_is job start turns words threads l r s e =
     let m : Machine = run job start turns in
     let stacks : first_stacks m.words m.threads ≡ shown_stacks l.book m.threads =
-    subst (λ ts. first_stacks m.words ts ≡ shown_stacks l.book ts) (sym l.alone) (stacks_shown job start turns l s) in
+    subst (λ ts. first_stacks m.words ts ≡ shown_stacks l.book ts) (sym l.alone) (stacks_shown job start turns l r s) in
     ap (λ (x : Machine). read_outcome x.words x.threads) (sym e)
     ∙ ap (λ (x : List StackReport). let o : Outcome = record { threads = map thread_out m.threads; stacks = x; process = process_end (slice_index m.words exit_word) (map thread_out m.threads) } in o) stacks
 
 -- after a run by Robin from the start, thread 0's SSP is in its stack
 pub ended_keeps : (job : JobData) (start : Machine) (words : List ℕ) (threads : List Thread) → ((turns : List ℕ) → LastBook job start turns) → Robined job start (machine words threads) → KeepsFirsts threads × (length threads ≤ 32)
-ended_keeps job start words threads last r = keeps job start r.turns words threads (last r.turns) r.ran
+ended_keeps job start words threads last r = keeps job start r.turns words threads (last r.turns) r.robin r.ran
 
 -- and what is read is the outcome of the run
 pub ended_ran : (job : JobData) (start : Machine) (words : List ℕ) (threads : List Thread) (outcome : Outcome) → ((turns : List ℕ) → LastBook job start turns) → ((turns : List ℕ) → Safe job start first_book turns) → Starts job start → Robined job start (machine words threads) → outcome ≡ read_outcome words threads → SafeRun job (ByRobin job) outcome
 ended_ran job start words threads outcome last safe s r e =
     let l = last r.turns in
-    record { start = start; starts = s; turns = r.turns; schedule = r.robin; book = l.book; legal = l.last; is = e ∙ read_is job start r.turns words threads l s r.ran; safe = safe r.turns }
+    record { start = start; starts = s; turns = r.turns; schedule = r.robin; book = l.book; legal = l.last; is = e ∙ read_is job start r.turns words threads l r.robin s r.ran; safe = safe r.turns }

@@ -2,7 +2,7 @@ use Rattle.std.proofs.Common.{subst, ◌≤◌}
 use Rattle.std.proofs.lemmas.List.{length-map}
 use Rattle.std.proofs.lemmas.Result.{IfOk-weaker}
 use Rattle.cet_words.specs.Job.{IsJob}
-use Rattle.cet_own.proofs.Reported.{last_book}
+use Rattle.cet_own.proofs.LastBook.{last_book}
 use Rattle.cet_own.proofs.Run.{safe_run}
 use Rattle.cet_top.specs.Guests.{thread_of}
 use Rattle.cet_top.proofs.Finished.{ended_keeps, ended_ran}

@@ -1,5 +1,5 @@
 -- Where each thread of a machine stands, and one access of a thread. Source: own.
-use Rattle.std.proofs.Common.{◌≡◌, ℕ, ◌+◌, Bool, true, false, Option, Some, None, refl, sym, ap, subst}
+use Rattle.std.proofs.Common.{List, [], ◌≡◌, ℕ, ◌+◌, Bool, true, false, Option, Some, None, refl, sym, ap, subst}
 use Rattle.std.specs.Prelude.{option_map, ◌==◌, if◌then◌else◌}
 use Rattle.cet_words.specs.Job.{JobData, IsJob}
 use Rattle.cet_isa.specs.declared.threads.Arch.{Arch}
@@ -16,17 +16,21 @@ use Rattle.cet_page.specs.Machine.{Thread}
 use Rattle.cet_page.specs.declared.finishes.Finish.{Finish}
 use Rattle.cet_page.specs.declared.finishes.Finish.TheVariants.{Noted, Posted, Exited, Stopped}
 use Rattle.cet_own.specs.Safe.{NotedReturns}
+use Rattle.cet_own.specs.Restores.{NotedRestores}
+use Rattle.cet_page.specs.Trail.{Visit, trail_of}
+use Rattle.cet_page.specs.Trail.{trail}
+use Rattle.cet_own.proofs.Still.{Still, still_none}
 use Rattle.cet_own.proofs.Frame.{SteadyAt, others_at, OnCame}
 use Rattle.cet_own.proofs.Standing.{stacked_kept, AtRest, rest_kept, HasNone, none_kept}
-use Rattle.cet_own.proofs.Held.{Held}
-use Rattle.cet_own.proofs.Classes.{State, rules}
+use Rattle.cet_book.proofs.Held.{Held}
+use Rattle.cet_own.proofs.Owed.{State, rules}
 use Rattle.cet_own.proofs.Parts.{During, Fails}
 use Rattle.cet_own.proofs.Calls.{entries_of, Ends}
 use Rattle.cet_own.proofs.Rows.{row_claim}
 
 -- the claim on what is left of a thread's row
 abbrev pub Left : JobData → Arch → (before s : State) → Seen → Type 0
-Left job arch before s seen = SteadyAt (rules job arch.number) (During arch) (Ends job arch) (Fails job arch) before s (row job arch) seen.count seen.kept
+Left job arch before s seen = SteadyAt (rules job arch.number) (During arch) (Ends job arch) (λ p. Fails job arch) [] before s (row job arch) seen.count seen.kept
 
 -- a thread that waits for an access
 pub record InRow (job : JobData) (t : ℕ) (s : State) (core : Core) : Type 0 where
@@ -35,11 +39,15 @@ pub record InRow (job : JobData) (t : ℕ) (s : State) (core : Core) : Type 0 wh
   pub before : State
   pub left : Left job (unheld core.arch) before s core.seen
 
+-- an ended thread is at rest, and in no row
+abbrev pub Ended : JobData → (t : ℕ) → State → Core → Type 0
+Ended job t s core = AtRest t s.book core.arch.ssp × (trail_of job core ≡ [])
+
 abbrev pub CoreStands : JobData → (t : ℕ) → State → Core → Option End → Type 0
 CoreStands job t s core None = InRow job t s core
 CoreStands job t s core (Some (ending.Exit status)) = HasNone t s.book
-CoreStands job t s core (Some ending.Group) = AtRest t s.book core.arch.ssp
-CoreStands job t s core (Some ending.Limit) = AtRest t s.book core.arch.ssp
+CoreStands job t s core (Some ending.Group) = Ended job t s core
+CoreStands job t s core (Some ending.Limit) = Ended job t s core
 
 -- a thread by its number, where it is born
 abbrev pub ThreadStands : JobData → (t : ℕ) → State → Option Thread → Type 0
@@ -58,15 +66,15 @@ row_relies job t s now core r h =
       waits = h.waits;
       number = h.number;
       before = h.before;
-      left = others_at (rules job core.arch.number) (During (unheld core.arch)) (Ends job (unheld core.arch)) (Fails job (unheld core.arch)) h.before s now
-          (row job (unheld core.arch)) core.seen.count core.seen.kept h.waits.waits.0 r' (stacked_kept r') h.left h.waits.waits.1;
+      left = others_at (rules job core.arch.number) (During (unheld core.arch)) (Ends job (unheld core.arch)) (λ p. Fails job (unheld core.arch)) [] h.before s now
+          (row job (unheld core.arch)) core.seen.count core.seen.kept h.waits.waits.0 r' (λ p. stacked_kept r') h.left h.waits.waits.1;
     }
 
 core_relies : (job : JobData) (t : ℕ) (s now : State) (core : Core) (over : Option End) → Relies t s.book now.book → CoreStands job t s core over → CoreStands job t now core over
 core_relies job t s now core None r h = row_relies job t s now core r h
 core_relies job t s now core (Some (ending.Exit status)) r h = none_kept r h
-core_relies job t s now core (Some ending.Group) r h = rest_kept r h
-core_relies job t s now core (Some ending.Limit) r h = rest_kept r h
+core_relies job t s now core (Some ending.Group) r h = (rest_kept r h.0, h.1)
+core_relies job t s now core (Some ending.Limit) r h = (rest_kept r h.0, h.1)
 
 pub thread_relies : (job : JobData) (t : ℕ) (s now : State) (o : Option Thread) → Relies t s.book now.book → ThreadStands job t s o → ThreadStands job t now o
 thread_relies job t s now None r h = none_kept r h
@@ -75,22 +83,31 @@ thread_relies job t s now (Some thread) r h = (held_relies t s.book now.book thr
 -- ---- what the thread itself comes to
 
 recorded_stands : (job : JobData) (next : Arch) (s : State) (b : Bool) → IsJob job → AtRest next.number s.book next.ssp → CoreAt job (record { arch = next; seen = nothing_seen; over = if b then Some ending.Limit else None }) (if b then Some ending.Limit else None) → CoreStands job next.number s (record { arch = next; seen = nothing_seen; over = if b then Some ending.Limit else None }) (if b then Some ending.Limit else None)
-recorded_stands job next s true j rest w = rest
+recorded_stands job next s true j rest w = (rest, refl)
 recorded_stands job next s false j rest w = record { waits = w; number = refl; before = s; left = row_claim job j (unheld next) s s w.state.made rest }
 
 -- the thread and its record, by what its row has come to
 abbrev pub left_by : JobData → Arch → Option ℕ → Seen → Came Finish → Option Core → After
 left_by job arch held seen c child = record { core = core_by job arch held seen c; noted = noted_by arch c; child = child }
 
-pub came_stands : (job : JobData) (core : Core) (held : Option ℕ) (seen : Seen) (before s : State) (child : Option Core) (c : Came Finish) → IsJob job → Left job (unheld core.arch) before s seen → OnCame (rules job core.arch.number) (During (unheld core.arch)) (Ends job (unheld core.arch)) (Fails job (unheld core.arch)) before s c → IsCore job (core_by job core.arch held seen c) → CoreStands job core.arch.number s (core_by job core.arch held seen c) (core_by job core.arch held seen c).over × NotedReturns job (entries_of core.arch.number before.book) core (left_by job core.arch held seen c child) (noted_by core.arch c)
-came_stands job core held seen before s child (Wants a) j l o w = (record { waits = w; number = refl; before = before; left = l }, tt)
-came_stands job core held seen before s child (Faulted e) j l o w =
-    (recorded_stands job (kept_by core.arch held (faulted core.arch e)) s (core.arch.count + 1 == job.limit) j o.0 w, λ r. (o.1 r, refl, refl))
-came_stands job core held seen before s child (Over (Noted next r) left values) j l o w =
-    (recorded_stands job (kept_by core.arch held next) s (next.count == job.limit) j o.0 w, o.1 core.arch.held held)
-came_stands job core held seen before s child (Over (Posted next) left values) j l o w = absurd o
-came_stands job core held seen before s child (Over (Exited next r status) left values) j l o w = (o.0, o.1 core.arch.held held)
-came_stands job core held seen before s child (Over Stopped left values) j l o w = (o, tt)
+pub came_stands : (job : JobData) (core : Core) (held : Option ℕ) (seen : Seen) (past : List Visit) (before s : State) (child : Option Core) (c : Came Finish) → IsJob job → Left job (unheld core.arch) before s seen → OnCame (rules job core.arch.number) (During (unheld core.arch)) (Ends job (unheld core.arch)) (λ p. Fails job (unheld core.arch)) past before s c → IsCore job (core_by job core.arch held seen c) → CoreStands job core.arch.number s (core_by job core.arch held seen c) (core_by job core.arch held seen c).over × NotedReturns job (entries_of core.arch.number before.book) core (left_by job core.arch held seen c child) (noted_by core.arch c) × NotedRestores before.book s.book (noted_by core.arch c)
+came_stands job core held seen past before s child (Wants a) j l o w = (record { waits = w; number = refl; before = before; left = l }, tt, tt)
+came_stands job core held seen past before s child (Faulted e) j l o w =
+    (recorded_stands job (kept_by core.arch held (faulted core.arch e)) s (core.arch.count + 1 == job.limit) j o.0 w, λ r. (o.1 r, refl, refl), o.2)
+came_stands job core held seen past before s child (Over (Noted next r) left values) j l o w =
+    (recorded_stands job (kept_by core.arch held next) s (next.count == job.limit) j o.0 w, o.1 core.arch.held held, o.2)
+came_stands job core held seen past before s child (Over (Posted next) left values) j l o w = (recorded_stands job (kept_by core.arch held next) s false j o.0 w, tt, tt)
+came_stands job core held seen past before s child (Over (Exited next r status) left values) j l o w = (o.0, o.1 core.arch.held held, o.2)
+came_stands job core held seen past before s child (Over Stopped left values) j l o w = ((o.0, refl), tt, tt)
+
+-- a row that goes on has its trail, and one that is over leaves none
+pub came_still : (job : JobData) (arch : Arch) (held : Option ℕ) (seen : Seen) (c : Came Finish) (words : List ℕ) (t : ℕ) (b : Book) → Still words t b (trail seen.count (row job (unheld arch)) seen.kept []) → Still words t b (trail_of job (core_by job arch held seen c))
+came_still job arch held seen (Wants a) words t b h = h
+came_still job arch held seen (Faulted e) words t b h = still_none words t b
+came_still job arch held seen (Over (Noted next r) left values) words t b h = still_none words t b
+came_still job arch held seen (Over (Posted next) left values) words t b h = still_none words t b
+came_still job arch held seen (Over (Exited next r status) left values) words t b h = still_none words t b
+came_still job arch held seen (Over Stopped left values) words t b h = still_none words t b
 
 pub after_book : (t : ℕ) (s next : State) (o : Option Book) → option_map (λ b. record s { book = b }) o ≡ Some next → o ≡ Some next.book
 after_book t s next None e = cc

@@ -1,0 +1,112 @@
+-- The facts of the ownership invariant, from what is carried from turn to turn. Source: own.
+use Rattle.std.proofs.Common.{◌≡◌, ℕ, ◌+◌, ◌-◌, ◌*◌, ◌/◌, ◌%◌, ◌^◌, ◌<◌, inl, inr, List, Option, Some, None, refl, sym, ◌∙◌, ap, subst, arith, lit<}
+use Rattle.std.specs.Prelude.{◌↔◌, slice_get, bit_or}
+use Rattle.std.specs.Int.Bits.{or_zero_r}
+use Rattle.std.proofs.lemmas.Nat.{or_block}
+use Rattle.std.proofs.lemmas.Bool.Decides.{eqb_tells}
+use Rattle.cet_words.specs.Job.{JobData}
+use Rattle.cet_isa.specs.declared.threads.End.{End}
+use Rattle.cet_book.specs.Book.{Book, region, top}
+use Rattle.cet_book.specs.Facts.{In, Place}
+use Rattle.cet_book.specs.Stack.{slot_word}
+use Rattle.cet_book.proofs.Hand.{Made, made_empty}
+use Rattle.cet_page.specs.Machine.{Machine, Thread}
+use Rattle.cet_page.specs.Within.{CoreAt}
+use Rattle.cet_own.specs.Restores.{IsToken}
+use Rattle.cet_own.specs.Stands.{ShadowPages, AllBounds, Stands}
+use Rattle.cet_own.proofs.Holds.{IsMaker, Marks}
+use Rattle.cet_own.proofs.Owed.{State}
+use Rattle.cet_own.proofs.Threads.{CoreStands, ThreadStands}
+use Rattle.cet_own.proofs.Turns.{Invariant, safe_at}
+use Rattle.cet_own.proofs.Writes.{in_one}
+
+or_one : (n : ℕ) → n % 8 ≡ 0 → bit_or n 1 ≡ n + 1
+or_one n e =
+    let whole : n ≡ n / 8 * 2 ^ 3 + 0 = omega arith in
+    let bit : 1 ≡ 0 * 2 ^ 3 + 1 = omega arith in
+    let parts : bit_or (n / 8 * 2 ^ 3 + 0) (0 * 2 ^ 3 + 1) ≡ bit_or (n / 8) 0 * 2 ^ 3 + bit_or 0 1 = or_block 3 (n / 8) 0 0 1 (lit< tt) (lit< tt) in
+    ap (λ x. bit_or x 1) whole ∙ ap (bit_or (n / 8 * 2 ^ 3 + 0)) bit ∙ parts ∙ rw (or_zero_r (n / 8)) (let one : bit_or 0 1 ≡ 1 = refl in omega arith)
+
+-- the words of a region that is being made are 0
+pub making_zero : (words : List ℕ) (b : Book) (t s p : ℕ) → Made t s b → Marks words b → Place p → In (region b s) p → slot_word words p ≡ 0
+making_zero words b t s p m h place inn = elim (eqb_tells (slot_word words p) 0) [
+  | inl u ↦ u.1
+  | inr u ↦ absurd (
+      let used = h.zeros p place u.1 in
+      let same = in_one b used.0 s p m.shape used.1.inside inn in
+      let making : IsMaker (region b s).holder = subst IsMaker (sym m.maker) tt in
+      used.1.made (subst (λ j. IsMaker (region b j).holder) (sym same) making))
+]
+
+-- a word is a restore token exactly where a parked region has its token
+pub token_found : (words : List ℕ) (b : Book) (p : ℕ) → Marks words b → Place p → slot_word words p ≡ p + 9 ↔ IsToken b p
+token_found words b p h place = (
+  λ e. (let found = h.token p place e in (found.0, found.1.parked, found.1.top_is)),
+  λ k.
+      let at = k.2 in
+      let here : top (region b k.0) - 8 ≡ p = omega arith in
+      subst (λ n. slot_word words n ≡ top (region b k.0) + 1) here (h.parked k.0 k.1) ∙ omega arith,
+)
+
+core_at : (job : JobData) (t : ℕ) (s : State) (thread : Thread) (over : Option End) → CoreStands job t s thread.core over → CoreAt job thread.core over
+core_at job t s thread None h = h.waits
+core_at job t s thread (Some e) h = tt
+
+core_below : (job : JobData) (t : ℕ) (s : State) (thread : Thread) (over : Option End) → over ≡ None → CoreStands job t s thread.core over → thread.core.arch.count < job.limit
+core_below job t s thread None e h = h.waits.count
+core_below job t s thread (Some x) e h = cc
+
+module _ (job : JobData) (m : Machine) (s : State) (st : Invariant job m s) where
+  thread_at : (t : ℕ) (thread : Thread) → slice_get m.threads t ≡ Some thread → ThreadStands job t s (Some thread)
+  thread_at t thread e = subst (ThreadStands job t s) e (st.threads t)
+
+  shadow_pages : ShadowPages m.words s.book
+  shadow_pages = record {
+    present = st.holds.pages.shadow;
+    outside = λ p place none. elim (eqb_tells (slot_word m.words p) 0) [
+      | inl u ↦ u.1
+      | inr u ↦ absurd (let used = st.holds.marks.zeros p place u.1 in none used.0 used.1.inside)
+    ];
+    making = λ p t i place e inn. making_zero m.words s.book t i p (record { shape = st.holds.sound.book.shape; maker = e }) st.holds.marks place inn;
+    empty = λ t i e. (let made : Made t i s.book = record { shape = st.holds.sound.book.shape; maker = e } in made_empty made);
+  }
+
+  tokens : (p : ℕ) → Place p → slot_word m.words p ≡ bit_or (p + 8) 1 ↔ IsToken s.book p
+  tokens p place =
+      let even = place.even in
+      let bits : bit_or (p + 8) 1 ≡ p + 9 = or_one (p + 8) (omega arith) ∙ omega arith in
+      subst (λ n. slot_word m.words p ≡ n ↔ IsToken s.book p) (sym bits) (token_found m.words s.book p st.holds.marks place)
+
+  all_bounds : AllBounds job.image m.words s.book
+  all_bounds = record {
+    regions = st.holds.sound.book.shape.bounds;
+    room = λ i. (st.holds.sound.book.shape.fits i).room;
+    returns = st.holds.sound.returns;
+    entries = st.holds.pages.entries;
+    fixed = st.holds.pages.fixed;
+  }
+
+  pub stands_at : Stands job m s.book
+  stands_at = record {
+    safe = safe_at job m s st;
+    shadow_pages = shadow_pages;
+    entries_written = st.holds.stacks;
+    tokens = tokens;
+    previous_left = st.holds.sound.book.shape.chain;
+    supervisor_tokens = st.holds.gates;
+    restorers = st.holds.restorers;
+    row_steady = λ t thread e. (st.still t thread e).word;
+    counters = record { drawn = st.holds.marks.drawn; least = st.paid.least; number = st.paid.number };
+    made = st.made;
+    bounds = all_bounds;
+    row_values = λ t thread e. record {
+      waits = core_at job t s thread thread.core.over (thread_at t thread e).1;
+      restorer = (st.still t thread e).restorer;
+    };
+    counts = record {
+      most = st.paid.counts;
+      below = λ t thread e over. core_below job t s thread thread.core.over over (thread_at t thread e).1;
+      draws = st.paid.draws;
+      births = st.paid.nexts;
+    };
+  }

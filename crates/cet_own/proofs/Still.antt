@@ -1,0 +1,155 @@
+-- What a row has seen of words of its thread's own is still there, whatever the others did since. Source: own.
+use Rattle.std.proofs.Common.{◌⊎◌, ◌≡◌, ◌≢◌, ℕ, ◌+◌, ◌%◌, ◌^◌, ◌<◌, inl, inr, Bool, true, false, List, [], ◌∷◌, length, Some, None, refl, sym, ◌∙◌, ap, subst, arith, get_or-set_other, get_or-set_same}
+use Rattle.std.specs.Prelude.{◌||◌, nat_lt, slice_index, slice_set, bit_or, bit_and, ◌==◌, if◌then◌else◌}
+use Rattle.std.proofs.lemmas.Bool.Decides.{eqb_tells, nat_tests}
+use Rattle.std.proofs.lemmas.Bool.{false≢true, eqb-true}
+use Rattle.cet_words.specs.Layout.{action_word, word_count}
+use Rattle.cet_words.specs.Access.{answer, after}
+use Rattle.cet_words.specs.Job.{ImageData}
+use Rattle.cet_words.specs.Change.{Change, Acquired, Busied}
+use Rattle.cet_words.specs.declared.accesses.Access.{Access}
+use Rattle.cet_words.specs.declared.accesses.Access.TheVariants as access
+use Rattle.cet_book.specs.Book.{Book, books_after}
+use Rattle.cet_book.specs.Shape.{IsBook}
+use Rattle.cet_book.proofs.Kept.{NoneBorn}
+use Rattle.cet_own.proofs.Writes.{in_there}
+use Rattle.cet_page.specs.Trail.{Visit, visit}
+use Rattle.cet_own.specs.Past.{is_taking, touches, leaves_word, takes_any, left_in, restorer_word, shows_restorer, has_restorer}
+use Rattle.cet_book.proofs.Cases.{and_true}
+use Rattle.cet_book.proofs.Comes.{Comes, TakesNothing, AllApart, changes_come}
+use Rattle.cet_own.specs.Stands.{Restorers, IsOwnPlace, OwnWord, below_token, own_slot}
+
+pub record Still (words : List ℕ) (t : ℕ) (b : Book) (past : List Visit) : Type 0 where
+  pub word : (w x : ℕ) → OwnWord t b w → left_in past w ≡ Some x → slice_index words w ≡ x
+  pub restorer : (s : ℕ) → s < 64 → has_restorer past s ≡ true → slice_index words (restorer_word s) ≢ 0
+
+pub word_there : (t : ℕ) (b : Book) (w : ℕ) → OwnWord t b w → w < word_count
+word_there t b w (own_slot addr p o e) = let low = p.low in let high = p.high in omega arith
+word_there t b w (below_token k l h e) = omega arith
+
+-- a row without accesses
+pub still_none : (words : List ℕ) (t : ℕ) (b : Book) → Still words t b []
+still_none words t b = record { word = λ w x o e. cc; restorer = λ s l e. absurd (false≢true e) }
+
+-- ---- what is a thread's own was so before
+
+or_false : (p q : Bool) → (p || q) ≡ false → (p ≡ false) × (q ≡ false)
+or_false true q e = absurd (false≢true (sym e))
+or_false false q e = (refl, e)
+
+takes_nothing : (c : Change) → is_taking c ≡ false → TakesNothing c
+takes_nothing (Acquired p) e = absurd (false≢true (sym e))
+takes_nothing (Busied k) e = absurd (false≢true (sym e))
+takes_nothing c e = tt
+
+nothing_taken : (t : ℕ) (cs : List Change) → takes_any cs ≡ false → AllApart t t cs
+nothing_taken t [] e = tt
+nothing_taken t (c ∷ cs) e = let both = or_false (is_taking c) (takes_any cs) e in (inr (takes_nothing c both.0), nothing_taken t cs both.1)
+
+-- unless it was taken since
+pub own_before : (y : ℕ) (b next : Book) (addr : ℕ) → Comes y b next → IsOwnPlace y next addr → IsOwnPlace y b addr
+own_before y b next addr c o = record {
+  each = λ i inn.
+      let l = in_there b i addr inn in
+      let s = c.start i l in
+      let e = c.end i l in
+      let low = inn.low in
+      let high = inn.high in
+      c.owns i l (o.each i (record { low = omega arith; high = omega arith }));
+}
+
+own_word_before : (y : ℕ) (b next : Book) (w : ℕ) → Comes y b next → OwnWord y next w → OwnWord y b w
+own_word_before y b next w c (own_slot addr p o e) = own_slot addr p (own_before y b next addr c o) e
+own_word_before y b next w c (below_token k l h e) = below_token k l (c.holds k h) e
+
+-- ---- what one access does to a word
+
+abbrev pub Left : (Access) → List ℕ → ℕ → Type 0
+Left a words w = slice_index (after words a) w ≡ (if touches a w then leaves_word a (answer words a) else slice_index words w)
+
+set_word : (words : List ℕ) (word w x : ℕ) → w < length words → slice_index (slice_set words word x) w ≡ (if word == w then x else slice_index words w)
+set_word words word w x l = elim (eqb_tells word w) [
+  | inl e ↦ rw e.0 (subst (λ n. slice_index (slice_set words n x) w ≡ x) (sym e.1) (get_or-set_same words w x 0 l))
+  | inr e ↦ rw e.0 (let n : w ≢ word = (λ z. e.1 (sym z)) in get_or-set_other words word w x 0 n)
+]
+
+same_word : (words : List ℕ) (word w : ℕ) → slice_index words w ≡ (if word == w then slice_index words word else slice_index words w)
+same_word words word w = elim (eqb_tells word w) [
+  | inl e ↦ rw e.0 (ap (slice_index words) (sym e.1))
+  | inr e ↦ rw e.0 refl
+]
+
+exchanged : (words : List ℕ) (word w x : ℕ) (c : Bool) → w < length words → slice_index (if c then slice_set words word x else words) w ≡ (if word == w then (if c then x else slice_index words word) else slice_index words w)
+exchanged words word w x true l = set_word words word w x l
+exchanged words word w x false l = same_word words word w
+
+pub left_word : (a : Access) (words : List ℕ) (w : ℕ) → w < length words → Left a words w
+left_word (access.Look page) words w l = refl
+left_word (access.Load word) words w l = same_word words word w
+left_word (access.Store word value) words w l = set_word words word w value l
+left_word (access.Swap word value) words w l = set_word words word w value l
+left_word (access.FetchAdd word value) words w l = set_word words word w ((slice_index words word + value) % 2 ^ 64) l
+left_word (access.FetchOr word value) words w l = set_word words word w (bit_or (slice_index words word) value) l
+left_word (access.FetchAnd word value) words w l = set_word words word w (bit_and (slice_index words word) value) l
+left_word (access.CompareExchange word expected value) words w l = exchanged words word w value (slice_index words word == expected) l
+
+-- ---- restorers
+
+-- a signal that had a restorer has one
+abbrev pub KeepsRestorers : List ℕ → List ℕ → Type 0
+KeepsRestorers words now = (s : ℕ) → s < 64 → slice_index words (restorer_word s) ≢ 0 → slice_index now (restorer_word s) ≢ 0
+
+or_true : (p q : Bool) → (p || q) ≡ true → (p ≡ true) ⊎ (q ≡ true)
+or_true true q e = inl refl
+or_true false q e = inr e
+
+restorer_shown : {image : ImageData} (a : Access) (words : List ℕ) (s : ℕ) → length words ≡ word_count → Restorers image words → s < 64 → shows_restorer a (answer words a) s ≡ true → slice_index (after words a) (restorer_word s) ≢ 0
+restorer_shown (access.Load word) words s size h l e =
+    let d = and_true (word == action_word s) (nat_lt 1 (slice_index words word)) e in
+    let same : word ≡ action_word s = eqb-true word (action_word s) d.0 in
+    let tested : nat_lt 1 (slice_index words word) ≡ true = d.1 in
+    let above : 1 < slice_index words word = grind (arith, nat_tests) in
+    h.shown s l (subst (λ n. 1 < slice_index words n) same above)
+restorer_shown (access.Store word value) words s size h l e =
+    let d = and_true (word == restorer_word s) (nat_lt 0 value) e in
+    let same : word ≡ restorer_word s = eqb-true word (restorer_word s) d.0 in
+    let tested : nat_lt 0 value ≡ true = d.1 in
+    let above : 0 < value = grind (arith, nat_tests) in
+    let inside : restorer_word s < length words = omega arith in
+    let now : slice_index (slice_set words word value) (restorer_word s) ≡ value = subst (λ n. slice_index (slice_set words n value) (restorer_word s) ≡ value) (sym same) (get_or-set_same words (restorer_word s) value 0 inside) in
+    λ z. omega arith
+restorer_shown a words s size h l e = cc
+
+-- ---- after the thread's own access
+
+known_by : (past : List Visit) (w x leaves_word now was : ℕ) (c : Bool) → now ≡ (if c then leaves_word else was) → (left_in past w ≡ Some x → was ≡ x) → (if c then Some leaves_word else left_in past w) ≡ Some x → now ≡ x
+known_by past w x leaves_word now was true e h k = e ∙ (let q = k in cc)
+known_by past w x leaves_word now was false e h k = e ∙ h k
+
+own_word : (words : List ℕ) (t : ℕ) (b : Book) (past : List Visit) (a : Access) (w x : ℕ) (taking : Bool) → length words ≡ word_count → (taking ≡ false → OwnWord t b w) → Still words t b past → (if taking then None else (if touches a w then Some (leaves_word a (answer words a)) else left_in past w)) ≡ Some x → slice_index (after words a) w ≡ x
+own_word words t b past a w x true size own h e = cc
+own_word words t b past a w x false size own h e =
+    let there = word_there t b w (own refl) in
+    known_by past w x (leaves_word a (answer words a)) (slice_index (after words a) w) (slice_index words w) (touches a w)
+    (left_word a words w (omega arith)) (λ k. h.word w x (own refl) k) e
+
+pub still_own : {image : ImageData} (words : List ℕ) (t : ℕ) (b next : Book) (past : List Visit) (a : Access) (cs : List Change) → length words ≡ word_count → Restorers image words → KeepsRestorers words (after words a) → IsBook b → NoneBorn cs t → books_after t b cs ≡ Some next → Still words t b past → Still (after words a) t next (visit a (answer words a) cs ∷ past)
+still_own words t b next past a cs size signals restorers book none q h = record {
+  restorer = λ s l e. elim (or_true (shows_restorer a (answer words a) s) (has_restorer past s) e) [
+    | inl u ↦ restorer_shown a words s size signals l u
+    | inr u ↦ restorers s l (h.restorer s l u)
+  ];
+  word = λ w x own e.
+      own_word words t b past a w x (takes_any cs) size
+      (λ f. own_word_before t b next w (changes_come t t cs b next book q none (nothing_taken t cs f)) own) h e;
+}
+
+-- ---- after another thread's
+
+pub still_kept : (words : List ℕ) (y : ℕ) (b next : Book) (past : List Visit) (a : Access) → Comes y b next → ((w : ℕ) → OwnWord y b w → slice_index (after words a) w ≡ slice_index words w) → KeepsRestorers words (after words a) → Still words y b past → Still (after words a) y next past
+still_kept words y b next past a c spares restorers h = record {
+  restorer = λ s l e. restorers s l (h.restorer s l e);
+  word = λ w x own e.
+      let own' = own_word_before y b next w c own in
+      spares w own' ∙ h.word w x own' e;
+}

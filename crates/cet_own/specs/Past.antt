@@ -1,0 +1,137 @@
+-- What is read off the trail of a row: what it left in a word, what it may still lean on, and what it has done so far.
+-- Source: own.
+use Rattle.std.specs.Prelude.{ℕ, ◌+◌, ◌-◌, ◌*◌, ◌%◌, ◌^◌, Bool, true, false, ◌||◌, ◌&&◌, nat_lt, ◌==◌, if◌then◌else◌, bit_or, bit_and, List, [], ◌∷◌, Option, Some, None}
+use Rattle.cet_words.specs.Layout.{action_word, draw_shadow_word, next_thread_word}
+use Rattle.cet_words.specs.Change.{Change, Acquired, Pushed, Busied}
+use Rattle.cet_words.specs.Job.{JobData}
+use Rattle.cet_words.specs.declared.accesses.Access.{Access}
+use Rattle.cet_words.specs.declared.accesses.Access.TheVariants as access
+use Rattle.cet_page.specs.Core.{Core}
+use Rattle.cet_page.specs.Trail.{Visit, trail_of}
+
+-- ---- words
+
+-- the access reads or writes the word
+abbrev pub touches : Access → (word : ℕ) → Bool
+touches (access.Look page) w = false
+touches (access.Load word) w = word == w
+touches (access.Store word value) w = word == w
+touches (access.Swap word value) w = word == w
+touches (access.FetchAdd word value) w = word == w
+touches (access.FetchOr word value) w = word == w
+touches (access.FetchAnd word value) w = word == w
+touches (access.CompareExchange word expected value) w = word == w
+
+-- the access may write the word
+abbrev pub alters : Access → (word : ℕ) → Bool
+alters (access.Load word) w = false
+alters a w = touches a w
+
+-- what stands in the word of an access after it, by its answer
+abbrev pub leaves_word : Access → (answer : ℕ) → ℕ
+leaves_word (access.Look page) v = v
+leaves_word (access.Load word) v = v
+leaves_word (access.Store word value) v = value
+leaves_word (access.Swap word value) v = value
+leaves_word (access.FetchAdd word value) v = (v + value) % 2 ^ 64
+leaves_word (access.FetchOr word value) v = bit_or v value
+leaves_word (access.FetchAnd word value) v = bit_and v value
+leaves_word (access.CompareExchange word expected value) v = if v == expected then value else v
+
+-- by this change the thread gets a shadow stack or a supervisor stack
+abbrev pub is_taking : Change → Bool
+is_taking (Acquired at) = true
+is_taking (Busied stack) = true
+is_taking c = false
+
+abbrev pub takes_any : List Change → Bool
+takes_any [] = false
+takes_any (c ∷ cs) = is_taking c || takes_any cs
+
+-- What the row last read or wrote in a word. Where it got a stack since, nothing is said: the word may be one of that stack,
+-- and have been another thread's.
+abbrev pub left_in : List Visit → (word : ℕ) → Option ℕ
+left_in [] w = None
+left_in (x ∷ past) w =
+    if takes_any x.changes then None else (if touches x.access w then Some (leaves_word x.access x.answer) else left_in past w)
+
+-- ---- signals
+
+-- the restorer stands two words above the handler
+abbrev pub restorer_word : (signal : ℕ) → ℕ
+restorer_word signal = 1605698 + 4 * signal
+
+-- the access loads a handler other than the default and ignoring, or stores a restorer
+abbrev pub shows_restorer : Access → (answer signal : ℕ) → Bool
+shows_restorer (access.Load word) v s = word == action_word s && nat_lt 1 v
+shows_restorer (access.Store word value) v s = word == restorer_word s && nat_lt 0 value
+shows_restorer a v s = false
+
+-- so the row has seen that the signal has a restorer
+abbrev pub has_restorer : List Visit → (signal : ℕ) → Bool
+has_restorer [] s = false
+has_restorer (x ∷ past) s = shows_restorer x.access x.answer s || has_restorer past s
+
+-- ---- SSP in force
+
+abbrev pub is_frame : Change → Bool
+is_frame (Pushed restorer) = true
+is_frame c = false
+
+abbrev pub pushes_frame : List Change → Bool
+pushes_frame [] = false
+pushes_frame (c ∷ cs) = is_frame c || pushes_frame cs
+
+-- the row has pushed a signal's frame on the shadow stack
+abbrev pub frame_pushed : List Visit → Bool
+frame_pushed [] = false
+frame_pushed (x ∷ past) = pushes_frame x.changes || frame_pushed past
+
+-- a frame and the restorer below it take 16 bytes
+abbrev pub below_frame : (pushed : Bool) → (ssp : ℕ) → ℕ
+below_frame pushed ssp = if pushed then ssp - 16 else ssp
+
+-- A delivery sets the register SSP with its last access only: from its frame on, the pointer in force is 16 lower.
+abbrev pub in_force : JobData → Core → ℕ
+in_force job core = below_frame (frame_pushed (trail_of job core)) core.arch.ssp
+
+-- ---- counters
+
+-- NEXT_THREAD, the number of the next thread to be born, and DRAW_SHADOW, the next page of the shadow area to be drawn
+abbrev pub next_word : ℕ
+next_word = next_thread_word
+
+abbrev pub draw_word : ℕ
+draw_word = draw_shadow_word
+
+abbrev pub is_draw : Access → Bool
+is_draw (access.FetchAdd word value) = word == draw_word
+is_draw a = false
+
+-- the row has drawn pages of the shadow area
+abbrev pub drew : List Visit → Bool
+drew [] = false
+drew (x ∷ past) = is_draw x.access || drew past
+
+abbrev pub is_number : Access → Bool
+is_number (access.FetchAdd word value) = word == next_word
+is_number a = false
+
+-- the row has drawn the number of a thread
+abbrev pub numbered : List Visit → Bool
+numbered [] = false
+numbered (x ∷ past) = is_number x.access || numbered past
+
+-- ---- what a row has done
+
+-- All that claims need to know of it: a further fact of the kind is a further field.
+pub record Progress : Type 0 where
+  pub framed : Bool
+  pub drawing : Bool
+  pub numbering : Bool
+
+abbrev pub progress : List Visit → Progress
+progress past = record { framed = frame_pushed past; drawing = drew past; numbering = numbered past }
+
+abbrev pub untouched : Progress
+untouched = record { framed = false; drawing = false; numbering = false }

@@ -1,0 +1,133 @@
+-- The ownership invariant: what holds of words, threads and book at each moment of each run. It is the only definition that
+-- has both words and lists. Source: own.
+use Rattle.std.specs.Prelude.{◌≡◌, ◌≢◌, ℕ, ◌+◌, ◌-◌, ◌*◌, ◌<◌, ◌≤◌, ◌⊎◌, ◌↔◌, true, List, [], length, slice_index, slice_get, sum_by, min, bit_or, Option, Some, None}
+use Rattle.cet_words.specs.Entries.{entry_of}
+use Rattle.cet_words.specs.Bytes.{code_byte}
+use Rattle.cet_words.specs.Job.{JobData, ImageData}
+use Rattle.cet_words.specs.Layout.{entry_word, token, token_word, action_word, first_kernel_page, first_mmap_page, first_shadow_page, page_count, shadow_start}
+use Rattle.cet_book.specs.declared.entries.Holder.TheVariants.{Maker}
+use Rattle.cet_book.specs.Book.{Book, region, top, stack_of}
+use Rattle.cet_book.specs.Facts.{Bounds, In, Place, LiesIn, Owns, Stack, is_left, one, links, Returns}
+use Rattle.cet_book.specs.Stack.{slot, slot_word, tops}
+use Rattle.cet_page.specs.Core.{Core}
+use Rattle.cet_page.specs.Machine.{Machine, Thread}
+use Rattle.cet_page.specs.Trail.{trail_of}
+use Rattle.cet_page.specs.Within.{IsCore}
+use Rattle.cet_own.specs.Past.{left_in, restorer_word, has_restorer, draw_word, next_word, drew, numbered}
+use Rattle.cet_own.specs.Restores.{IsToken}
+use Rattle.cet_own.specs.Safe.{IsSafeAt}
+
+-- ---- pages and tokens
+
+-- a word that is 0 or the one present entry of a page
+abbrev pub IsEntry : ImageData → (page word : ℕ) → Type 0
+IsEntry image page word = (word ≡ 0) ⊎ (word ≡ entry_of image page)
+
+-- present pages of the shadow area lie in regions; words outside them, and of one that is being made, are 0
+pub record ShadowPages (words : List ℕ) (b : Book) : Type 0 where
+  pub present : (page : ℕ) → first_shadow_page ≤ page → page < first_kernel_page → slice_index words (entry_word page) ≢ 0 → (i : ℕ) × LiesIn (region b i) page
+  pub outside : (p : ℕ) → Place p → ((i : ℕ) → In (region b i) p → ⊥) → slot_word words p ≡ 0
+  pub making : (p t i : ℕ) → Place p → (region b i).holder ≡ Maker t → In (region b i) p → slot_word words p ≡ 0
+  pub empty : (t i : ℕ) → (region b i).holder ≡ Maker t → (region b i).entries ≡ []
+
+abbrev pub busy : Option ℕ → ℕ
+busy None = 0
+busy (Some t) = 1
+
+-- ---- what the present row of a thread has seen
+
+-- the address lies in regions that are current on the thread or made by it, or in none
+pub record IsOwnPlace (t : ℕ) (b : Book) (addr : ℕ) : Type 0 where
+  pub each : (i : ℕ) → In (region b i) addr → Owns t (region b i).holder
+
+-- a word that no other thread writes: one of these, or the one below the token of a supervisor stack that the thread holds
+pub data OwnWord (t : ℕ) (b : Book) (word : ℕ) : Type 0 where
+  own_slot : (addr : ℕ) → Place addr → IsOwnPlace t b addr → word ≡ slot addr → OwnWord t b word
+  below_token : (k : ℕ) → k < 8 → stack_of b k ≡ Some t → word ≡ token_word k - 1 → OwnWord t b word
+
+-- ---- signals
+
+-- what stands as a restorer is 0, or an address of an executable page
+abbrev pub IsRestorer : ImageData → (word : ℕ) → Type 0
+IsRestorer image word = (word ≡ 0) ⊎ (code_byte image.segments word ≢ None)
+
+pub record Restorers (image : ImageData) (words : List ℕ) : Type 0 where
+  pub executable : (s : ℕ) → s < 64 → IsRestorer image (slice_index words (restorer_word s))
+  -- and it isn't 0 where the handler is neither the default nor ignoring
+  pub shown : (s : ℕ) → s < 64 → 1 < slice_index words (action_word s) → slice_index words (restorer_word s) ≢ 0
+
+-- ---- counters
+
+-- one for each record of a thread, and one where its present row has drawn pages, or the number of a thread
+abbrev pub paid_draws : JobData → Core → ℕ
+paid_draws job core = core.arch.count + one (drew (trail_of job core))
+
+abbrev pub paid_births : JobData → Core → ℕ
+paid_births job core = core.arch.count + one (numbered (trail_of job core))
+
+abbrev pub thread_draws : JobData → Thread → ℕ
+thread_draws job thread = paid_draws job thread.core
+
+abbrev pub thread_births : JobData → Thread → ℕ
+thread_births job thread = paid_births job thread.core
+
+pub record Counters (words : List ℕ) (threads : List Thread) (b : Book) : Type 0 where
+  -- every region ends at or below the next page to be drawn
+  pub drawn : (i : ℕ) → (region b i).end ≤ shadow_start + 4096 * slice_index words draw_word
+  pub least : 1 ≤ slice_index words next_word
+  pub number : length threads ≡ min (slice_index words next_word) 32
+
+pub record Counts (job : JobData) (words : List ℕ) (threads : List Thread) : Type 0 where
+  pub most : (t : ℕ) (thread : Thread) → slice_get threads t ≡ Some thread → thread.core.arch.count ≤ job.limit
+  pub below : (t : ℕ) (thread : Thread) → slice_get threads t ≡ Some thread → thread.core.over ≡ None → thread.core.arch.count < job.limit
+  -- a row draws at most 1,023 pages, and one number
+  pub draws : slice_index words draw_word ≤ 9 + 1023 * sum_by (thread_draws job) threads
+  pub births : slice_index words next_word ≤ 1 + sum_by (thread_births job) threads
+
+-- ---- regions
+
+-- the region that the kernel made for a thread: eight pages from its start on
+pub record HasMade (made : ℕ) (b : Book) : Type 0 where
+  pub number : ℕ
+  pub there : number < length b.regions
+  pub first : (region b number).start ≡ made
+  pub last : (region b number).end ≡ made + 32768
+
+pub record AllBounds (image : ImageData) (words : List ℕ) (b : Book) : Type 0 where
+  pub regions : (i : ℕ) → i < length b.regions → Bounds (region b i).start (region b i).end
+  pub room : (i : ℕ) → (region b i).start + 8 * length (region b i).entries ≤ (region b i).end
+  pub returns : Returns b
+  pub entries : (page : ℕ) → IsEntry image page (slice_index words (entry_word page))
+  -- image, main stack and kernel pages keep the entries of the start
+  pub fixed : (page : ℕ) → (page < first_mmap_page) ⊎ ((first_kernel_page ≤ page) × (page < page_count)) → slice_index words (entry_word page) ≡ entry_of image page
+
+-- ---- rows
+
+pub record RowValues (job : JobData) (words : List ℕ) (core : Core) : Type 0 where
+  -- a row that isn't done waits for an access after those that it has made
+  pub waits : IsCore job core
+  -- a signal that it has seen to have a restorer has one
+  pub restorer : (s : ℕ) → s < 64 → has_restorer (trail_of job core) s ≡ true → slice_index words (restorer_word s) ≢ 0
+
+-- ---- the invariant
+
+pub record Stands (job : JobData) (m : Machine) (b : Book) : Type 0 where
+  pub safe : IsSafeAt job m b
+  pub shadow_pages : ShadowPages m.words b
+  -- each entry has its word in memory
+  pub entries_written : (i : ℕ) → Stack m.words (tops b) (top (region b i)) (region b i).entries
+  -- the word at p is (p + 8) | 1 exactly where a parked region has its token there
+  pub tokens : (p : ℕ) → Place p → slot_word m.words p ≡ bit_or (p + 8) 1 ↔ IsToken b p
+  -- Previous(s) stands once in the region that s was left for, and nowhere else
+  pub previous_left : (q s : ℕ) → links s (region b q).entries ≡ one (is_left q (region b s).holder)
+  -- a supervisor stack's token is busy where the stack has a holder
+  pub supervisor_tokens : (k : ℕ) → k < 8 → slice_index m.words (token_word k) ≡ token k + busy (stack_of b k)
+  pub restorers : Restorers job.image m.words
+  -- what a row has read or written in a word of its thread's own is still there
+  pub row_steady : (t : ℕ) (thread : Thread) → slice_get m.threads t ≡ Some thread → (word x : ℕ) → OwnWord t b word → left_in (trail_of job thread.core) word ≡ Some x → slice_index m.words word ≡ x
+  pub counters : Counters m.words m.threads b
+  -- each thread has the start of a region of eight pages
+  pub made : (t : ℕ) (thread : Thread) → slice_get m.threads t ≡ Some thread → HasMade thread.core.arch.made b
+  pub bounds : AllBounds job.image m.words b
+  pub row_values : (t : ℕ) (thread : Thread) → slice_get m.threads t ≡ Some thread → RowValues job m.words thread.core
+  pub counts : Counts job m.words m.threads
