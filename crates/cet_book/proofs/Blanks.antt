@@ -1,4 +1,4 @@
--- Blanks are the same backwards.
+-- A list of blanks, turned round, is the same. Source: own.
 use Rattle.std.proofs.Common.{◌≡◌, ℕ, zero, suc, List, [], ◌∷◌, ◌++◌, replicate, reverse, refl, sym, ◌∙◌, ap}
 use Rattle.std.proofs.lemmas.Grind.{reverse_onto}
 use Rattle.cet_book.specs.declared.entries.Entry.{Entry}

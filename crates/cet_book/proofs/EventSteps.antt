@@ -1,4 +1,4 @@
--- What each event makes of the book, by the tests that its function makes.
+-- The book's step, event by event, over the tests and the changes that the code makes. Source: own.
 use Rattle.std.proofs.Common.{◌≡◌, ◌≢◌, ◌^◌, inl, inr, ℕ, zero, suc, ◌+◌, ◌-◌, ◌*◌, ◌/◌, ◌<◌, ◌≤◌, Bool, true, false, List, [], ◌∷◌, length, get_or, set, Option, Some, None, Result, Ok, Err, refl, sym, ◌∙◌, ap, subst, cond, arith, drop, take, ◌++◌, append-nil, length-set, get_or-set_same, get_or-set_other, drop_of_length-le}
 use Rattle.std.specs.Prelude.{nat_lt, nat_le, ◌==◌, slice_get, option_and_then}
 use Rattle.std.proofs.Math.Seq.{take-length}
@@ -42,7 +42,7 @@ pub no_memory : (result : Result (Unit {0}) BookFault) (old new : Book) (next : 
 no_memory (Ok u) old new next b e is f = absurd e
 no_memory (Err fault) old new next b e is f = subst (λ z. Applied (Err z) old new next) (sym e) (λ n. cc, is)
 
--- ---- the newest entry goes
+-- ---- one entry less
 
 removed_at : (R : List Region) (m : ℕ) (h : Holder) (l : List Entry) → (get_or R m nowhere).entries ≡ l → removed m h R ≡ handed (slice_get l 0) h (set R m (record (get_or R m nowhere) { entries = drop 1 l }))
 removed_at R m h l e = ap (λ (x : List Entry). handed (slice_get x 0) h (set R m (record (get_or R m nowhere) { entries = drop 1 x }))) e
@@ -56,7 +56,7 @@ unlinked m s R g es h e n =
     let other = get_or-set_other R m s (record (get_or R m nowhere) { entries = es }) nowhere (not_self m s es n) in
     ap (λ (r : Region). Some (book_of (set mid s (record r { holder = h })) g)) (sym other) ∙ ap (λ x. Some (book_of x g)) (sym (removed_at R m h (Previous s ∷ es) e))
 
--- ---- the events, each by its test
+-- ---- events whose test has an answer
 
 pub called_step : (t back at : ℕ) (R : List Region) (g : List (Option ℕ)) (c : Bool) → at ≡ position_or_len (λ r. is_current t r.holder) R → at < length R → nat_le (length (get_or R at nowhere).entries + 1) (capacity (get_or R at nowhere)) ≡ c → with_current t (book_of R g) (λ m r. called back m r (book_of R g)) ≡ cond c (Some (book_of (set R at (with_entry (Call back) (get_or R at nowhere))) g)) None
 called_step t back at R g c e l p =
@@ -82,7 +82,7 @@ returned_step m R g (Blank ∷ es) c e n f = ap (λ x. Some (book_of x g)) (sym 
 pub pushed_step : (t x at : ℕ) (R : List Region) (g : List (Option ℕ)) (c : Bool) → at ≡ position_or_len (λ r. is_current t r.holder) R → at < length R → nat_le (length (get_or R at nowhere).entries + 2) (capacity (get_or R at nowhere)) ≡ c → with_current t (book_of R g) (λ m r. pushed x m r (book_of R g)) ≡ cond c (Some (book_of (set R at (with_entry (Restorer x) (with_entry Frame (get_or R at nowhere)))) g)) None
 pushed_step t x at R g c e l p = with_some t at R g (λ m r. pushed x m r (book_of R g)) e l ∙ rw p refl
 
--- the entry leads to no stack
+-- nothing was left for the stack, so nothing is parked
 pub released_none : (m none : ℕ) (R : List Region) (g : List (Option ℕ)) (l : List Entry) → length R ≤ none → length R ≤ leads_to (slice_get l 0) none → released m l (book_of R g) ≡ None
 released_none m none R g [] n k = refl
 released_none m none R g (Call x ∷ es) n k = refl
@@ -115,7 +115,7 @@ busied_step t k at R g c l f e n = let b : nat_lt k 8 ≡ true = grind (arith, n
 pub claimed_step : (t start pages : ℕ) (maker : Bool) (R : List Region) (g : List (Option ℕ)) (c d : Bool) → d ≡ can_claim start pages (book_of R g) → d ≡ c → claimed t start pages maker (book_of R g) ≡ cond c (Some (book_of (R ++ claim t start pages maker ∷ []) g)) None
 claimed_step t start pages maker R g c d e f = ap (λ x. cond x (Some (book_of (R ++ claim t start pages maker ∷ []) g)) None) (sym e ∙ f)
 
--- any entry goes
+-- ---- some entries less
 pub remove_step : (m : ℕ) (R : List Region) (g : List (Option ℕ)) (e : Entry) (es : List Entry) → (get_or R m nowhere).entries ≡ e ∷ es → links m (e ∷ es) ≡ 0 → remove_entry m (e ∷ es) (book_of R g) ≡ Some (book_of (removed m Lost R) g)
 remove_step m R g (Call x) es e n = ap (λ x. Some (book_of x g)) (sym (removed_at R m Lost (Call x ∷ es) e))
 remove_step m R g (Restorer x) es e n = ap (λ x. Some (book_of x g)) (sym (removed_at R m Lost (Restorer x ∷ es) e))
@@ -150,7 +150,7 @@ removed_length m h R = same_length (slice_get (get_or R m nowhere).entries 0) m 
 pub fewer_links : (m : ℕ) (e : Entry) (es : List Entry) → links m (e ∷ es) ≡ 0 → links m es ≡ 0
 fewer_links m e es n = omega arith
 
--- too many entries to take off
+-- a list that is shorter than the count
 pub raised_none : (n m : ℕ) (R : List Region) (g : List (Option ℕ)) (l : List Entry) → m < length R → (get_or R m nowhere).entries ≡ l → links m l ≡ 0 → length l < n → raised m n (book_of R g) ≡ None
 raised_none zero m R g l inside e z few = absurd (omega arith)
 raised_none (suc n) m R g [] inside e z few = rw e refl
@@ -158,7 +158,7 @@ raised_none (suc n) m R g (x ∷ es) inside e z few =
     rw e (rw (remove_step m R g x es e z)
     (raised_none n m (removed m Lost R) g es (let s = removed_length m Lost R in omega arith) (removed_entries m Lost R x es inside e z) (fewer_links m x es z) (omega arith)))
 
--- what is left to take off, after one more entry
+-- the entries still to go, when one more is gone
 pub record Next (m left n : ℕ) (R : List Region) : Type 0 where
   pub rest : (g : List (Option ℕ)) → raised m left (book_of R g) ≡ raised m n (book_of (removed m Lost R) g)
   pub room : n ≤ length (get_or (removed m Lost R) m nowhere).entries
@@ -175,21 +175,21 @@ raised_next m left n R (x ∷ es) e k room z inside =
       other = ap (links m) below ∙ fewer_links m x es z;
     }
 
--- no entry of a current region leads to itself
+-- a stack that a thread is on wasn't left for itself
 pub no_self : (t at : ℕ) (R : List Region) (g : List (Option ℕ)) → IsBook (book_of R g) → at ≡ position_or_len (λ r. is_current t r.holder) R → at < length R → links at (get_or R at nowhere).entries ≡ 0
 unfolding current_of
 no_self t at R g h e l =
     let current : (get_or R at nowhere).holder ≡ Current t = rw e (current_holds t (book_of R g) (rw (← e) l)) in
     h.shape.chain at at ∙ ap (λ x. one (is_left at x)) current
 
--- a list behind a slice that was written back
+-- a list that was lent as a slice of its own length
 pub back : (n : ℕ) (new old : List Region) → length new ≡ length old → n ≡ length old → take n (new ++ drop (length new) old) ≡ new
 back n new old e f =
     let none : drop (length new) old ≡ [] = drop_of_length-le old (omega arith) in
     let m : n ≡ length new = omega arith in
     rw (none, append-nil, m) (take-length new)
 
--- ---- a token is taken
+-- ---- going over to a parked stack
 
 set_swap : (xs : List Region) (i j : ℕ) (x y : Region) → i ≢ j → set (set xs i x) j y ≡ set (set xs j y) i x
 set_swap [] i j x y n = refl
@@ -203,7 +203,7 @@ set_twice [] i x y = refl
 set_twice (z ∷ xs) zero x y = refl
 set_twice (z ∷ xs) (suc i) x y = ap (λ (l : List Region). z ∷ l) (set_twice xs i x y)
 
--- an entry is put on, then the one holder changes, then the other
+-- the three writes of the code are the two of the definition
 pub take_is : (R : List Region) (m q : ℕ) (e : Entry) (f h : Holder) → m < length R → q < length R → m ≢ q → (let a : List Region = set R q (with_entry e (get_or R q nowhere)) in let b : List Region = set a m (record (get_or a m nowhere) { holder = f }) in set b q (record (get_or b q nowhere) { holder = h })) ≡ set (set R m (record (get_or R m nowhere) { holder = f })) q (record (get_or R q nowhere) { entries = e ∷ (get_or R q nowhere).entries; holder = h })
 take_is R m q e f h im iq n =
     let a : List Region = set R q (with_entry e (get_or R q nowhere)) in
@@ -219,7 +219,7 @@ pub acquired_step : (t p m q : ℕ) (R : List Region) (g : List (Option ℕ)) (c
 unfolding parked_at
 acquired_step t p m q R g c e n = rw (← e, n) refl
 
--- what is known where both are found
+-- a thread's own stack isn't parked, and a parked one has room for an entry
 pub record Takeable (R : List Region) (m q : ℕ) : Type 0 where
   pub apart : m ≢ q
   pub room : nat_le (length (get_or R q nowhere).entries + 1) (capacity (get_or R q nowhere)) ≡ true
@@ -237,7 +237,7 @@ takeable t p m q R g h em im eq iq =
       room = grind (arith, nat_tests);
     }
 
--- there are few regions
+-- each region has a page of its own, so their numbers are small
 high : (R : List Region) (g : List (Option ℕ)) → IsBook (book_of R g) → (i : ℕ) → i < length R → first_region_start + i ≤ (get_or R i nowhere).start
 high R g h zero l = let b = h.shape.bounds 0 l in let low = b.low in omega arith
 high R g h (suc i) l =
@@ -257,7 +257,7 @@ few_regions R g h = elim (cases_lt 0 (length R)) [
   | inr m ↦ omega arith
 ]
 
--- ---- a book that an event leads to
+-- ---- the facts on books stay, whatever the answer
 
 pub step_kept : (b next : Book) (e : Event) → IsBook b → book_step b e ≡ Some next → IsBook next
 step_kept b next (ev.Called t back) h e = (book_kept t (change.Called back) b next h e).book
@@ -279,16 +279,16 @@ applied_kept (Ok u) old new e h a = step_kept old new e h a
 applied_kept (Err NotLegal) old new e h a = subst IsBook (sym a.1) h
 applied_kept (Err NoMemory) old new e h a = subst IsBook (sym a.1) h
 
--- the same behind a slice that was written back
+-- of regions that were lent as a slice
 pub kept_back : (result : Result (Unit {0}) BookFault) (n : ℕ) (new lent old : List Region) (g : List (Option ℕ)) (e : Event) → IsBook (book_of old g) → lent ≡ old → length new ≡ length lent → n ≡ length old → Applied result (book_of lent g) (book_of new g) (book_step (book_of lent g) e) → IsBook (book_of (take n (new ++ drop (length new) old)) g)
 kept_back result n new lent old g e h s l m a =
     let long : length new ≡ length old = l ∙ ap (λ (x : List Region). length x) s in
     subst (λ x. IsBook (book_of x g)) (sym (back n new old long m)) (applied_kept result (book_of lent g) (book_of new g) e (subst (λ x. IsBook (book_of x g)) (sym s) h) a)
 
--- a change of the supervisor stacks
+-- of supervisor stacks
 pub kept_gates : (result : Result (Unit {0}) BookFault) (old new : List (Option ℕ)) (R : List Region) (e : Event) → IsBook (book_of R old) → Applied result (book_of R old) (book_of R new) (book_step (book_of R old) e) → IsBook (book_of R new)
 kept_gates result old new R e h a = applied_kept result (book_of R old) (book_of R new) e h a
 
--- a change of the list of regions
+-- of regions that were lent as a list
 pub kept_list : (result : Result (Unit {0}) BookFault) (old new : List Region) (g : List (Option ℕ)) (e : Event) → IsBook (book_of old g) → Applied result (book_of old g) (book_of new g) (book_step (book_of old g) e) → IsBook (book_of new g)
 kept_list result old new g e h a = applied_kept result (book_of old g) (book_of new g) e h a

@@ -1,4 +1,4 @@
--- What the marks say is so, and what is in view is marked.
+-- Marks of regions: one more, and those that words lead to; and more room for the way to a region in view. Source: own.
 use Rattle.std.proofs.Common.{◌≡◌, ◌≢◌, ℕ, zero, suc, ◌+◌, ◌-◌, ◌*◌, ◌/◌, ◌%◌, ◌^◌, ◌<◌, ◌≤◌, ◌⊎◌, inl, inr, Bool, true, false, ◌&&◌, List, [], ◌∷◌, length, get_or, set, drop, map, replicate, refl, sym, ◌∙◌, ap, subst, cond, eqb, arith, length-set, get_or-set_same, get_or-set_other}
 use Rattle.std.specs.Prelude.{nat_lt}
 use Rattle.std.proofs.lemmas.Bool.{false≢true, cases_lt}
@@ -42,9 +42,9 @@ mark_at ms k = get_or ms k Unseen
 abbrev pub Seen : List Mark → ℕ → Type 0
 Seen ms k = is_seen (mark_at ms k) ≡ true
 
--- ---- marks are added, whatever they say
+-- ---- whatever the words are
 
--- nothing that was marked is unmarked, and none is followed
+-- marks stay, and no words were followed
 pub record Follows (ms next : List Mark) : Type 0 where
   pub size : length next ≡ length ms
   pub seen : (k : ℕ) → Seen ms k → Seen next k
@@ -62,7 +62,7 @@ follows_then x y = record {
   count = y.count ∙ x.count;
 }
 
--- an element of a list in which one is replaced
+-- all marks, where one of them is new
 pub set_all : (ms : List Mark) (j : ℕ) (m : Mark) → j < length ms → (P : ℕ → Mark → Type 0) → P j m → ((k : ℕ) → k ≢ j → P k (mark_at ms k)) → (k : ℕ) → P k (mark_at (set ms j m) k)
 set_all ms j m l P here others k = elim (eqb_tells k j) [
   | inl e ↦ subst (λ i. P i (mark_at (set ms j m) i)) (sym e.1) (subst (P j) (sym (get_or-set_same ms j m Unseen l)) here)
@@ -84,7 +84,7 @@ was_seen Unseen e = absurd (false≢true (sym e))
 was_seen (Fresh s f) e = refl
 was_seen (Done s f) e = refl
 
--- what holds where the mark is put, and where there is one already, holds
+-- a region is marked, or was so before
 pub marked_by : (P : List Mark → Type 0) (ms : List Mark) (j : ℕ) (s : Shown) (f : ℕ) → j < length ms → (is_unseen (mark_at ms j) ≡ true → P (set ms j (Fresh s f))) → (is_unseen (mark_at ms j) ≡ false → P ms) → P (marked j s f ms)
 unfolding marked
 marked_by P ms j s f l new old =
@@ -108,7 +108,7 @@ marked_follows ms j s f l = marked_by (λ new. Follows ms new) ms j s f l (set_f
 pub marked_here : (ms : List Mark) (j : ℕ) (s : Shown) (f : ℕ) → j < length ms → Seen (marked j s f ms) j
 marked_here ms j s f l = marked_by (λ new. Seen new j) ms j s f l (λ _. ap is_seen (get_or-set_same ms j (Fresh s f) Unseen l)) (was_seen (mark_at ms j))
 
--- a place that is none is marked in vain
+-- an address of no region changes nothing
 pub top_follows : (rs : List Span) (a : ℕ) (s : Shown) (ms : List Mark) → Follows ms (top_marked rs a s ms)
 unfolding top_marked
 top_follows rs a s ms =
@@ -126,7 +126,7 @@ unfolding followed
 followed_follows rs [] ms = follows_same ms
 followed_follows rs (w ∷ ws) ms = follows_then (top_follows rs (w - 3) shown.Left ms) (followed_follows rs ws (top_marked rs (w - 3) shown.Left ms))
 
--- ---- in view, over more stacks that were left
+-- ---- a longer way
 
 pub view_more : (b : Book) (f : ℕ) (h : Holder) → in_view b f h ≡ true → in_view b (suc f) h ≡ true
 view_more b zero h e = absurd (false≢true e)

@@ -1,4 +1,4 @@
--- Counts, and words from an address on.
+-- Numbers of elements, and lists of words. Source: own.
 use Rattle.std.proofs.Common.{◌≡◌, ◌≢◌, ℕ, zero, suc, ◌+◌, ◌-◌, ◌*◌, ◌/◌, ◌%◌, ◌<◌, ◌≤◌, Bool, true, false, List, [], ◌∷◌, length, get_or, set, drop, refl, sym, ◌∙◌, ap, subst, cond, eqb, arith, inl, inr, ◌⊎◌}
 use Rattle.std.specs.List.{AllByRecursion, list_any}
 use Rattle.std.proofs.lemmas.Bool.Decides.{eqb_tells, nat_tests}
@@ -12,7 +12,7 @@ use Rattle.cet_book.specs.Facts.{one, Stack}
 use Rattle.cet_book.specs.Stack.{slot_word, word_of, words_of}
 use Rattle.cet_book.specs.View.{words_from}
 
--- how many pass a test
+-- the number of elements that pass a test
 pub counted : {X : Type 0} (p : X → Bool) → List X → ℕ
 counted p [] = 0
 counted p (x ∷ xs) = one (p x) + counted p xs
@@ -54,7 +54,7 @@ below_any n (x ∷ xs) h q e = elim (eqb_tells q x) [
   | inr u ↦ below_any n xs (λ k l. h (suc k) (omega arith)) q (rw u.0 at e)
 ]
 
--- numbers below n, no two of them equal, are no more than n
+-- at most n numbers below n are apart
 pub few : (n : ℕ) (xs : List ℕ) → ((k : ℕ) → k < length xs → get_or xs k 0 < n) → ((i j : ℕ) → i < length xs → j < length xs → get_or xs i 0 ≡ get_or xs j 0 → i ≡ j) → length xs ≤ n
 few n xs below apart =
     length-le_from_distinct_below xs n

@@ -1,4 +1,4 @@
--- One step of each loop over the marks.
+-- The loops over marks, one turn at a time. Source: own.
 use Rattle.std.proofs.Common.{◌≡◌, ◌≢◌, ℕ, zero, suc, ◌+◌, ◌-◌, ◌*◌, ◌/◌, ◌<◌, ◌≤◌, Bool, true, false, ◌&&◌, List, [], ◌∷◌, ◌++◌, length, get_or, drop, take, refl, sym, ◌∙◌, ap, subst, cond, arith, add-one, drop-cons, set, drop_of_length-le}
 use Rattle.std.specs.Prelude.{nat_lt, nat_le, ◌==◌, slice_index_or}
 use Rattle.std.proofs.lemmas.List.{get_or_past}
@@ -20,7 +20,7 @@ pub place_none : (rs : List Span) (addr i : ℕ) → i ≡ length rs → ((k : �
 unfolding place
 place_none rs addr i e none = sym (position_or_len_is (has addr) rs i no_span (omega arith) none (λ l. absurd (omega arith)))
 
--- a place past the end is marked in vain
+-- there is no mark past the last region
 pub marked_past : (at : ℕ) (s : Shown) (from : ℕ) (ms : List Mark) → length ms ≤ at → marked at s from ms ≡ ms
 unfolding marked
 marked_past at s from ms l = let e : nat_lt at (length ms) ≡ false = grind (arith, nat_tests) in rw e refl
@@ -33,7 +33,7 @@ pub followed_none : (rs : List Span) (ws : List ℕ) (i : ℕ) (ms : List Mark) 
 unfolding followed
 followed_none rs ws i ms l = rw (drop_of_length-le ws l) refl
 
--- within a list, the default is of no matter
+-- an element of a list, whatever stands for those past its end
 pub get_or_any : {X : Type 0} (xs : List X) (i : ℕ) (d e : X) → i < length xs → get_or xs i d ≡ get_or xs i e
 get_or_any [] i d e l = absurd (omega arith)
 get_or_any (x ∷ xs) zero d e l = refl

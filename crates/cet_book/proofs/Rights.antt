@@ -1,4 +1,4 @@
--- The marks are right, round by round, and in the end all that is in view is marked.
+-- Marks that agree with the book, and that following words keeps them so. Source: own.
 use Rattle.std.proofs.Common.{◌≡◌, ◌≢◌, ℕ, zero, suc, ◌+◌, ◌-◌, ◌*◌, ◌/◌, ◌%◌, ◌^◌, ◌<◌, ◌≤◌, ◌⊎◌, inl, inr, Bool, true, false, List, [], ◌∷◌, length, get_or, set, drop, map, replicate, refl, sym, ◌∙◌, ap, subst, cond, eqb, arith, length-set, get_or-set_same, get_or-set_other}
 use Rattle.std.specs.Prelude.{◌==◌}
 use Rattle.std.proofs.lemmas.Bool.{false≢true, cases_lt}
@@ -23,7 +23,7 @@ use Rattle.cet_book.proofs.Lists.{counted, counted_set, counted_le, counted_all}
 use Rattle.cet_book.proofs.Setting.{Setting, reg, count, at, there, found, place_is, place_out, top_in, top_place, list_is}
 use Rattle.cet_book.proofs.InView.{is_seen, is_fresh, is_done, mark_at, Seen, Follows, follows_same, follows_then, not_seen, marked_by, set_all, marked_follows, marked_here, top_follows, top_out, followed_follows, view_more}
 
--- what a mark of the k-th region says is so, over so many marks
+-- the mark agrees with the book, on a way no longer than there are marks
 pub record IsRight (b : Book) (numbers : List ℕ) (k seen : ℕ) (s : Shown) (from : ℕ) : Type 0 where
   pub shows : s ≡ shown_of (reg b numbers k).holder
   pub view : in_view b seen (reg b numbers k).holder ≡ true
@@ -51,7 +51,7 @@ mark_view b numbers k c Unseen s r = absurd (false≢true s)
 mark_view b numbers k c (Fresh s' f) s r = r.view
 mark_view b numbers k c (Done s' f) s r = r.view
 
--- a new mark that is right
+-- one more mark that agrees
 pub marked_right : {b : Book} {numbers : List ℕ} {rs : List Span} {ms : List Mark} (r : Right b numbers rs ms) (j : ℕ) (s : Shown) (f : ℕ) → j < length rs → IsRight b numbers j (suc (counted is_seen ms)) s f → Right b numbers rs (marked j s f ms)
 marked_right {b = b} {numbers = numbers} {rs = rs} {ms = ms} r j s f l is =
     let inside : j < length ms = (let z = r.size in omega arith) in
@@ -75,7 +75,7 @@ left_of q (Left x) n e z = elim (eqb_tells x q) [ inl u ↦ ap Left u.1 | inr u 
 left_of q Lost n e z = absurd (z e)
 
 module _ {image : ImageData} {W : List ℕ} {b : Book} {numbers : List ℕ} {rs : List Span} {ssps : List (ℕ × ℕ)} (g : Setting image W b numbers rs ssps) where
-  -- the top of a region that is given is marked
+  -- by an address that is the top of a region
   pub top_right : {ms : List Mark} (r : Right b numbers rs ms) (j a : ℕ) (s : Shown) → j < length rs → a ≡ top (reg b numbers j) → s ≡ shown_of (reg b numbers j).holder → in_view b (suc (counted is_seen ms)) (reg b numbers j).holder ≡ true → Right b numbers rs (top_marked rs a s ms)
   unfolding top_marked
   top_right r j a s l e sh v =
@@ -88,7 +88,7 @@ module _ {image : ImageData} {W : List ℕ} {b : Book} {numbers : List ℕ} {rs 
   link_left : (q s : ℕ) → links s (region b q).entries ≢ 0 → (region b s).holder ≡ Left q
   link_left q s n = left_of q (region b s).holder (links s (region b q).entries) (g.facts.previous_left q s) n
 
-  -- the words of a list lead to regions that were left for its own, and right marks stay right
+  -- by the words of a region in view: what they lead to was left for it
   pub follow_right : (k : ℕ) → k < length rs → (es : List Entry) (a : ℕ) (ms : List Mark) → ((s : ℕ) → links s es ≢ 0 → links s (reg b numbers k).entries ≢ 0) → AllReturn es → Right b numbers rs ms → Seen ms k → Right b numbers rs (followed rs (words_of (tops b) a es) ms)
   unfolding followed
   follow_right k l [] a ms sub ret r seen = r
@@ -117,7 +117,7 @@ module _ {image : ImageData} {W : List ℕ} {b : Book} {numbers : List ℕ} {rs 
       follow_right k l es (a + 8) (top_marked rs (tops b x + 3 - 3) shown.Left ms)
       (λ s n. sub s (λ z. n (omega arith))) ret.1 next ((top_follows rs (tops b x + 3 - 3) shown.Left ms).seen k seen)
 
-  -- each region that a list leads to is marked
+  -- and nothing that was left for it is missed
   pub follow_hits : (es : List Entry) (a : ℕ) (ms : List Mark) (j : ℕ) → length ms ≡ length rs → j < length rs → links (get_or numbers j 0) es ≢ 0 → Seen (followed rs (words_of (tops b) a es) ms) j
   unfolding followed
   follow_hits [] a ms j size l n = absurd (n refl)

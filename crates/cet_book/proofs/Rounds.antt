@@ -1,4 +1,4 @@
--- Rounds over the stacks follow all that are marked.
+-- Rounds over all regions come to an end in which no words are left to follow. Source: own.
 use Rattle.std.proofs.Common.{◌≡◌, ◌≢◌, ℕ, zero, suc, ◌+◌, ◌<◌, ◌≤◌, ◌⊎◌, inl, inr, Bool, true, false, List, [], ◌∷◌, length, get_or, set, drop, map, refl, sym, ◌∙◌, ap, subst, eqb, arith, length-set, get_or-set_same, get_or-set_other}
 use Rattle.std.specs.Prelude.{◌==◌}
 use Rattle.std.proofs.lemmas.Bool.{false≢true}
@@ -20,16 +20,16 @@ use Rattle.cet_book.proofs.Setting.{Setting, reg, at, there, list_is}
 use Rattle.cet_book.proofs.InView.{is_seen, is_fresh, is_done, mark_at, Seen, set_all, followed_follows}
 use Rattle.cet_book.proofs.Rights.{IsRight, MarkRight, Right, follow_right, follow_hits}
 
--- right marks, where each region that was left for one that is followed is marked
+-- marks that agree, and miss nothing that was left for a region whose words were followed
 pub record State (b : Book) (numbers : List ℕ) (rs : List Span) (ms : List Mark) : Type 0 where
   pub right : Right b numbers rs ms
   pub closed : (k j : ℕ) → k < length rs → j < length rs → is_done (mark_at ms k) ≡ true → (reg b numbers j).holder ≡ Left (get_or numbers k 0) → Seen ms j
 
--- no mark of the first count is fresh
+-- none of the first marks is fresh
 abbrev pub Stable : ℕ → List Mark → Type 0
 Stable count ms = (i : ℕ) → i < count → is_fresh (mark_at ms i) ≡ false
 
--- marks after a turn over some regions: they are the same, and none was fresh, or more regions are followed
+-- a turn changes nothing, since nothing was fresh, or it follows some words
 pub record Turned (b : Book) (numbers : List ℕ) (rs : List Span) (Quiet : Type 0) (ms next : List Mark) : Type 0 where
   pub state : State b numbers rs next
   pub seen : (i : ℕ) → Seen ms i → Seen next i
@@ -136,7 +136,7 @@ quiet_if rs words k Unseen ms e = refl
 quiet_if rs words k (Fresh s f) ms e = absurd (false≢true (sym e))
 quiet_if rs words k (Done s f) ms e = refl
 
--- a turn over marks that are stable changes none
+-- where nothing is fresh a turn changes nothing
 quiet : (rs : List Span) (copies : List (List ℕ)) (k : ℕ) (ms : List Mark) → Stable k ms → sweep rs copies k ms ≡ ms
 unfolding sweep visit
 quiet rs copies zero ms st = refl
@@ -144,7 +144,7 @@ quiet rs copies (suc k) ms st =
     let before = quiet rs copies k ms (λ i l. st i (omega arith)) in
     rw before (quiet_if rs (get_or copies k []) k (mark_at ms k) ms (st k (omega arith)))
 
--- after so many rounds
+-- so many rounds leave nothing fresh, or have followed the words of as many regions
 pub record Rounded (b : Book) (numbers : List ℕ) (rs : List Span) (count : ℕ) (ms next : List Mark) : Type 0 where
   pub state : State b numbers rs next
   pub seen : (i : ℕ) → Seen ms i → Seen next i
@@ -175,7 +175,7 @@ module _ {image : ImageData} {W : List ℕ} {b : Book} {numbers : List ℕ} {rs 
         ];
       }
 
-  -- as many rounds as there are regions leave none to follow
+  -- there are no more regions than rounds
   pub all_followed : (ms : List Mark) → State b numbers rs ms → Stable (length rs) (rounds rs (map (region_words W) rs) (length rs) ms)
   all_followed ms st =
       let end = rounded (length rs) ms st in

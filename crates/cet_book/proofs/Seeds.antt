@@ -1,4 +1,4 @@
--- The stacks that threads have, and those with a token, are marked first.
+-- The first marks: pointers tell the current stacks, and restore tokens the parked ones. Source: own.
 use Rattle.std.proofs.Common.{◌≡◌, ◌≢◌, ℕ, zero, suc, ◌+◌, ◌-◌, ◌*◌, ◌/◌, ◌%◌, ◌<◌, ◌≤◌, ◌⊎◌, inl, inr, Bool, true, false, List, [], ◌∷◌, length, get_or, map, replicate, refl, sym, ◌∙◌, ap, subst, cond, eqb, arith}
 use Rattle.std.specs.Prelude.{◌==◌, nat_lt}
 use Rattle.std.proofs.lemmas.Bool.{cases_lt}
@@ -23,7 +23,7 @@ use Rattle.cet_book.proofs.InView.{is_seen, is_done, mark_at, Seen, Follows, fol
 use Rattle.cet_book.proofs.Rights.{IsRight, MarkRight, Right, marked_right, top_right, top_seen}
 use Rattle.cet_book.proofs.Rounds.{State, copy_at}
 
--- right marks of which none is followed yet
+-- marks that agree, before any words were followed
 pub record Seeded (b : Book) (numbers : List ℕ) (rs : List Span) (ms : List Mark) : Type 0 where
   pub right : Right b numbers rs ms
   pub none : (k : ℕ) → is_done (mark_at ms k) ≡ false
@@ -45,7 +45,7 @@ start_seeded b numbers rs = record {
   none = λ k. ap is_done (no_mark (length rs) k);
 }
 
--- ---- where a token is found
+-- ---- the first token among words
 
 token_if : (c : Bool) (start w n : ℕ) (ws : List ℕ) → (w == start + 1) ≡ c → (n < length ws → get_or ws n 0 ≡ start + 8 + 8 * n + 1) → cond c 0 (suc n) < suc (length ws) → get_or (w ∷ ws) (cond c 0 (suc n)) 0 ≡ start + 8 * cond c 0 (suc n) + 1
 token_if true start w n ws e h l = grind (arith, nat_tests)
@@ -67,7 +67,7 @@ token_least start (w ∷ ws) zero l e = let t : (w == start + 1) ≡ true = grin
 token_least start (w ∷ ws) (suc m) l e = least_if (w == start + 1) (token_from (start + 8) ws) m (λ _. token_least (start + 8) ws m (omega arith) (e ∙ omega arith))
 
 module _ {image : ImageData} {W : List ℕ} {b : Book} {numbers : List ℕ} {rs : List Span} {ssps : List (ℕ × ℕ)} (g : Setting image W b numbers rs ssps) where
-  -- a token among the words of a region says that it is parked
+  -- only a parked region has a token among its words
   token_parked : (k : ℕ) → k < length rs → (m : ℕ) → m < length (region_words W (span_of (reg b numbers k))) → get_or (region_words W (span_of (reg b numbers k))) m 0 ≡ (reg b numbers k).start + 8 * m + 1 → ((reg b numbers k).holder ≡ Parked) × (top (reg b numbers k) ≡ (reg b numbers k).start + 8 * m)
   token_parked k l m inside e =
       let r = is_place g k l in
@@ -84,7 +84,7 @@ module _ {image : ImageData} {W : List ℕ} {b : Book} {numbers : List ℕ} {rs 
       let same = one_of g f.0 k (top (reg b numbers f.0)) f.1 l (top_in g f.0 f.1) here in
       (subst (λ j. (reg b numbers j).holder ≡ Parked) same (ap (λ i. (region b i).holder) f.2 ∙ parked), subst (λ j. top (reg b numbers j) ≡ (reg b numbers k).start + 8 * m) same top_is)
 
-  -- and a parked region has its token among them
+  -- and it has one
   parked_token : (k : ℕ) → k < length rs → (reg b numbers k).holder ≡ Parked → token_from (reg b numbers k).start (region_words W (span_of (reg b numbers k))) < length (region_words W (span_of (reg b numbers k)))
   parked_token k l e =
       let r = is_place g k l in
@@ -100,7 +100,7 @@ module _ {image : ImageData} {W : List ℕ} {b : Book} {numbers : List ℕ} {rs 
       let least = token_least (reg b numbers k).start (region_words W (span_of (reg b numbers k))) m (omega arith) (word ∙ ap (slot_word W) addr ∙ is ∙ omega arith) in
       omega arith
 
-  -- ---- the pointers
+  -- ---- current stacks
 
   pub currents_seeded : (c : ℕ) (ms : List Mark) → c ≤ length ssps → Seeded b numbers rs ms → Seeded b numbers rs (currents rs ssps c ms)
   unfolding currents
@@ -131,7 +131,7 @@ module _ {image : ImageData} {W : List ℕ} {b : Book} {numbers : List ℕ} {rs 
             (currents_hit c at_ k ms (let v = u.1 in omega arith) (omega arith) lk e s)
       ]
 
-  -- ---- the tokens
+  -- ---- parked stacks
 
   park_is : (k : ℕ) (ms : List Mark) → k < length rs → park rs (map (region_words W) rs) k ms ≡ park_if (token_from (reg b numbers k).start (region_words W (span_of (reg b numbers k)))) (region_words W (span_of (reg b numbers k))) k ms
   unfolding park

@@ -1,4 +1,4 @@
--- What is given to the reader of words: words and a book in step, and regions of that book.
+-- Words and a book in step, with regions and pointers that cover it: where addresses and words are. Source: own.
 use Rattle.std.proofs.Common.{◌≡◌, ◌≢◌, ℕ, zero, suc, ◌+◌, ◌-◌, ◌*◌, ◌/◌, ◌%◌, ◌<◌, ◌≤◌, Bool, true, false, List, [], ◌∷◌, length, get_or, drop, map, refl, sym, ◌∙◌, ap, subst, arith}
 use Rattle.std.specs.Prelude.{nat_le}
 use Rattle.std.proofs.lemmas.Bool.{false≢true}
@@ -24,7 +24,7 @@ pub record Setting (image : ImageData) (W : List ℕ) (b : Book) (numbers : List
   pub covers : Covers b numbers rs ssps
   pub asked : IsReadable rs ssps
 
--- the k-th region that is given
+-- of the regions given, the k-th
 abbrev pub reg : Book → List ℕ → ℕ → Region
 reg b numbers k = region b (get_or numbers k 0)
 
@@ -57,11 +57,11 @@ module _ {image : ImageData} {W : List ℕ} {b : Book} {numbers : List ℕ} {rs 
   pub is_place : (k : ℕ) → k < length rs → IsSpan (span_of (reg b numbers k))
   is_place k l = subst IsSpan (at k l) (all_at IsSpan rs k no_span (recursion_from_All IsSpan rs g.asked.each) l)
 
-  -- regions that are given have no address in common
+  -- two of them don't meet
   pub one_of : (i j a : ℕ) → i < length rs → j < length rs → Has a (span_of (reg b numbers i)) → Has a (span_of (reg b numbers j)) → i ≡ j
   one_of i j a li lj hi hj = g.asked.apart i j a li lj (subst (Has a) (sym (at i li)) hi) (subst (Has a) (sym (at j lj)) hj)
 
-  -- a region that is current, parked or left is given
+  -- each one that is kept is among them
   pub found : (i : ℕ) → IsKept (region b i).holder → (k : ℕ) × (k < length rs) × (get_or numbers k 0 ≡ i)
   found i h =
       let f = g.covers.all i (is_there b i (held_there (region b i).holder h)) h in
@@ -75,7 +75,7 @@ module _ {image : ImageData} {W : List ℕ} {b : Book} {numbers : List ℕ} {rs 
       (λ i m. has_false a (get_or rs i no_span) (λ x. let e = g.asked.apart i k a (omega arith) l x here in absurd (omega arith)) (has a (get_or rs i no_span)) refl)
       (λ _. has_true a (get_or rs k no_span) here)
 
-  -- an address outside the shadow area is in none
+  -- no region has a page outside
   pub place_out : (a : ℕ) → (first_region_start ≤ a → a ≤ 0x2003ff000 → ⊥) → place a rs ≡ length rs
   unfolding place
   place_out a n =
@@ -88,7 +88,7 @@ module _ {image : ImageData} {W : List ℕ} {b : Book} {numbers : List ℕ} {rs 
       n (omega arith) (omega arith))) (has a (get_or rs i no_span)) refl)
       (λ l. absurd (omega arith))
 
-  -- the top of a region that is given lies in it
+  -- where its newest entry stands
   pub top_in : (k : ℕ) → k < length rs → Has (top (reg b numbers k)) (span_of (reg b numbers k))
   top_in k l =
       let room = g.facts.room (get_or numbers k 0) (there k l) in
@@ -106,7 +106,7 @@ module _ {image : ImageData} {W : List ℕ} {b : Book} {numbers : List ℕ} {rs 
   pub top_place : (k : ℕ) → k < length rs → place (top (reg b numbers k)) rs ≡ k
   top_place k l = place_is k (top (reg b numbers k)) l (top_in k l)
 
-  -- the words of a region's list
+  -- its words from there on are those of its entries
   pub list_is : (k : ℕ) → k < length rs → drop (from_of (span_of (reg b numbers k)) (top (reg b numbers k))) (region_words W (span_of (reg b numbers k))) ≡ words_of (tops b) (top (reg b numbers k)) (reg b numbers k).entries
   list_is k l =
       let r = reg b numbers k in
@@ -119,7 +119,7 @@ module _ {image : ImageData} {W : List ℕ} {b : Book} {numbers : List ℕ} {rs 
       ap (words_from W (top (reg b numbers k))) (omega arith) ∙
       stack_words W (tops b) (top (reg b numbers k)) (reg b numbers k).entries (g.facts.entries_written (get_or numbers k 0) (there k l))
 
-  -- no more regions are given than there are
+  -- no region comes twice
   pub few_given : length rs ≤ length b.regions
   few_given =
       let c = count in

@@ -1,4 +1,4 @@
--- The report by marks is that of the book.
+-- What the marks tell in the end is what the book shows. Source: own.
 use Rattle.std.proofs.Common.{◌≡◌, ◌≢◌, ℕ, zero, suc, ◌+◌, ◌-◌, ◌*◌, ◌/◌, ◌^◌, ◌<◌, ◌≤◌, Bool, true, false, List, [], ◌∷◌, ◌++◌, length, get_or, drop, take, map, replicate, refl, sym, ◌∙◌, ap, subst, arith}
 use Rattle.std.specs.Prelude.{All}
 use Rattle.std.proofs.lemmas.Bool.{false≢true}
@@ -24,7 +24,7 @@ use Rattle.cet_book.proofs.Rights.{IsRight, MarkRight, Right}
 use Rattle.cet_book.proofs.Rounds.{State, Stable, copy_at, rounded, all_followed}
 use Rattle.cet_book.proofs.Seeds.{Seeded, seeded_state, start_seeded, currents_seeded, currents_hit, parks_seeded, parks_keep, parks_hit}
 
--- the addresses of a region's words don't pass 2^63
+-- addresses of words are far below 2^63
 pub fits : (W : List ℕ) (rs : List Span) → All IsSpan rs → (k : ℕ) → k < length rs → (get_or rs k no_span).start + 8 * length (get_or (map (region_words W) rs) k []) < 2 ^ 63
 fits W rs each k l =
     let p = all_at IsSpan rs k no_span (recursion_from_All IsSpan rs each) l in

@@ -1,4 +1,4 @@
--- One word more of those from an address on.
+-- Words read one by one are those of memory. Source: own.
 use Rattle.std.proofs.Common.{◌≡◌, ℕ, suc, ◌+◌, ◌-◌, ◌*◌, ◌<◌, ◌≤◌, arith, refl, ap, sym, ◌∙◌, append_assoc, append-nil, List, [], ◌∷◌, ◌++◌}
 use Rattle.cet_book.specs.Stack.{slot_word}
 use Rattle.cet_book.specs.View.{words_from}
@@ -14,7 +14,7 @@ pub words_none : (words : List ℕ) (from count at : ℕ) → count ≤ at → w
 unfolding words_from
 words_none words from count at l = let e : count - at ≡ 0 = omega arith in rw e refl
 
--- the word at `at` joins those before it
+-- one word more was read
 pub read_more : (start list all : List ℕ) (from count at value : ℕ) → at < count → value ≡ slot_word start (from + 8 * at) → list ++ words_from start (from + 8 * at) (count - at) ≡ all → (list ++ value ∷ []) ++ words_from start (from + 8 * (at + 1)) (count - (at + 1)) ≡ all
 read_more start list all from count at value l v e =
     let more = words_more start from count at l in

@@ -1,7 +1,9 @@
 //! Each case of the book's step with its refusals, and the report of words that no run leaves.
 
+ghost use Rattle.std.specs.Prelude.{◌≤◌, ◌<◌};
+
 use super::*;
-use cet_words::{Access, Image, Perform, Plain, Segments};
+use cet_words::{Access, FIRST_SHADOW_WORD, Image, Perform, Plain, SHADOW_START, Segments};
 use std::alloc::Global;
 use std::process::Abort;
 use std::test::Fail;
@@ -278,8 +280,30 @@ fn cases(rt: HostRuntime) -> Result<(), Fail> {
     expect_gates(&rt, alloc)
 }
 
-fn word(addr: u64) -> u32 {
-    1_081_344 + ((addr - 0x2_0000_0000) / 8) as u32
+/// Stores a word at an address of the shadow area.
+fn put(words: &mut Plain, addr: u64, value: u64)
+    requires low { 0x200000000 ≤ addr }
+    requires high { addr < 0x200400000 }
+{
+    words.perform(Access::Store(
+        FIRST_SHADOW_WORD + ((addr - SHADOW_START) / 8) as u32,
+        value,
+    ));
+}
+
+/// Each region's start, how it is shown, and the number of its words.
+fn sketch_report(alloc: Global, reports: &StackReports) -> Result<String, Fail> {
+    let mut text = String::new(alloc);
+    for report in reports.as_slice() {
+        let line = format!(in alloc;
+            "{:x} {:?} {}; ",
+            report.region.start,
+            report.shown,
+            report.words.len()
+        )?;
+        text.push_str(&line)?;
+    }
+    Ok(text)
 }
 
 #[test]
@@ -292,20 +316,15 @@ fn odd_words(rt: HostRuntime) -> Result<(), Fail> {
         segments: Segments::new(alloc),
     };
     let mut words = Plain::new(alloc, &image)?;
-    let stores = [
-        // thread 0's stack leads to the second, and that one to it, to itself, past all stacks and into the fourth
-        (0x2_0000_1ff8, 0x2_0000_3fd8 + 3),
-        (0x2_0000_3fd8, 0x2_0000_1ff8 + 3),
-        (0x2_0000_3fe0, 0x2_0000_3fe0 + 3),
-        (0x2_0000_3fe8, 0x2_0000_2ff8 + 3),
-        (0x2_0000_3ff0, 0x2_0000_7800 + 3),
-        // the third is full, and its token below it; the last has no length, and a token
-        (0x2_0000_4ff8, 0x2_0000_5001),
-        (0x2_0000_aff8, 0x2_0000_b001),
-    ];
-    for (addr, value) in stores {
-        words.perform(Access::Store(word(addr), value));
-    }
+    // thread 0's stack leads to the second, and that one to it, to itself, between two stacks and into the fourth
+    put(&mut words, 0x2_0000_1ff8, 0x2_0000_3fd8 + 3);
+    put(&mut words, 0x2_0000_3fd8, 0x2_0000_1ff8 + 3);
+    put(&mut words, 0x2_0000_3fe0, 0x2_0000_3fe0 + 3);
+    put(&mut words, 0x2_0000_3fe8, 0x2_0000_2ff8 + 3);
+    put(&mut words, 0x2_0000_3ff0, 0x2_0000_7800 + 3);
+    // the third is full, with its token below it; the sixth has no page, and a token
+    put(&mut words, 0x2_0000_4ff8, 0x2_0000_5001);
+    put(&mut words, 0x2_0000_aff8, 0x2_0000_b001);
     let regions = [
         Region {
             start: 0x2_0000_1000,
@@ -335,33 +354,18 @@ fn odd_words(rt: HostRuntime) -> Result<(), Fail> {
             start: 0x2_0000_d000,
             end: 0x2_0000_e000,
         },
+        Region {
+            start: 0x2_0001_0000,
+            end: 0x2_0001_1000,
+        },
     ];
-    // one pointer is at its region's end, one at its start
-    let reports = report_of_words(
-        alloc,
-        &mut words,
-        &regions,
-        &[(0, 0x2_0000_1ff8), (1, 0x2_0000_a000), (2, 0x2_0000_d000)],
-    )?;
-    let wants = [
-        (Shown::Current(0), 1),
-        (Shown::Left, 5),
-        (Shown::Parked, 512),
-        (Shown::Left, 256),
-        (Shown::Current(1), 0),
-        (Shown::Parked, 0),
-        (Shown::Current(2), 512),
-    ];
-    for (at, report) in reports.as_slice().iter().enumerate() {
-        let text = format!(in alloc;
-            "{:?} {:?} {}",
-            report.region,
-            report.shown,
-            report.words.len()
-        )?;
-        let want = format!(in alloc; "{:?} {:?} {}", regions[at], wants[at].0, wants[at].1)?;
-        assert_eq!(rt; text.as_str(), want.as_str());
-    }
-    assert_eq!(rt; reports.len(), wants.len());
+    // thread 1 is at its stack's end, and thread 2 at its start
+    let ssps = [(0, 0x2_0000_1ff8), (1, 0x2_0000_a000), (2, 0x2_0000_d000)];
+    let reports = report_of_words(alloc, &mut words, &regions, &ssps)?;
+    let text = sketch_report(alloc, &reports)?;
+    let want =
+        "200001000 Current(0) 1; 200003000 Left 5; 200005000 Parked 512; 200007000 Left 256; \
+        200009000 Current(1) 0; 20000b000 Parked 0; 20000d000 Current(2) 512; 200010000 Lost 0; ";
+    assert_eq!(rt; text.as_str(), want);
     Ok(())
 }

@@ -1,4 +1,4 @@
--- the words so far, and those that are left, are all; and no word changes
+-- what was read, with what memory still has, is the whole; memory stays
 use Rattle.std.proofs.Common.{◌≡◌, ◌+◌, ◌-◌, ◌*◌, ◌/◌, ◌++◌}
 use Rattle.cet_book.specs.View.{words_from}
 use Rattle.cet_book.proofs.copies.read_words.Given as goal

@@ -1,4 +1,4 @@
--- no supervisor stack so far is held by the thread
+-- the thread holds none of those before
 use Rattle.std.proofs.Common.{◌≡◌, ℕ, ◌<◌, false, get_or, None}
 use Rattle.cet_book.specs.Book.{holds_stack}
 use Rattle.cet_book.proofs.gates.held_by.Given as goal

@@ -1,4 +1,4 @@
--- the words that are left make of these marks what all make of the first
+-- the rest of the words leads from here to the end
 use Rattle.std.proofs.Common.{◌≡◌, drop}
 use Rattle.cet_book.specs.Marks.{followed}
 use Rattle.cet_book.proofs.marks.follow_words.Given as goal

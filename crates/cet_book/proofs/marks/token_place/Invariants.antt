@@ -1,4 +1,4 @@
--- the place is as far past the word here as it is among the words that are left
+-- the token, or the end, is among the words still to come
 use Rattle.std.proofs.Common.{◌≡◌, ◌+◌, ◌*◌, drop}
 use Rattle.cet_book.specs.Marks.{token_from}
 use Rattle.cet_book.proofs.marks.token_place.Given as goal

@@ -10,7 +10,7 @@ use Rattle.cet_book.proofs.Setting.{Setting}
 use Rattle.cet_book.proofs.Shows.{fits, shown_is}
 use Rattle.cet_book.proofs.reports.report_of_words.Goals as goal
 
--- what was read are the words of the regions
+-- copies are no longer than their regions
 all_fit : (W : List ℕ) (rs : List Span) (copies items : List (List ℕ)) → copies ≡ items → items ≡ map (region_words W) rs → ((k : ℕ) → k < length rs → (get_or rs k no_span).start + 8 * length (get_or (map (region_words W) rs) k []) < 2 ^ 63) → (k : ℕ) → k < length rs → (get_or rs k no_span).start + 8 * length (get_or copies k []) < 2 ^ 63
 all_fit W rs copies items e f h k l = subst (λ s. (get_or rs k no_span).start + 8 * length (get_or s k []) < 2 ^ 63) (sym (e ∙ f)) (h k l)
 

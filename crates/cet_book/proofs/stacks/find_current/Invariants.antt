@@ -1,4 +1,4 @@
--- no stack so far is current on the thread
+-- the thread is on none of those before
 use Rattle.std.proofs.Common.{◌≡◌, ℕ, ◌<◌, false, get_or}
 use Rattle.cet_book.specs.Book.{nowhere, is_current}
 use Rattle.cet_book.proofs.stacks.find_current.Given as goal

@@ -1,4 +1,4 @@
--- what is left to take off now is all of it at first, and there are as many entries
+-- taking the rest off from here gives what taking all off gives at first; there are enough, and none leads to this stack
 use Rattle.std.proofs.Common.{◌≡◌, ◌-◌, ◌<◌, ◌≤◌, ℕ, List, Option, length, get_or}
 use Rattle.cet_book.specs.Book.{nowhere, raised}
 use Rattle.cet_book.specs.Facts.{links}
