@@ -3,8 +3,11 @@ use Rattle.std.proofs.Common.{◌≡◌, ◌≢◌, ℕ, ◌+◌, ◌<◌, ◌�
 use Rattle.std.proofs.lemmas.Bool.{false≢true}
 use Rattle.std.proofs.lemmas.Bool.Decides.{eqb_tells, nat_tests}
 use Rattle.std.proofs.lemmas.List.Sums.{passes_at_first}
-use Rattle.cet_book.specs.Book.{Previous, Holder, Maker, Current, Parked, Left, Lost, Region, Book, nowhere, region, put, top, is_parked, has_token, parked_at, is_current, current_of, acquire}
-use Rattle.cet_book.proofs.Shape.{HolderFits, Fits, Shape}
+use Rattle.cet_book.specs.declared.entries.Entry.TheVariants.{Previous}
+use Rattle.cet_book.specs.declared.entries.Holder.{Holder}
+use Rattle.cet_book.specs.declared.entries.Holder.TheVariants.{Maker, Current, Parked, Left, Lost}
+use Rattle.cet_book.specs.Book.{Region, Book, nowhere, region, put, top, is_parked, has_token, parked_at, is_current, current_of, acquire}
+use Rattle.cet_book.specs.Shape.{HolderFits, Fits, Shape}
 use Rattle.cet_book.specs.Facts.{IsParkedAt, is_left, one, links}
 use Rattle.cet_book.proofs.Edits.{Owned, owned_there, owned_only, is_there, put_all, put2_all, SameBounds, same-put2, bounds_same, apart_same, current_of-put, current_of_is}
 

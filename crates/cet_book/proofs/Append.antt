@@ -8,9 +8,11 @@ use Rattle.std.proofs.lemmas.List.Folds.{position_or_len_push}
 use Rattle.std.proofs.lemmas.List.Sums.{prefix_len-le-length}
 use Rattle.std.proofs.Math.Seq.{get_or-append_seam}
 use Rattle.cet_words.specs.Layout.{shadow_start}
-use Rattle.cet_book.specs.Book.{Entry, Maker, Current, Parked, Lost, Region, Book, nowhere, region, is_current, current_of, last_end}
+use Rattle.cet_book.specs.declared.entries.Entry.{Entry}
+use Rattle.cet_book.specs.declared.entries.Holder.TheVariants.{Maker, Current, Parked, Lost}
+use Rattle.cet_book.specs.Book.{Region, Book, nowhere, region, is_current, current_of, last_end}
 use Rattle.cet_book.specs.Facts.{Bounds, is_left, one, links}
-use Rattle.cet_book.proofs.Shape.{HolderFits, Fits, Shape}
+use Rattle.cet_book.specs.Shape.{HolderFits, Fits, Shape}
 use Rattle.cet_book.proofs.Edits.{is_there}
 
 -- the book with one more region

@@ -3,7 +3,9 @@ use Rattle.std.proofs.Common.{◌≡◌, ℕ, ◌+◌, ◌*◌, ◌%◌, ◌<◌
 use Rattle.std.specs.Prelude.{nat_lt}
 use Rattle.std.proofs.lemmas.Bool.{false≢true}
 use Rattle.std.proofs.lemmas.Bool.Decides.{nat_tests}
-use Rattle.cet_book.specs.Book.{Holder, Maker, Current, Parked, Left, Lost, Region, Book, region, capacity, is_maker, current_of, with_current, can_claim, last_end}
+use Rattle.cet_book.specs.declared.entries.Holder.{Holder}
+use Rattle.cet_book.specs.declared.entries.Holder.TheVariants.{Maker, Current, Parked, Left, Lost}
+use Rattle.cet_book.specs.Book.{Region, Book, region, capacity, is_maker, current_of, with_current, can_claim, last_end}
 use Rattle.cet_book.specs.Facts.{Bounds}
 
 -- a test that passed, and what follows it

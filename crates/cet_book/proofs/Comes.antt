@@ -2,8 +2,11 @@
 use Rattle.std.proofs.Common.{◌≡◌, ◌≢◌, ℕ, ◌+◌, ◌<◌, ◌≤◌, ◌⊎◌, inl, inr, List, [], ◌∷◌, length, Option, Some, None, refl, sym, ◌∙◌, ap, subst, arith, get_or}
 use Rattle.std.proofs.lemmas.Bool.Decides.{eqb_tells}
 use Rattle.cet_words.specs.Change.{Change, Called, Returned, Raised, Acquired, Released, Claimed, Seeded, Born, Pushed, Popped, Ended, Busied, Freed}
-use Rattle.cet_book.specs.Book.{Entry, Holder, Lost, Region, Book, region, stack_of, put_stack, relist, unlink, acquire, book_after, books_after}
-use Rattle.cet_book.proofs.Shape.{IsBook}
+use Rattle.cet_book.specs.declared.entries.Entry.{Entry}
+use Rattle.cet_book.specs.declared.entries.Holder.{Holder}
+use Rattle.cet_book.specs.declared.entries.Holder.TheVariants.{Lost}
+use Rattle.cet_book.specs.Book.{Region, Book, region, stack_of, put_stack, relist, unlink, acquire, book_after, books_after}
+use Rattle.cet_book.specs.Shape.{IsBook}
 use Rattle.cet_book.proofs.Edits.{Owned, SameBounds}
 use Rattle.cet_book.proofs.Relist.{relist_same, relist_holder}
 use Rattle.cet_book.proofs.Unlink.{Gone, lost, parked, Linked, unlink_same, unlink_all}

@@ -3,8 +3,12 @@ use Rattle.std.proofs.Common.{◌≡◌, ℕ, ◌+◌, ◌<◌, ◌≤◌, Bool,
 use Rattle.std.specs.Prelude.{nat_lt, nat_le, if◌then◌else◌}
 use Rattle.std.proofs.lemmas.Bool.Decides.{nat_tests}
 use Rattle.cet_words.specs.Change.{Change, Called, Returned, Raised, Acquired, Released, Claimed, Seeded, Born, Pushed, Popped, Ended, Busied, Freed}
-use Rattle.cet_book.specs.Book.{Entry, Call, Restorer, Frame, Previous, Blank, Holder, Current, Parked, Lost, Region, Book, region, capacity, is_maker, current_of, parked_at, starting_at, held_by, stack_of, put_stack, holds_stack, is_free, with_current, relist, unlink, acquire, called, returned, raised, acquired, released, claim, can_claim, pushed, popped, ended, book_after}
-use Rattle.cet_book.proofs.Shape.{Shape, IsBook}
+use Rattle.cet_book.specs.declared.entries.Entry.{Entry}
+use Rattle.cet_book.specs.declared.entries.Entry.TheVariants.{Call, Restorer, Frame, Previous, Blank}
+use Rattle.cet_book.specs.declared.entries.Holder.{Holder}
+use Rattle.cet_book.specs.declared.entries.Holder.TheVariants.{Current, Parked, Lost}
+use Rattle.cet_book.specs.Book.{Region, Book, region, capacity, is_maker, current_of, parked_at, starting_at, held_by, stack_of, put_stack, holds_stack, is_free, with_current, relist, unlink, acquire, called, returned, raised, acquired, released, claim, can_claim, pushed, popped, ended, book_after}
+use Rattle.cet_book.specs.Shape.{Shape, IsBook}
 use Rattle.cet_book.proofs.Edits.{Owned, owned}
 use Rattle.cet_book.proofs.Unlink.{Gone, lost, parked, Linked}
 use Rattle.cet_book.proofs.Acquire.{parked_at_holds, Takes}

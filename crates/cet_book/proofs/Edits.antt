@@ -5,9 +5,11 @@ use Rattle.std.proofs.lemmas.List.Folds.{position_or_len-set}
 use Rattle.std.proofs.lemmas.List.Sums.{position_or_len_is, passes_at_first}
 use Rattle.std.proofs.lemmas.Bool.{cases_lt, false≢true}
 use Rattle.std.proofs.lemmas.Bool.Decides.{eqb_tells, nat_tests}
-use Rattle.cet_book.specs.Book.{Holder, Maker, Current, Parked, Left, Lost, Region, Book, nowhere, region, put, is_current, current_of}
+use Rattle.cet_book.specs.declared.entries.Holder.{Holder}
+use Rattle.cet_book.specs.declared.entries.Holder.TheVariants.{Maker, Current, Parked, Left, Lost}
+use Rattle.cet_book.specs.Book.{Region, Book, nowhere, region, put, is_current, current_of}
 use Rattle.cet_book.specs.Facts.{Bounds}
-use Rattle.cet_book.proofs.Shape.{Shape}
+use Rattle.cet_book.specs.Shape.{Shape}
 
 pub region-put : (b : Book) (k i : ℕ) (r : Region) → k < length b.regions → region (put b k r) i ≡ cond (eqb i k) r (region b i)
 region-put b k i r inside = elim (eqb_tells i k) [
@@ -72,7 +74,7 @@ apart_same {b = b} s h i j order inside =
     omega arith
 
 -- which region is current on a thread
-current_true : (t : ℕ) (h : Holder) → is_current t h ≡ true → h ≡ Current t
+pub current_true : (t : ℕ) (h : Holder) → is_current t h ≡ true → h ≡ Current t
 current_true t (Maker x) e = absurd (false≢true e)
 current_true t (Current x) e = ap Current (grind (arith, nat_tests))
 current_true t Parked e = absurd (false≢true e)

@@ -1,8 +1,9 @@
 -- The book at the start is one that changes lead from. Source: own.
 use Rattle.std.proofs.Common.{◌≡◌, ℕ, zero, suc, ◌<◌, [], None, refl, sym, ◌∙◌, ap, subst, arith}
-use Rattle.cet_book.specs.Book.{Current, Region, nowhere, region, current_of, stack_of, first_book}
+use Rattle.cet_book.specs.declared.entries.Holder.TheVariants.{Current}
+use Rattle.cet_book.specs.Book.{Region, nowhere, region, current_of, stack_of, first_book}
 use Rattle.cet_book.specs.Facts.{Bounds, is_left, one, links}
-use Rattle.cet_book.proofs.Shape.{Fits, Shape, IsBook}
+use Rattle.cet_book.specs.Shape.{Fits, Shape, IsBook}
 use Rattle.cet_book.proofs.Edits.{current_of_is}
 
 first_all : (P : ℕ → Region → Type 0) → P 0 (region first_book 0) → ((i : ℕ) → P (suc i) nowhere) → (i : ℕ) → P i (region first_book i)
@@ -28,8 +29,7 @@ first_shape = record {
   chain = λ q s. ap (links s) (first_empty q) ∙ sym (first_all (λ i r. one (is_left q r.holder) ≡ 0) refl (λ i. refl) s);
 }
 
--- no supervisor stack is held
-pub no_stack : (k : ℕ) → stack_of first_book k ≡ None
+no_stack : (k : ℕ) → stack_of first_book k ≡ None
 no_stack zero = refl
 no_stack (suc zero) = refl
 no_stack (suc (suc zero)) = refl

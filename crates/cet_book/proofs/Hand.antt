@@ -2,8 +2,12 @@
 use Rattle.std.proofs.Common.{◌≡◌, ◌≢◌, ℕ, zero, suc, ◌+◌, ◌*◌, ◌<◌, ◌≤◌, inl, inr, false, List, [], length, replicate, refl, sym, ◌∙◌, ap, subst, arith}
 use Rattle.std.proofs.lemmas.List.{length-replicate}
 use Rattle.std.proofs.lemmas.Bool.Decides.{eqb_tells, nat_tests}
-use Rattle.cet_book.specs.Book.{Entry, Blank, Holder, Maker, Current, Parked, Lost, Region, Book, region, put, is_current, current_of}
-use Rattle.cet_book.proofs.Shape.{HolderFits, Fits, Shape}
+use Rattle.cet_book.specs.declared.entries.Entry.{Entry}
+use Rattle.cet_book.specs.declared.entries.Entry.TheVariants.{Blank}
+use Rattle.cet_book.specs.declared.entries.Holder.{Holder}
+use Rattle.cet_book.specs.declared.entries.Holder.TheVariants.{Maker, Current, Parked, Lost}
+use Rattle.cet_book.specs.Book.{Region, Book, region, put, is_current, current_of}
+use Rattle.cet_book.specs.Shape.{HolderFits, Fits, Shape}
 use Rattle.cet_book.specs.Facts.{is_left, one, links}
 use Rattle.cet_book.proofs.Edits.{Owned, owned_there, owned_only, is_there, put_all, SameBounds, same-put, bounds_same, apart_same, current_of-put, current_of_is}
 

@@ -4,7 +4,7 @@ use Rattle.std.specs.Prelude.{◌↔◌}
 use Rattle.std.proofs.lemmas.Bool.Decides.{eqb_tells}
 use Rattle.cet_words.specs.Change.{Change, Busied, Freed}
 use Rattle.cet_book.specs.Book.{Book, stack_of, put_stack, book_after}
-use Rattle.cet_book.proofs.Shape.{StackShape, IsBook}
+use Rattle.cet_book.specs.Shape.{StackShape, IsBook}
 use Rattle.cet_book.proofs.Kept.{book_kept, SameHolders}
 use Rattle.cet_book.proofs.Edited.{busied_is, freed_is}
 use Rattle.cet_book.proofs.Supervisor.{stack_there, stack_of-put_stack}

@@ -3,10 +3,13 @@ use Rattle.std.proofs.Common.{◌≡◌, ◌≢◌, ℕ, suc, ◌+◌, ◌*◌, 
 use Rattle.std.specs.Prelude.{nat_lt, nat_le}
 use Rattle.std.proofs.lemmas.Bool.Decides.{nat_tests}
 use Rattle.cet_words.specs.Change.{Change, Called, Returned, Raised, Acquired, Released, Claimed, Seeded, Born, Pushed, Popped, Ended, Busied, Freed}
-use Rattle.cet_book.specs.Book.{Entry, Call, Restorer, Frame, Previous, Blank, Maker, Parked, Lost, Region, Book, region, capacity, is_maker, current_of, parked_at, starting_at, held_by, stack_of, holds_stack, is_free, with_current, relist, unlink, called, returned, raised, acquired, released, claim, can_claim, claimed, seeded, born, pushed, popped, ended, busied, freed, book_after, books_after}
+use Rattle.cet_book.specs.declared.entries.Entry.{Entry}
+use Rattle.cet_book.specs.declared.entries.Entry.TheVariants.{Call, Restorer, Frame, Previous, Blank}
+use Rattle.cet_book.specs.declared.entries.Holder.TheVariants.{Maker, Parked, Lost}
+use Rattle.cet_book.specs.Book.{Region, Book, region, capacity, is_maker, current_of, parked_at, starting_at, held_by, stack_of, holds_stack, is_free, with_current, relist, unlink, called, returned, raised, acquired, released, claim, can_claim, claimed, seeded, born, pushed, popped, ended, busied, freed, book_after, books_after}
 use Rattle.cet_book.proofs.Changes.{then_by}
 use Rattle.cet_book.specs.Facts.{Bounds, links, Returns}
-use Rattle.cet_book.proofs.Shape.{Shape, StackShape, IsBook}
+use Rattle.cet_book.specs.Shape.{Shape, StackShape, IsBook}
 use Rattle.cet_book.proofs.Edits.{Owned, owned, owned_there}
 use Rattle.cet_book.proofs.Relist.{relist_shape}
 use Rattle.cet_book.proofs.Unlink.{Gone, parked, Linked, left_there, unlink_shape}

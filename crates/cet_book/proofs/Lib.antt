@@ -1,4 +1,3 @@
-pub mod Shape
 pub mod Edits
 pub mod Relist
 pub mod Unlink
@@ -20,3 +19,17 @@ pub mod Held
 pub mod EventLaws
 pub mod Ways
 pub mod Top
+pub mod WordsFrom
+pub mod MarkSteps
+pub mod Lists
+pub mod Setting
+pub mod InView
+pub mod Rights
+pub mod Rounds
+pub mod Seeds
+pub mod Shows
+pub mod EventSteps
+pub mod Blanks
+pub mod PageTable
+pub mod Lookups
+pub mod Readable

@@ -1,8 +1,11 @@
 -- A region that is lost stays as it is, whatever changes. Source: own.
 use Rattle.std.proofs.Common.{◌≡◌, ◌≢◌, ℕ, ◌<◌, List, length, Some, refl, sym, ◌∙◌, ap, subst, arith}
 use Rattle.cet_words.specs.Change.{Change}
-use Rattle.cet_book.specs.Book.{Entry, Maker, Current, Parked, Left, Lost, Holder, Region, Book, region, relist, unlink, book_after}
-use Rattle.cet_book.proofs.Shape.{IsBook}
+use Rattle.cet_book.specs.declared.entries.Entry.{Entry}
+use Rattle.cet_book.specs.declared.entries.Holder.TheVariants.{Maker, Current, Parked, Left, Lost}
+use Rattle.cet_book.specs.declared.entries.Holder.{Holder}
+use Rattle.cet_book.specs.Book.{Region, Book, region, relist, unlink, book_after}
+use Rattle.cet_book.specs.Shape.{IsBook}
 use Rattle.cet_book.proofs.Edits.{Owned}
 use Rattle.cet_book.proofs.Relist.{relist_other}
 use Rattle.cet_book.proofs.Unlink.{Linked, linked_left, unlink_other}

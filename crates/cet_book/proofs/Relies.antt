@@ -1,7 +1,11 @@
 -- What a thread can rely on in the book whatever other threads change. Source: own.
 use Rattle.std.proofs.Common.{◌≡◌, ◌≢◌, ℕ, ◌<◌, ◌≤◌, ◌⊎◌, inl, inr, List, length, replicate, Option, Some, refl, sym, ◌∙◌, ap, subst, arith}
 use Rattle.std.proofs.lemmas.Bool.Decides.{eqb_tells}
-use Rattle.cet_book.specs.Book.{Entry, Blank, Holder, Maker, Current, Parked, Left, Lost, Region, Book, region, is_current, current_of, stack_of, put_stack, relist, unlink, acquire, raised}
+use Rattle.cet_book.specs.declared.entries.Entry.{Entry}
+use Rattle.cet_book.specs.declared.entries.Entry.TheVariants.{Blank}
+use Rattle.cet_book.specs.declared.entries.Holder.{Holder}
+use Rattle.cet_book.specs.declared.entries.Holder.TheVariants.{Maker, Current, Parked, Left, Lost}
+use Rattle.cet_book.specs.Book.{Region, Book, region, is_current, current_of, stack_of, put_stack, relist, unlink, acquire, raised}
 use Rattle.cet_book.specs.Facts.{Owns}
 use Rattle.cet_book.proofs.Edits.{Owned}
 use Rattle.cet_book.proofs.Relist.{relist_same, relist_other, relist_current}

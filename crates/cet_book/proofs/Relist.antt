@@ -1,7 +1,8 @@
 -- The list of the region that is current on a thread changes, but for its Previous entries. Source: own.
 use Rattle.std.proofs.Common.{◌≡◌, ◌≢◌, ℕ, ◌+◌, ◌*◌, ◌≤◌, List, length, refl, sym, ◌∙◌, subst}
-use Rattle.cet_book.specs.Book.{Entry, Region, Book, region, current_of, relist}
-use Rattle.cet_book.proofs.Shape.{HolderFits, Fits, Shape}
+use Rattle.cet_book.specs.declared.entries.Entry.{Entry}
+use Rattle.cet_book.specs.Book.{Region, Book, region, current_of, relist}
+use Rattle.cet_book.specs.Shape.{HolderFits, Fits, Shape}
 use Rattle.cet_book.specs.Facts.{is_left, one, links}
 use Rattle.cet_book.proofs.Edits.{Owned, owned_there, put_all, SameBounds, same-put, bounds_same, apart_same, current_of-put}
 

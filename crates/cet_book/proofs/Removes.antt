@@ -1,9 +1,12 @@
 -- The newest entries of the region that is current on a thread go, one after another. Source: own.
 use Rattle.std.proofs.Common.{◌≡◌, ℕ, zero, suc, ◌+◌, ◌<◌, ◌≤◌, false, List, [], ◌∷◌, length, Option, Some, None, refl, sym, ◌∙◌, ap, subst, arith}
 use Rattle.std.specs.Prelude.{option_and_then}
-use Rattle.cet_book.specs.Book.{Entry, Call, Restorer, Frame, Previous, Blank, Lost, Region, Book, region, current_of, relist, unlink, returned, remove_entry, raised}
+use Rattle.cet_book.specs.declared.entries.Entry.{Entry}
+use Rattle.cet_book.specs.declared.entries.Entry.TheVariants.{Call, Restorer, Frame, Previous, Blank}
+use Rattle.cet_book.specs.declared.entries.Holder.TheVariants.{Lost}
+use Rattle.cet_book.specs.Book.{Region, Book, region, current_of, relist, unlink, returned, remove_entry, raised}
 use Rattle.cet_book.specs.Facts.{is_previous, links}
-use Rattle.cet_book.proofs.Shape.{Shape}
+use Rattle.cet_book.specs.Shape.{Shape}
 use Rattle.cet_book.proofs.Edits.{Owned, SameBounds}
 use Rattle.cet_book.proofs.Relist.{relist_shape, relist_owned, relist_current, relist_same, relist_here}
 use Rattle.cet_book.proofs.Unlink.{Gone, lost, Linked, unlink_shape, unlink_current, unlink_same, unlink_here}

@@ -5,7 +5,7 @@ use Rattle.std.proofs.lemmas.Bool.Decides.{eqb_tells, nat_tests}
 use Rattle.std.proofs.lemmas.List.{get_or_past}
 use Rattle.std.proofs.lemmas.List.Sums.{fails_before_first, passes_at_first}
 use Rattle.cet_book.specs.Book.{Book, stack_of, put_stack, holds_stack, is_free, held_by, current_of}
-use Rattle.cet_book.proofs.Shape.{Shape, StackShape}
+use Rattle.cet_book.specs.Shape.{Shape, StackShape}
 
 pub holds_true : (t : ℕ) (o : Option ℕ) → holds_stack t o ≡ true → o ≡ Some t
 holds_true t None e = absurd (false≢true e)

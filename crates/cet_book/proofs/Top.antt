@@ -1,7 +1,9 @@
 -- The shadow-stack pointer of a thread is the top of its region. Source: own.
 use Rattle.std.proofs.Common.{◌≡◌, ℕ, suc, ◌+◌, ◌*◌, ◌%◌, ◌<◌, List, length, Some, sym, ◌∙◌, ap, subst, arith}
-use Rattle.cet_book.specs.Book.{Entry, Current, Parked, Region, Book, region, top, current_of, relist, unlink, acquire, raised}
-use Rattle.cet_book.proofs.Shape.{Shape}
+use Rattle.cet_book.specs.declared.entries.Entry.{Entry}
+use Rattle.cet_book.specs.declared.entries.Holder.TheVariants.{Current, Parked}
+use Rattle.cet_book.specs.Book.{Region, Book, region, top, current_of, relist, unlink, acquire, raised}
+use Rattle.cet_book.specs.Shape.{Shape}
 use Rattle.cet_book.proofs.Edits.{Owned, owned_there, current_holds}
 use Rattle.cet_book.proofs.Relist.{relist_here, relist_owned}
 use Rattle.cet_book.proofs.Unlink.{Linked, unlink_here}

@@ -2,8 +2,12 @@
 use Rattle.std.proofs.Common.{◌≡◌, ◌≢◌, ℕ, ◌+◌, ◌*◌, ◌<◌, ◌≤◌, inl, inr, Bool, true, false, List, ◌∷◌, length, refl, sym, ◌∙◌, ap, subst, eqb, arith}
 use Rattle.std.proofs.lemmas.Bool.{false≢true}
 use Rattle.std.proofs.lemmas.Bool.Decides.{eqb_tells, nat_tests}
-use Rattle.cet_book.specs.Book.{Entry, Previous, Holder, Maker, Current, Parked, Left, Lost, Region, Book, region, top, is_current, current_of, relist, unlink}
-use Rattle.cet_book.proofs.Shape.{HolderFits, Fits, Shape}
+use Rattle.cet_book.specs.declared.entries.Entry.{Entry}
+use Rattle.cet_book.specs.declared.entries.Entry.TheVariants.{Previous}
+use Rattle.cet_book.specs.declared.entries.Holder.{Holder}
+use Rattle.cet_book.specs.declared.entries.Holder.TheVariants.{Maker, Current, Parked, Left, Lost}
+use Rattle.cet_book.specs.Book.{Region, Book, region, top, is_current, current_of, relist, unlink}
+use Rattle.cet_book.specs.Shape.{HolderFits, Fits, Shape}
 use Rattle.cet_book.specs.Facts.{is_left, one, links}
 use Rattle.cet_book.proofs.Edits.{Owned, owned_there, is_there, put_all, put2_all, SameBounds, same-put2, bounds_same, apart_same, current_of-put}
 

@@ -5,9 +5,13 @@ use Rattle.std.proofs.lemmas.Bool.{false≢true}
 use Rattle.std.proofs.lemmas.Bool.Decides.{nat_tests}
 use Rattle.std.proofs.lemmas.List.Sums.{position_or_len_is}
 use Rattle.cet_words.specs.Change.{Called, Returned, Raised, Acquired, Released, Claimed, Seeded, Born, Pushed, Popped, Ended, Busied, Freed}
-use Rattle.cet_book.specs.Book.{Entry, Call, Restorer, Frame, Previous, Blank, Holder, Maker, Current, Parked, Lost, Region, Book, nowhere, region, capacity, top, is_maker, has_token, current_of, called, pushed, ended, popped, returned, acquired, parked_at, starting_at, held_by, stack_of, put_stack, is_free, with_current, relist, unlink, acquire, raised, released, claim, book_after}
+use Rattle.cet_book.specs.declared.entries.Entry.{Entry}
+use Rattle.cet_book.specs.declared.entries.Entry.TheVariants.{Call, Restorer, Frame, Previous, Blank}
+use Rattle.cet_book.specs.declared.entries.Holder.{Holder}
+use Rattle.cet_book.specs.declared.entries.Holder.TheVariants.{Maker, Current, Parked, Lost}
+use Rattle.cet_book.specs.Book.{Region, Book, nowhere, region, capacity, top, is_maker, has_token, current_of, called, pushed, ended, popped, returned, acquired, parked_at, starting_at, held_by, stack_of, put_stack, is_free, with_current, relist, unlink, acquire, raised, released, claim, book_after}
 use Rattle.cet_book.specs.Facts.{is_previous, IsParkedAt}
-use Rattle.cet_book.proofs.Shape.{Shape}
+use Rattle.cet_book.specs.Shape.{Shape}
 use Rattle.cet_book.proofs.Edits.{Owned, owned_there, is_there}
 use Rattle.cet_book.proofs.Unlink.{Linked}
 use Rattle.cet_book.proofs.Acquire.{has_token_true, has_token-true, parked_fits, Takes, taken_there}

@@ -4,28 +4,11 @@ use Rattle.std.proofs.Common.{zero, suc}
 use Rattle.std.specs.Prelude.{ℕ, ◌+◌, ◌-◌, ◌*◌, ◌/◌, ◌%◌, Bool, true, false, ◌&&◌, ◌==◌, nat_lt, nat_le, if◌then◌else◌, List, [], ◌∷◌, ◌++◌, length, replicate, slice_index_or, slice_set, Option, Some, None, option_and_then}
 use Rattle.std.specs.List.{position_or_len}
 use Rattle.cet_words.specs.Layout.{first_region_end, first_region_start, shadow_start}
+use Rattle.cet_book.specs.declared.entries.Entry.{Entry}
+use Rattle.cet_book.specs.declared.entries.Entry.TheVariants.{Call, Restorer, Frame, Previous, Blank}
+use Rattle.cet_book.specs.declared.entries.Holder.{Holder}
+use Rattle.cet_book.specs.declared.entries.Holder.TheVariants.{Maker, Current, Parked, Left, Lost}
 use Rattle.cet_words.specs.Change.{Change, Called, Returned, Raised, Acquired, Released, Claimed, Seeded, Born, Pushed, Popped, Ended, Busied, Freed}
-
-pub data Entry : Type 0 where
-  -- the address that a call is to return to
-  Call : (back : ℕ) → Entry
-  -- the address that a signal's handler is to return to
-  Restorer : (back : ℕ) → Entry
-  -- a signal's frame
-  Frame : Entry
-  -- the region that was left for this one
-  Previous : (region : ℕ) → Entry
-  -- a word 0 above a token
-  Blank : Entry
-
-pub data Holder : Type 0 where
-  Maker : (thread : ℕ) → Holder
-  Current : (thread : ℕ) → Holder
-  -- it has a restore token
-  Parked : Holder
-  -- it was left for that region
-  Left : (region : ℕ) → Holder
-  Lost : Holder
 
 -- a shadow stack: addresses from start up to end, its entries with the newest first, and its one holder
 pub record Region : Type 0 where

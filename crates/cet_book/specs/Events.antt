@@ -1,23 +1,12 @@
--- What can happen to the book, with regions by their numbers, and the one book that it leads to. Source: own.
-use Rattle.std.specs.Prelude.{ℕ, Bool, Option}
+-- The one book that an event leads to, and what it says that a call applied one. Source: own.
+use Rattle.std.specs.Prelude.{◌≡◌, ◌≢◌, ℕ, List, Option, Some, None, Result, Ok, Err}
 use Rattle.cet_words.specs.Change.{Change}
 use Rattle.cet_words.specs.Change as change
-use Rattle.cet_book.specs.Book.{Book, starting_at, with_current, called, returned, raised, acquired, released, claimed, seeded, born, pushed, popped, ended, busied, freed}
-
-pub data Event : Type 0 where
-  Called : (thread back : ℕ) → Event
-  Returned : (thread : ℕ) → Event
-  Raised : (thread count : ℕ) → Event
-  Acquired : (thread at : ℕ) → Event
-  Released : (thread : ℕ) → Event
-  Claimed : (thread start pages : ℕ) → (maker : Bool) → Event
-  Seeded : (thread region blanks : ℕ) → Event
-  Born : (parent child region : ℕ) → Event
-  Pushed : (thread restorer : ℕ) → Event
-  Popped : (thread : ℕ) → Event
-  Ended : (thread : ℕ) → Event
-  Busied : (thread stack : ℕ) → Event
-  Freed : (thread stack : ℕ) → Event
+use Rattle.cet_book.specs.Book.{Region, Book, starting_at, with_current, called, returned, raised, acquired, released, claimed, seeded, born, pushed, popped, ended, busied, freed}
+use Rattle.cet_book.specs.declared.events.BookFault.{BookFault}
+use Rattle.cet_book.specs.declared.events.BookFault.TheVariants.{NotLegal, NoMemory}
+use Rattle.cet_book.specs.declared.events.Event.{Event}
+use Rattle.cet_book.specs.declared.events.Event.TheVariants.{Called, Returned, Raised, Acquired, Released, Claimed, Seeded, Born, Pushed, Popped, Ended, Busied, Freed}
 
 -- the book after an event, or None where the book has no such event
 abbrev pub book_step : Book → Event → Option Book
@@ -50,3 +39,17 @@ event_of b t change.Popped = Popped t
 event_of b t change.Ended = Ended t
 event_of b t (change.Busied stack) = Busied t stack
 event_of b t (change.Freed stack) = Freed t stack
+
+-- An answer over the book before and after, and the book that the event leads to, if any. Success brings that book; a
+-- refusal leaves the book. NotLegal says that there is no next book, and want of memory that there is one.
+abbrev pub Applied : Result (Unit {0}) BookFault → (old new : Book) → (next : Option Book) → Type 0
+Applied (Ok u) old new next = next ≡ Some new
+Applied (Err NotLegal) old new next = (next ≡ None) × (new ≡ old)
+Applied (Err NoMemory) old new next = (next ≢ None) × (new ≡ old)
+
+abbrev pub book_of : List Region → List (Option ℕ) → Book
+book_of regions stacks = record { regions = regions; stacks = stacks }
+
+-- the same of regions alone, whoever holds the supervisor stacks
+abbrev pub AppliedTo : Result (Unit {0}) BookFault → (old new : List Region) → (next : Book → Option Book) → Type 0
+AppliedTo result old new next = (stacks : List (Option ℕ)) → Applied result (book_of old stacks) (book_of new stacks) (next (book_of old stacks))

@@ -1,4 +1,9 @@
 pub mod Book
 pub mod Stack
 pub mod Facts
+pub mod Shape
 pub mod Events
+pub mod Newest
+pub mod View
+pub mod Marks
+pub mod Pages

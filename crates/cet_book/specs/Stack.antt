@@ -2,7 +2,9 @@
 -- previous-SSP tokens); a signal's frame is that of Linux, Documentation/arch/x86/shstk.rst (bit 63 and an address).
 use Rattle.std.specs.Prelude.{ℕ, ◌+◌, ◌-◌, ◌/◌, ◌^◌, List, [], ◌∷◌, slice_index}
 use Rattle.cet_words.specs.Layout.{first_shadow_word, shadow_start}
-use Rattle.cet_book.specs.Book.{Entry, Call, Restorer, Frame, Previous, Blank, Book, region, top}
+use Rattle.cet_book.specs.declared.entries.Entry.{Entry}
+use Rattle.cet_book.specs.declared.entries.Entry.TheVariants.{Call, Restorer, Frame, Previous, Blank}
+use Rattle.cet_book.specs.Book.{Book, region, top}
 
 -- the number of the word at an address of the shadow area
 abbrev pub slot : (addr : ℕ) → ℕ

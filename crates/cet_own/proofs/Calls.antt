@@ -11,7 +11,9 @@ use Rattle.cet_isa.specs.declared.instructions.Operand.{Operand}
 use Rattle.cet_isa.specs.declared.instructions.Size.TheVariants as size
 use Rattle.cet_isa.specs.declared.threads.Arch.{Arch}
 use Rattle.cet_isa.specs.declared.threads.Record.{Record}
-use Rattle.cet_book.specs.Book.{Entry, Call, Book, region, top, current_of, relist}
+use Rattle.cet_book.specs.declared.entries.Entry.{Entry}
+use Rattle.cet_book.specs.declared.entries.Entry.TheVariants.{Call}
+use Rattle.cet_book.specs.Book.{Book, region, top, current_of, relist}
 use Rattle.cet_book.specs.Facts.{IsReturn, In}
 use Rattle.cet_book.proofs.Edits.{Owned, owned, current_holds}
 use Rattle.cet_book.proofs.Kept.{book_kept}

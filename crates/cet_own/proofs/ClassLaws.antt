@@ -8,7 +8,10 @@ use Rattle.cet_words.specs.Job.{ImageData}
 use Rattle.cet_words.specs.Change.{Change}
 use Rattle.cet_words.specs.declared.accesses.Access.{Access}
 use Rattle.cet_words.specs.declared.accesses.Access.TheVariants as access
-use Rattle.cet_book.specs.Book.{Entry, Call, Restorer, Frame, Previous, Blank, Lost, Book, region, top, current_of, put_stack, book_after, books_after}
+use Rattle.cet_book.specs.declared.entries.Entry.{Entry}
+use Rattle.cet_book.specs.declared.entries.Entry.TheVariants.{Call, Restorer, Frame, Previous, Blank}
+use Rattle.cet_book.specs.declared.entries.Holder.TheVariants.{Lost}
+use Rattle.cet_book.specs.Book.{Book, region, top, current_of, put_stack, book_after, books_after}
 use Rattle.cet_book.proofs.Edits.{Owned}
 use Rattle.cet_book.proofs.Hand.{hand, hand_all, hand_same, ends}
 use Rattle.cet_book.proofs.Addresses.{ChangeReturns}
@@ -17,7 +20,7 @@ use Rattle.cet_book.specs.Stack.{slot, slot_word, word_of, tops}
 use Rattle.cet_book.specs.Facts.{Stack}
 use Rattle.cet_own.specs.Past.{next_word, draw_word}
 use Rattle.cet_own.proofs.Holds.{Sound, Holds}
-use Rattle.cet_own.specs.Stands.{IsEntry, busy}
+use Rattle.cet_own.specs.Stands.{IsRestorer, IsEntry, busy}
 use Rattle.cet_own.proofs.Marks.{marks_out, marks_same, tokens_end}
 use Rattle.cet_own.proofs.Kept.{ending_out, restorers_out, size_kept, lists_out, pages_out, pages_same, gates_set, gates_same}
 use Rattle.cet_book.proofs.Changes.{same_book, then_by}
@@ -40,6 +43,7 @@ known image t words past b a counters_tell h still = record {
       let w : answer words a ≡ slice_index words next_word = ap (answer words) e in
       subst (λ x. HasNone x b) (sym w) (counters_tell.none (omega arith));
   next_few = λ n e. (let w : answer words a ≡ slice_index words next_word = ap (answer words) e in let few = counters_tell.nexts in omega arith);
+  code = λ s l e. subst (IsRestorer image) (sym (ap (answer words) e)) (h.restorers.executable s l);
   restorer = λ s l r e z. still.restorer s l r (sym (ap (answer words) e) ∙ z);
   left = λ w x own k e. ap (answer words) e ∙ still.word w x own k;
   sound = h.sound;

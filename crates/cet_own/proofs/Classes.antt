@@ -7,14 +7,15 @@ use Rattle.cet_words.specs.Layout.{exit_word, entry_word, token, token_word, ker
 use Rattle.cet_words.specs.Change.{Change, Called, Returned, Ended, Busied, Freed}
 use Rattle.cet_words.specs.declared.accesses.Access.{Access}
 use Rattle.cet_words.specs.declared.accesses.Access.TheVariants as access
-use Rattle.cet_book.specs.Facts.{IsReturn, Place, In}
-use Rattle.cet_book.specs.Book.{Call, Current, Lost, Book, region, top, stack_of, put_stack, relist, returned, book_after, books_after}
+use Rattle.cet_book.specs.Facts.{IsReturn, Place, In, Owns}
+use Rattle.cet_book.specs.declared.entries.Entry.TheVariants.{Call}
+use Rattle.cet_book.specs.declared.entries.Holder.TheVariants.{Current, Lost}
+use Rattle.cet_book.specs.Book.{Book, region, top, stack_of, put_stack, relist, returned, book_after, books_after}
 use Rattle.cet_book.proofs.Edits.{Owned}
 use Rattle.cet_book.proofs.Hand.{hand}
 use Rattle.cet_book.proofs.Removes.{Removal, returned_is}
 use Rattle.cet_book.specs.Stack.{slot}
 use Rattle.cet_book.proofs.Ways.{with_current_at, called_way, ended_way, freed_way, busied_way}
-use Rattle.cet_book.specs.Facts.{Owns}
 use Rattle.cet_own.proofs.Holds.{Sound, Holds, IsOut, NoAction}
 use Rattle.cet_own.specs.Stands.{busy}
 use Rattle.cet_book.proofs.Held.{Free}

@@ -4,7 +4,8 @@ use Rattle.std.specs.Prelude.{slice_index}
 use Rattle.cet_words.specs.Change.{Change, Born}
 use Rattle.cet_words.specs.declared.accesses.Access.{Access}
 use Rattle.cet_words.specs.declared.accesses.Access.TheVariants as access
-use Rattle.cet_book.specs.Book.{Maker, Book, region}
+use Rattle.cet_book.specs.declared.entries.Holder.TheVariants.{Maker}
+use Rattle.cet_book.specs.Book.{Book, region}
 use Rattle.cet_book.proofs.Kept.{NoneBorn}
 use Rattle.cet_page.specs.Script.{birth}
 use Rattle.cet_own.proofs.Standing.{HasNone}

@@ -8,7 +8,8 @@ use Rattle.cet_words.specs.Entries.{entry_of}
 use Rattle.cet_words.specs.Job.{JobData, IsJob, ImageData}
 use Rattle.cet_words.specs.Layout.{exit_word, entry_word, token, token_word, first_entry_word, first_kernel_page, first_kernel_word, first_mmap_page, first_region_end, first_shadow_page, first_stack_word, page_count}
 use Rattle.cet_words.specs.Start.{kernel_word, is_present, start_entry, start_word, IsStart}
-use Rattle.cet_book.specs.Book.{Parked, Current, region, top, current_of, stack_of, first_book}
+use Rattle.cet_book.specs.declared.entries.Holder.TheVariants.{Parked, Current}
+use Rattle.cet_book.specs.Book.{region, top, current_of, stack_of, first_book}
 use Rattle.cet_book.proofs.Addresses.{first_returns}
 use Rattle.cet_book.proofs.Edits.{current_holds}
 use Rattle.cet_book.proofs.First.{first_empty, first_current, first_is_book}
@@ -21,10 +22,9 @@ use Rattle.cet_own.specs.ExitWord.{IsExitWord}
 use Rattle.cet_own.specs.Past.{restorer_word, next_word, draw_word}
 use Rattle.cet_own.proofs.Holds.{Marks, Pages, Gates, Holds}
 use Rattle.cet_own.specs.Stands.{Restorers, IsEntry, busy}
-use Rattle.cet_book.proofs.Held.{Free}
+use Rattle.cet_book.proofs.Held.{Free, held_free}
 use Rattle.cet_own.proofs.Standing.{AtRest, HasNone}
 use Rattle.cet_own.specs.Stands.{HasMade}
-use Rattle.cet_book.proofs.Held.{held_free}
 use Rattle.cet_own.proofs.Rows.{row_claim}
 use Rattle.cet_page.specs.Trail.{trail_of}
 use Rattle.cet_own.proofs.Paid.{Paid}

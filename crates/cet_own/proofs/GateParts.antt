@@ -7,8 +7,9 @@ use Rattle.cet_words.specs.Layout.{token, token_page, token_word, kernel_return}
 use Rattle.cet_words.specs.Job.{JobData}
 use Rattle.cet_words.specs.Change.{Busied, Freed}
 use Rattle.cet_isa.specs.declared.threads.Arch.{Arch}
-use Rattle.cet_book.specs.Book.{Lost, Book, region, top, stack_of, put_stack, current_of, book_after}
-use Rattle.cet_book.proofs.Shape.{StackShape}
+use Rattle.cet_book.specs.declared.entries.Holder.TheVariants.{Lost}
+use Rattle.cet_book.specs.Book.{Book, region, top, stack_of, put_stack, current_of, book_after}
+use Rattle.cet_book.specs.Shape.{StackShape}
 use Rattle.cet_book.proofs.Edits.{Owned, owned, current_holds}
 use Rattle.cet_book.proofs.Hand.{hand, end_none}
 use Rattle.cet_book.proofs.Supervisor.{stack_of-put_stack, current_of-put_stack}
@@ -19,8 +20,7 @@ use Rattle.cet_page.specs.declared.finishes.Leaving.TheVariants as leaving
 use Rattle.cet_page.specs.Gate.{gate_in, gate_out}
 use Rattle.cet_own.specs.Stands.{busy}
 use Rattle.cet_own.proofs.Standing.{Stacked, HasNone}
-use Rattle.cet_book.proofs.Held.{Free}
-use Rattle.cet_book.proofs.Held.{given_held}
+use Rattle.cet_book.proofs.Held.{Free, given_held}
 use Rattle.cet_own.specs.Stands.{below_token}
 use Rattle.cet_own.proofs.Owed.{State, own_stack}
 use Rattle.cet_own.proofs.Classes.{refused, settles, reloads, enters, leaves, exits}

@@ -2,7 +2,7 @@
 use Rattle.std.proofs.Common.{◌≡◌, ℕ, List, [], ◌∷◌, Option, Some, refl, sym, subst}
 use Rattle.cet_words.specs.Change.{Change, Called, Returned, Raised, Acquired, Released, Claimed, Seeded, Born, Pushed, Popped, Ended, Busied, Freed}
 use Rattle.cet_book.specs.Book.{Book, book_after, books_after}
-use Rattle.cet_book.proofs.Shape.{IsBook}
+use Rattle.cet_book.specs.Shape.{IsBook}
 use Rattle.cet_book.proofs.Changes.{same_book, then_by}
 use Rattle.cet_book.proofs.Held.{Held, held_by_change, change_held}
 use Rattle.cet_book.proofs.Kept.{book_kept}

@@ -4,8 +4,10 @@ use Rattle.cet_words.specs.Entries.{entry_of}
 use Rattle.cet_words.specs.Job.{ImageData}
 use Rattle.cet_words.specs.Layout.{exit_word, entry_word, token, token_word, first_entry_word, first_kernel_page, first_kernel_word, first_mmap_page, first_shadow_page, first_shadow_word, page_count, shadow_start, word_count}
 use Rattle.cet_book.specs.Facts.{In, LiesIn, Place, IsParkedAt, Returns, Stack}
-use Rattle.cet_book.specs.Book.{Holder, Maker, Current, Parked, Left, Lost, Book, Region, region, top, stack_of}
-use Rattle.cet_book.proofs.Shape.{IsBook}
+use Rattle.cet_book.specs.declared.entries.Holder.{Holder}
+use Rattle.cet_book.specs.declared.entries.Holder.TheVariants.{Maker, Current, Parked, Left, Lost}
+use Rattle.cet_book.specs.Book.{Book, Region, region, top, stack_of}
+use Rattle.cet_book.specs.Shape.{IsBook}
 use Rattle.cet_book.specs.Stack.{slot_word, tops}
 use Rattle.cet_own.specs.ExitWord.{IsExitWord}
 use Rattle.cet_own.specs.Past.{draw_word, next_word}

@@ -6,7 +6,7 @@ use Rattle.std.proofs.lemmas.Bool.Decides.{eqb_tells}
 use Rattle.cet_words.specs.Job.{ImageData}
 use Rattle.cet_words.specs.Layout.{exit_word, entry_word, token, token_word, action_word, first_entry_word, first_kernel_page, first_kernel_word, first_shadow_page, first_shadow_word, word_count}
 use Rattle.cet_book.specs.Book.{Book, region, top, stack_of, put_stack}
-use Rattle.cet_book.proofs.Shape.{Shape}
+use Rattle.cet_book.specs.Shape.{Shape}
 use Rattle.cet_book.proofs.Edits.{SameBounds}
 use Rattle.cet_book.proofs.Supervisor.{stack_of-put_stack}
 use Rattle.cet_book.specs.Facts.{Stack, LiesIn}

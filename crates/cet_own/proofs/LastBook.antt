@@ -8,10 +8,11 @@ use Rattle.cet_words.specs.Job.{JobData, IsJob}
 use Rattle.cet_words.specs.Change.{Change}
 use Rattle.cet_isa.specs.declared.threads.End.{End}
 use Rattle.cet_isa.specs.declared.threads.End.TheVariants as ending
-use Rattle.cet_book.specs.Book.{Current, Lost, Maker, Book, Region, nowhere, region, top, current_of, book_after, books_after, first_book}
+use Rattle.cet_book.specs.declared.entries.Holder.TheVariants.{Current, Lost, Maker}
+use Rattle.cet_book.specs.Book.{Book, Region, nowhere, region, top, current_of, book_after, books_after, first_book}
 use Rattle.cet_book.specs.Facts.{Stack}
 use Rattle.cet_book.specs.Stack.{tops}
-use Rattle.cet_book.proofs.Shape.{IsBook}
+use Rattle.cet_book.specs.Shape.{IsBook}
 use Rattle.cet_book.proofs.Edits.{SameBounds, current_holds, owned_there}
 use Rattle.cet_book.proofs.Acquire.{taken_there, taken_apart}
 use Rattle.cet_book.proofs.Append.{append_length}

@@ -6,11 +6,13 @@ use Rattle.std.proofs.lemmas.Bool.Decides.{eqb_tells}
 use Rattle.cet_words.specs.Layout.{first_kernel_word, first_shadow_word, word_count}
 use Rattle.cet_book.specs.Facts.{IsParkedAt, In, Place}
 use Rattle.cet_book.proofs.Acquire.{parked_fits}
-use Rattle.cet_book.specs.Book.{Entry, Current, Parked, Lost, Region, Book, region, top, relist, unlink}
+use Rattle.cet_book.specs.declared.entries.Entry.{Entry}
+use Rattle.cet_book.specs.declared.entries.Holder.TheVariants.{Current, Parked, Lost}
+use Rattle.cet_book.specs.Book.{Region, Book, region, top, relist, unlink}
 use Rattle.cet_book.proofs.Edits.{Owned, is_there, SameBounds}
 use Rattle.cet_book.proofs.Hand.{hand, hand_all, hand_same, hand_other, ends}
 use Rattle.cet_book.proofs.Relist.{relist_all, relist_same, relist_other}
-use Rattle.cet_book.proofs.Shape.{Shape}
+use Rattle.cet_book.specs.Shape.{Shape}
 use Rattle.cet_book.specs.Stack.{slot, slot_word}
 use Rattle.cet_book.proofs.Unlink.{Linked, linked_left, unlink_all, unlink_same, unlink_other}
 use Rattle.cet_own.specs.Past.{draw_word}

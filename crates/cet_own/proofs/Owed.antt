@@ -8,12 +8,13 @@ use Rattle.cet_words.specs.Change.{Change}
 use Rattle.cet_words.specs.declared.accesses.Access.{Access}
 use Rattle.cet_words.specs.declared.accesses.Access.TheVariants as access
 use Rattle.cet_book.specs.Facts.{IsParkedAt, Place, LiesIn}
-use Rattle.cet_book.specs.Book.{Entry, Book, region, top, current_of, stack_of, books_after}
+use Rattle.cet_book.specs.declared.entries.Entry.{Entry}
+use Rattle.cet_book.specs.Book.{Book, region, top, current_of, stack_of, books_after}
 use Rattle.cet_book.proofs.Relies.{Relies, relies_same, relies_then}
 use Rattle.cet_book.specs.Stack.{slot, word_of, tops}
 use Rattle.cet_own.proofs.Frame.{Rules}
 use Rattle.cet_own.proofs.Holds.{Sound, Holds}
-use Rattle.cet_own.specs.Stands.{IsEntry, busy}
+use Rattle.cet_own.specs.Stands.{IsRestorer, IsEntry, busy}
 use Rattle.cet_page.specs.Trail.{Visit}
 use Rattle.cet_own.specs.Past.{next_word, draw_word, left_in, restorer_word, has_restorer}
 use Rattle.cet_own.specs.Stands.{OwnWord}
@@ -45,6 +46,8 @@ pub record Known (image : ImageData) (t : ℕ) (past : List Visit) (b : Book) (a
   pub left : (w x : ℕ) → OwnWord t b w → left_in past w ≡ Some x → a ≡ access.Load w → v ≡ x
   -- and a signal that it has seen to have a restorer has one
   pub restorer : (s : ℕ) → s < 64 → has_restorer past s ≡ true → a ≡ access.Load (restorer_word s) → v ≢ 0
+  -- what stands as a restorer is code
+  pub code : (s : ℕ) → s < 64 → a ≡ access.Load (restorer_word s) → IsRestorer image v
   -- an exchange finds a restore token exactly where a parked region has it
   pub finds : (p expected value : ℕ) → Place p → a ≡ access.CompareExchange (slot p) expected value → v ≡ p + 9 → (q : ℕ) × IsParkedAt p (region b q)
   pub stands : (p q expected value : ℕ) → IsParkedAt p (region b q) → a ≡ access.CompareExchange (slot p) expected value → v ≡ p + 9

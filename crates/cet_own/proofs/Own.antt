@@ -3,7 +3,10 @@ use Rattle.std.proofs.Common.{inl, ◌≡◌, ◌≢◌, ℕ, suc, ◌+◌, ◌-
 use Rattle.std.specs.Prelude.{slice_set}
 use Rattle.cet_words.specs.Layout.{image_end}
 use Rattle.cet_words.specs.Job.{ImageData}
-use Rattle.cet_book.specs.Book.{Entry, Call, Current, Lost, Previous, Book, Region, region, top, relist, unlink}
+use Rattle.cet_book.specs.declared.entries.Entry.{Entry}
+use Rattle.cet_book.specs.declared.entries.Entry.TheVariants.{Call, Previous}
+use Rattle.cet_book.specs.declared.entries.Holder.TheVariants.{Current, Lost}
+use Rattle.cet_book.specs.Book.{Book, Region, region, top, relist, unlink}
 use Rattle.cet_book.specs.Facts.{links, Stack, Place, In}
 use Rattle.cet_book.proofs.Edits.{Owned, owned_there}
 use Rattle.cet_book.proofs.Acquire.{unlinked}

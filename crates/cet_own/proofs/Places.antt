@@ -9,7 +9,7 @@ use Rattle.cet_words.specs.Entries.{entry_of, entry_with, no_execute}
 use Rattle.cet_words.specs.Job.{ImageData}
 use Rattle.cet_words.specs.Layout.{page_at, word_in, first_kernel_page, first_region_start, first_shadow_page, shadow_end, shadow_start}
 use Rattle.cet_book.specs.Book.{Book, region, top}
-use Rattle.cet_book.proofs.Shape.{Shape}
+use Rattle.cet_book.specs.Shape.{Shape}
 use Rattle.cet_book.specs.Stack.{slot}
 use Rattle.cet_page.specs.Page.{allows}
 use Rattle.cet_page.specs.Finish.{above, below}

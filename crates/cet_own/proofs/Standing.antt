@@ -2,7 +2,7 @@
 use Rattle.std.proofs.Common.{ℕ, ◌≤◌, length, ◌∙◌, arith}
 use Rattle.cet_words.specs.Layout.{first_region_start}
 use Rattle.cet_book.specs.Book.{Book, current_of}
-use Rattle.cet_book.proofs.Shape.{Shape}
+use Rattle.cet_book.specs.Shape.{Shape}
 use Rattle.cet_book.proofs.Relies.{Relies}
 use Rattle.cet_book.proofs.Top.{AtTop, top_relies}
 use Rattle.cet_own.specs.Stands.{HasMade}

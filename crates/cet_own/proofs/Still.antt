@@ -10,7 +10,7 @@ use Rattle.cet_words.specs.Change.{Change, Acquired, Busied}
 use Rattle.cet_words.specs.declared.accesses.Access.{Access}
 use Rattle.cet_words.specs.declared.accesses.Access.TheVariants as access
 use Rattle.cet_book.specs.Book.{Book, books_after}
-use Rattle.cet_book.proofs.Shape.{IsBook}
+use Rattle.cet_book.specs.Shape.{IsBook}
 use Rattle.cet_book.proofs.Kept.{NoneBorn}
 use Rattle.cet_own.proofs.Writes.{in_there}
 use Rattle.cet_page.specs.Trail.{Visit, visit}

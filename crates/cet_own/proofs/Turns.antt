@@ -13,8 +13,9 @@ use Rattle.cet_words.specs.Job.{JobData, IsJob}
 use Rattle.cet_words.specs.declared.accesses.Access.{Access}
 use Rattle.cet_isa.specs.declared.threads.End.{End}
 use Rattle.cet_isa.specs.declared.threads.End.TheVariants as ending
-use Rattle.cet_book.specs.Book.{Book, Current, region, current_of, stack_of, books_after}
-use Rattle.cet_book.proofs.Shape.{Shape}
+use Rattle.cet_book.specs.Book.{Book, region, current_of, stack_of, books_after}
+use Rattle.cet_book.specs.declared.entries.Holder.TheVariants.{Current}
+use Rattle.cet_book.specs.Shape.{Shape}
 use Rattle.cet_book.proofs.Edits.{is_there, current_holds}
 use Rattle.cet_words.specs.Change.{Change, Born}
 use Rattle.cet_words.specs.declared.accesses.Access.TheVariants as access
@@ -201,7 +202,7 @@ module _ (job : JobData) (j : IsJob job) (now : List ℕ) (s next : State) (old 
 
   -- thread v is born, and stands last in the list
   enlisted_born : (arch : Arch) (v start : ℕ) → v ≡ length old → v < 32 → slice_index now next_word ≡ v + 1 → ((y : ℕ) → t ≢ y → NoneBorn (Born v start ∷ []) y → Relies y s.book next.book) → IsNewborn job next v (record { core = child_core arch v start; trace = [] }) → Enlisted job now s next old (slice_set old t thread ++ record { core = child_core arch v start; trace = [] } ∷ []) t thread (Born v start ∷ [])
-  enlisted_born arch v start at few counter rely comer =
+  enlisted_born arch v start at few counter rely newcomer =
       let x : Thread = record { core = child_core arch v start; trace = [] } in
       let set = slice_set old t thread in
       let len = length-set old t thread in
@@ -210,7 +211,7 @@ module _ (job : JobData) (j : IsJob job) (now : List ℕ) (s next : State) (old 
       record {
         here = get_low set x t (omega arith) ∙ get_same old t thread inside;
         others = λ y n. elim (eqb_tells y v) [
-          | inl u ↦ inr (x, subst (λ i. slice_get (set ++ x ∷ []) i ≡ Some x) (sym u.1) last, subst (λ i. IsNewborn job next i x) (sym u.1) comer)
+          | inl u ↦ inr (x, subst (λ i. slice_get (set ++ x ∷ []) i ≡ Some x) (sym u.1) last, subst (λ i. IsNewborn job next i x) (sym u.1) newcomer)
           | inr u ↦ inl (
             elim (cases_lt y (length set)) [
               | inl l ↦ get_low set x y l
@@ -261,7 +262,7 @@ module _ (job : JobData) (j : IsJob job) (now : List ℕ) (s next : State) (old 
 data Whose (job : JobData) (s next : State) (old : List Thread) (t : ℕ) (thread : Thread) (changes : List Change) (y : ℕ) (x : Thread) : Type 0 where
   own : y ≡ t → thread ≡ x → Whose job s next old t thread changes y x
   other : t ≢ y → slice_get old y ≡ Some x → NoneBorn changes y → Whose job s next old t thread changes y x
-  comer : IsNewborn job next y x → Whose job s next old t thread changes y x
+  newcomer : IsNewborn job next y x → Whose job s next old t thread changes y x
 
 whose : {job : JobData} {now : List ℕ} {s next : State} {old new : List Thread} {t : ℕ} {thread : Thread} {changes : List Change} (p : Enlisted job now s next old new t thread changes) (y : ℕ) (x : Thread) → slice_get new y ≡ Some x → Whose job s next old t thread changes y x
 whose {new = new} {t = t} {thread = thread} p y x e = elim (eqb_tells y t) [
@@ -271,7 +272,7 @@ whose {new = new} {t = t} {thread = thread} p y x e = elim (eqb_tells y t) [
       own u.1 (cc)
   | inr u ↦ elim (p.others y u.1) [
     | inl k ↦ other (λ z. u.1 (sym z)) (sym k.0 ∙ e) k.1
-    | inr k ↦ comer (let found = k.1 in let is : k.0 ≡ x = cc in subst (IsNewborn _ _ y) is k.2)
+    | inr k ↦ newcomer (let found = k.1 in let is : k.0 ≡ x = cc in subst (IsNewborn _ _ y) is k.2)
   ]
 ]
 
@@ -320,17 +321,17 @@ module _ (job : JobData) (j : IsJob job) (m : Machine) (t : ℕ) (s : State) (th
           subst (λ n. Still (after m.words a) n d.next.book (trail_of job x.core)) (sym u)
           (subst (λ (z : Thread). Still (after m.words a) t d.next.book (trail_of job z.core)) is d.still)
       still_by d y x (other n q none) = d.spared y n none (trail_of job x.core) (st.still y x q)
-      still_by d y x (comer c) = subst (Still (after m.words a) y d.next.book) (sym c.trail) (still_none (after m.words a) y d.next.book)
+      still_by d y x (newcomer c) = subst (Still (after m.words a) y d.next.book) (sym c.trail) (still_none (after m.words a) y d.next.book)
 
       count_by : (d : Led job m.words t s thread.core a) → thread.core.arch.count < job.limit → (y : ℕ) (x : Thread) → Whose job s d.next m.threads t moved changes_now y x → x.core.arch.count ≤ job.limit
       count_by d low y x (own u is) = let more = d.count in subst (λ (z : Thread). z.core.arch.count ≤ job.limit) is (omega arith)
       count_by d low y x (other n q none) = st.paid.counts y x q
-      count_by d low y x (comer c) = let zero = c.count in omega arith
+      count_by d low y x (newcomer c) = let zero = c.count in omega arith
 
       made_by : {new : List Thread} (d : Led job m.words t s thread.core a) → Enlisted job (after m.words a) s d.next m.threads new t moved changes_now → (y : ℕ) (x : Thread) → Whose job s d.next m.threads t moved changes_now y x → HasMade x.core.arch.made d.next.book
       made_by d p y x (own u is) = subst (λ (z : Thread). HasMade z.core.arch.made d.next.book) is (subst (λ n. HasMade n d.next.book) (sym d.made) (p.bounds thread.core.arch.made (st.made t thread e)))
       made_by d p y x (other n q none) = p.bounds x.core.arch.made (st.made y x q)
-      made_by d p y x (comer c) = c.made
+      made_by d p y x (newcomer c) = c.made
 
   pub acts : (own : ℕ → List Change) → ThreadStands job t s (Some thread) → InRow job t s thread.core → come job thread.core.arch thread.core.seen ≡ Wants a own → TurnedBy job m t s thread (Some a)
   acts own at r w =

@@ -8,7 +8,8 @@ use Rattle.cet_isa.specs.declared.threads.FaultName.TheVariants.{Ud, Gp, Pf, Ac,
 use Rattle.cet_isa.specs.declared.threads.Record.{Record}
 use Rattle.cet_isa.specs.declared.threads.What.{What}
 use Rattle.cet_isa.specs.declared.threads.What.TheVariants as what
-use Rattle.cet_book.specs.Book.{Parked, Book, region, top}
+use Rattle.cet_book.specs.declared.entries.Holder.TheVariants.{Parked}
+use Rattle.cet_book.specs.Book.{Book, region, top}
 use Rattle.cet_page.specs.Core.{next_access, taken}
 use Rattle.cet_page.specs.Machine.{Machine, Thread}
 

@@ -17,7 +17,10 @@ use Rattle.cet_isa.specs.declared.threads.FaultName.TheVariants.{Ud, Gp, Pf, Ac,
 use Rattle.cet_isa.specs.declared.threads.Record.{Record}
 use Rattle.cet_isa.specs.declared.threads.What.{What}
 use Rattle.cet_isa.specs.declared.threads.What.TheVariants as what
-use Rattle.cet_book.specs.Book.{Entry, Call, Restorer, Frame, Previous, Blank, Current, Book, region, top, stack_of}
+use Rattle.cet_book.specs.declared.entries.Entry.{Entry}
+use Rattle.cet_book.specs.declared.entries.Entry.TheVariants.{Call, Restorer, Frame, Previous, Blank}
+use Rattle.cet_book.specs.declared.entries.Holder.TheVariants.{Current}
+use Rattle.cet_book.specs.Book.{Book, region, top, stack_of}
 use Rattle.cet_page.specs.Core.{Core, After, next_access, taken}
 use Rattle.cet_page.specs.Machine.{Machine, Thread}
 use Rattle.cet_page.specs.Row.{instruction_bytes}

@@ -5,7 +5,8 @@ use Rattle.cet_words.specs.Entries.{entry_of}
 use Rattle.cet_words.specs.Bytes.{code_byte}
 use Rattle.cet_words.specs.Job.{JobData, ImageData}
 use Rattle.cet_words.specs.Layout.{entry_word, token, token_word, action_word, first_kernel_page, first_mmap_page, first_shadow_page, page_count, shadow_start}
-use Rattle.cet_book.specs.Book.{Maker, Book, region, top, stack_of}
+use Rattle.cet_book.specs.declared.entries.Holder.TheVariants.{Maker}
+use Rattle.cet_book.specs.Book.{Book, region, top, stack_of}
 use Rattle.cet_book.specs.Facts.{Bounds, In, Place, LiesIn, Owns, Stack, is_left, one, links, Returns}
 use Rattle.cet_book.specs.Stack.{slot, slot_word, tops}
 use Rattle.cet_page.specs.Core.{Core}

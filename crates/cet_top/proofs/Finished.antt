@@ -7,7 +7,10 @@ use Rattle.cet_words.specs.Layout.{exit_word, first_region_end, first_region_sta
 use Rattle.cet_words.specs.Job.{JobData}
 use Rattle.cet_isa.specs.declared.threads.End.{End}
 use Rattle.cet_isa.specs.declared.threads.End.TheVariants as ending
-use Rattle.cet_book.specs.Book.{Entry, Holder, Current, Lost, Region, Book, first_book, nowhere, region, top, starting_at}
+use Rattle.cet_book.specs.declared.entries.Entry.{Entry}
+use Rattle.cet_book.specs.declared.entries.Holder.{Holder}
+use Rattle.cet_book.specs.declared.entries.Holder.TheVariants.{Current, Lost}
+use Rattle.cet_book.specs.Book.{Region, Book, first_book, nowhere, region, top, starting_at}
 use Rattle.cet_book.specs.Stack.{tops, word_of, words_of}
 use Rattle.cet_book.specs.Facts.{Stack}
 use Rattle.cet_page.specs.Machine.{Machine, Thread, Starts, machine, run, step}

@@ -6,7 +6,9 @@ use Rattle.cet_words.specs.Layout.{first_region_start}
 use Rattle.cet_isa.specs.declared.threads.Record.{Record}
 use Rattle.cet_isa.specs.declared.threads.What.{What}
 use Rattle.cet_isa.specs.declared.threads.What.TheVariants as what
-use Rattle.cet_book.specs.Book.{Holder, Maker, Current, Parked, Left, Lost, Region, Book, region, top, starting_at}
+use Rattle.cet_book.specs.declared.entries.Holder.{Holder}
+use Rattle.cet_book.specs.declared.entries.Holder.TheVariants.{Maker, Current, Parked, Left, Lost}
+use Rattle.cet_book.specs.Book.{Region, Book, region, top, starting_at}
 use Rattle.cet_book.specs.Stack.{tops, words_of}
 use Rattle.cet_page.specs.Machine.{Thread}
 use Rattle.cet_top.specs.declared.outcomes.Shown.{Shown}

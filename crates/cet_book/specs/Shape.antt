@@ -1,6 +1,10 @@
 -- What holds of every book that changes lead to, without any word of memory. Source: own.
-use Rattle.std.specs.Prelude.{◌≡◌, ℕ, ◌+◌, ◌*◌, ◌<◌, ◌≤◌, List, [], length, slice_index_or, Option, Some, None}
-use Rattle.cet_book.specs.Book.{Holder, Maker, Current, Parked, Left, Lost, Region, Book, region, top, current_of}
+use Rattle.std.specs.Prelude.{◌≡◌, ℕ, ◌+◌, ◌*◌, ◌%◌, ◌<◌, ◌≤◌, Bool, false, ◌==◌, if◌then◌else◌, List, [], ◌∷◌, length, slice_index_or, Option, Some, None}
+use Rattle.cet_book.specs.declared.entries.Entry.{Entry}
+use Rattle.cet_book.specs.declared.entries.Entry.TheVariants.{Call, Restorer, Frame, Previous, Blank}
+use Rattle.cet_book.specs.declared.entries.Holder.{Holder}
+use Rattle.cet_book.specs.declared.entries.Holder.TheVariants.{Maker, Current, Parked, Left, Lost}
+use Rattle.cet_book.specs.Book.{Region, Book, region, top, current_of}
 use Rattle.cet_book.specs.Facts.{Bounds, is_left, links, one}
 
 -- what a holder asks of a region: one that is being made has no entries, and a parked one has room for its token

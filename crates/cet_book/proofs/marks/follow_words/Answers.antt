@@ -1,0 +1,16 @@
+use Rattle.std.proofs.Common.{◌≡◌, ◌∙◌, sym, ap, get_or, ◌-◌}
+use Rattle.cet_book.specs.Marks.{followed, top_marked}
+use Rattle.cet_book.specs.declared.regions.Shown.TheVariants as shown
+use Rattle.cet_book.proofs.MarkSteps.{followed_more, followed_none}
+use Rattle.cet_book.proofs.marks.follow_words.Goals as goal
+
+pub loop-word-preserved : goal.loop-word-preserved
+loop-word-preserved c =
+    let more = followed_more c.args.regions.now c.args.words.now c.loop-word.word-index c.loop-word.marks c.loop-word-test.true in
+    let old = c.loop-word.invariant in
+    let e = c.mark_top.ensures in
+    let f = c.saturating_sub.ensures in
+    rw (e, f) (sym more ∙ old)
+
+pub returns : goal.returns
+returns c = sym (followed_none c.args.regions.now c.args.words.now c.loop-word.word-index c.loop-word.marks c.loop-word-test.false) ∙ c.loop-word.invariant
