@@ -1,5 +1,5 @@
 -- A list of blanks, turned round, is the same. Source: own.
-use Rattle.std.proofs.Common.{◌≡◌, ℕ, zero, suc, List, [], ◌∷◌, ◌++◌, replicate, reverse, refl, sym, ◌∙◌, ap}
+use Rattle.std.proofs.Common.{◌≡◌, ℕ, zero, suc, List, [], ◌∷◌, ◌++◌, replicate, reverse, refl, ◌∙◌, ap}
 use Rattle.std.proofs.lemmas.Grind.{reverse_onto}
 use Rattle.cet_book.specs.declared.entries.Entry.{Entry}
 use Rattle.cet_book.specs.declared.entries.Entry.TheVariants.{Blank}

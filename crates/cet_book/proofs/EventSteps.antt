@@ -1,15 +1,15 @@
 -- The book's step, event by event, over the tests and the changes that the code makes. Source: own.
-use Rattle.std.proofs.Common.{◌≡◌, ◌≢◌, ◌^◌, inl, inr, ℕ, zero, suc, ◌+◌, ◌-◌, ◌*◌, ◌/◌, ◌<◌, ◌≤◌, Bool, true, false, List, [], ◌∷◌, length, get_or, set, Option, Some, None, Result, Ok, Err, refl, sym, ◌∙◌, ap, subst, cond, arith, drop, take, ◌++◌, append-nil, length-set, get_or-set_same, get_or-set_other, drop_of_length-le}
+use Rattle.std.proofs.Common.{◌≡◌, ◌≢◌, ◌^◌, inl, inr, ℕ, zero, suc, ◌+◌, ◌-◌, ◌<◌, ◌≤◌, Bool, true, false, List, [], ◌∷◌, length, get_or, set, Option, Some, None, Result, Ok, Err, refl, sym, ◌∙◌, ap, subst, cond, arith, drop, take, ◌++◌, append-nil, length-set, get_or-set_same, get_or-set_other, drop_of_length-le}
 use Rattle.std.specs.Prelude.{nat_lt, nat_le, ◌==◌, slice_get, option_and_then}
 use Rattle.std.proofs.Math.Seq.{take-length}
 use Rattle.std.specs.List.{position_or_len}
 use Rattle.std.specs.Result.{IsErrAnd}
-use Rattle.std.proofs.lemmas.List.{get_or_default, set-get_or, get_or_past}
+use Rattle.std.proofs.lemmas.List.{get_or_past}
 use Rattle.std.proofs.lemmas.Bool.Decides.{nat_tests}
 use Rattle.cet_book.specs.declared.entries.Entry.{Entry}
 use Rattle.cet_book.specs.declared.entries.Entry.TheVariants.{Call, Restorer, Frame, Previous, Blank}
 use Rattle.cet_book.specs.declared.entries.Holder.{Holder}
-use Rattle.cet_book.specs.Book.{Region, Book, nowhere, region, put, capacity, is_current, current_of, with_current, with_entry, called, ended, returned, popped, raised, pushed, released, is_maker, born, can_claim, claim, claimed, acquired, acquire, parked_at, has_token, top, holds_stack, held_by, is_free, busied, remove_entry, unlink}
+use Rattle.cet_book.specs.Book.{book_step, Region, Book, nowhere, capacity, is_current, current_of, with_current, with_entry, called, returned, popped, raised, pushed, released, is_maker, born, can_claim, claim, claimed, acquired, acquire, parked_at, has_token, top, holds_stack, held_by, is_free, busied, remove_entry, unlink}
 use Rattle.cet_book.specs.declared.entries.Holder.TheVariants.{Parked, Current, Lost}
 use Rattle.cet_book.proofs.Edits.{current_holds}
 use Rattle.cet_book.proofs.Acquire.{parked_at_holds}
@@ -21,11 +21,10 @@ use Rattle.cet_book.specs.Facts.{links, one, is_left}
 use Rattle.cet_book.proofs.Kept.{book_kept, seeded_kept, born_kept}
 use Rattle.cet_book.specs.declared.events.Event.{Event}
 use Rattle.cet_book.specs.declared.events.Event.TheVariants as ev
-use Rattle.cet_book.specs.Events.{book_of, Applied, book_step}
+use Rattle.cet_book.specs.Events.{book_of, Applied}
 use Rattle.cet_book.specs.Newest.{removed, handed, can_return, is_frame, leads_to}
 use Rattle.cet_book.specs.declared.events.BookFault.{BookFault}
 use Rattle.cet_book.specs.declared.events.BookFault.TheVariants.{NotLegal, NoMemory}
-use Rattle.cet_book.proofs.MarkSteps.{element}
 
 pub with_none : (t at : ℕ) (R : List Region) (g : List (Option ℕ)) (f : ℕ → Region → Option Book) → at ≡ position_or_len (λ r. is_current t r.holder) R → length R ≤ at → with_current t (book_of R g) f ≡ None
 unfolding current_of

@@ -1,24 +1,19 @@
 -- Marks of regions: one more, and those that words lead to; and more room for the way to a region in view. Source: own.
-use Rattle.std.proofs.Common.{◌≡◌, ◌≢◌, ℕ, zero, suc, ◌+◌, ◌-◌, ◌*◌, ◌/◌, ◌%◌, ◌^◌, ◌<◌, ◌≤◌, ◌⊎◌, inl, inr, Bool, true, false, ◌&&◌, List, [], ◌∷◌, length, get_or, set, drop, map, replicate, refl, sym, ◌∙◌, ap, subst, cond, eqb, arith, length-set, get_or-set_same, get_or-set_other}
+use Rattle.std.proofs.Common.{◌≡◌, ◌≢◌, ℕ, zero, suc, ◌+◌, ◌-◌, ◌<◌, ◌≤◌, inl, inr, Bool, true, false, List, [], ◌∷◌, length, get_or, set, refl, sym, ◌∙◌, ap, subst, cond, arith, length-set, get_or-set_same, get_or-set_other}
 use Rattle.std.specs.Prelude.{nat_lt}
 use Rattle.std.proofs.lemmas.Bool.{false≢true, cases_lt}
 use Rattle.std.proofs.lemmas.Bool.Decides.{eqb_tells, nat_tests}
-use Rattle.cet_words.specs.Job.{ImageData}
-use Rattle.cet_book.specs.declared.entries.Entry.{Entry}
-use Rattle.cet_book.specs.declared.entries.Entry.TheVariants.{Call, Restorer, Frame, Previous, Blank}
 use Rattle.cet_book.specs.declared.entries.Holder.{Holder}
 use Rattle.cet_book.specs.declared.entries.Holder.TheVariants.{Maker, Current, Parked, Left, Lost}
-use Rattle.cet_book.specs.Book.{Region, Book, region, top}
-use Rattle.cet_book.specs.Facts.{is_left, is_previous, one, links, AllReturn, IsReturn}
-use Rattle.cet_book.specs.Stack.{tops, words_of}
-use Rattle.cet_book.specs.View.{Span, no_span, span_of, Has, IsKept, in_view, shown_of, region_words}
-use Rattle.cet_book.specs.Marks.{place, from_of, is_unseen, marked, top_marked, followed, visit_if, visit, sweep, rounds}
+use Rattle.cet_book.specs.Book.{Book, region}
+use Rattle.cet_book.specs.Facts.{one}
+use Rattle.cet_book.specs.View.{Span, IsKept, in_view}
+use Rattle.cet_book.specs.Marks.{place, is_unseen, marked, top_marked, followed}
 use Rattle.cet_book.specs.declared.regions.Shown.{Shown}
 use Rattle.cet_book.specs.declared.regions.Shown.TheVariants as shown
 use Rattle.cet_book.specs.declared.marks.Mark.{Mark}
 use Rattle.cet_book.specs.declared.marks.Mark.TheVariants.{Unseen, Fresh, Done}
-use Rattle.cet_book.proofs.Lists.{counted, counted_set, counted_le, counted_all}
-use Rattle.cet_book.proofs.Setting.{Setting, reg, count, at, there, found, place_is, place_out, top_in, top_place, list_is}
+use Rattle.cet_book.proofs.Lists.{counted, counted_set}
 use Rattle.cet_book.proofs.MarkSteps.{marked_past}
 
 abbrev pub is_seen : Mark → Bool

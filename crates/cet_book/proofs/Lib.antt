@@ -16,7 +16,6 @@ pub mod Edited
 pub mod Comes
 pub mod LostStays
 pub mod Held
-pub mod EventLaws
 pub mod Ways
 pub mod Top
 pub mod WordsFrom

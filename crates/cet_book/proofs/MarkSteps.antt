@@ -1,11 +1,10 @@
 -- The loops over marks, one turn at a time. Source: own.
-use Rattle.std.proofs.Common.{◌≡◌, ◌≢◌, ℕ, zero, suc, ◌+◌, ◌-◌, ◌*◌, ◌/◌, ◌<◌, ◌≤◌, Bool, true, false, ◌&&◌, List, [], ◌∷◌, ◌++◌, length, get_or, drop, take, refl, sym, ◌∙◌, ap, subst, cond, arith, add-one, drop-cons, set, drop_of_length-le}
-use Rattle.std.specs.Prelude.{nat_lt, nat_le, ◌==◌, slice_index_or}
-use Rattle.std.proofs.lemmas.List.{get_or_past}
+use Rattle.std.proofs.Common.{◌≡◌, ◌≢◌, ℕ, zero, suc, ◌+◌, ◌-◌, ◌*◌, ◌<◌, ◌≤◌, true, false, List, [], ◌∷◌, ◌++◌, length, get_or, drop, refl, sym, ◌∙◌, ap, arith, add-one, drop-cons, set, drop_of_length-le}
+use Rattle.std.specs.Prelude.{nat_lt, ◌==◌}
 use Rattle.std.proofs.lemmas.Bool.Decides.{nat_tests}
 use Rattle.std.proofs.lemmas.List.Sums.{position_or_len_is}
-use Rattle.cet_book.specs.View.{Span, no_span, Has}
-use Rattle.cet_book.specs.Marks.{has, place, from_of, marked, top_marked, followed, currents, token_from, parks, park, park_if, visit, visit_if, sweep, rounds, reports, report_by}
+use Rattle.cet_book.specs.View.{Span, no_span}
+use Rattle.cet_book.specs.Marks.{has, place, marked, top_marked, followed, currents, token_from, parks, park, park_if, visit, visit_if, sweep, rounds, reports, report_by}
 use Rattle.cet_book.specs.declared.regions.Shown.{Shown}
 use Rattle.cet_book.specs.declared.regions.Shown.TheVariants as shown
 use Rattle.cet_book.specs.declared.regions.StackReport.{StackReport}

@@ -1,27 +1,26 @@
 -- Marks that agree with the book, and that following words keeps them so. Source: own.
-use Rattle.std.proofs.Common.{◌≡◌, ◌≢◌, ℕ, zero, suc, ◌+◌, ◌-◌, ◌*◌, ◌/◌, ◌%◌, ◌^◌, ◌<◌, ◌≤◌, ◌⊎◌, inl, inr, Bool, true, false, List, [], ◌∷◌, length, get_or, set, drop, map, replicate, refl, sym, ◌∙◌, ap, subst, cond, eqb, arith, length-set, get_or-set_same, get_or-set_other}
+use Rattle.std.proofs.Common.{◌≡◌, ◌≢◌, ℕ, suc, ◌+◌, ◌-◌, ◌^◌, ◌<◌, ◌≤◌, inl, inr, true, List, [], ◌∷◌, length, get_or, set, refl, sym, ◌∙◌, ap, subst, arith, length-set}
 use Rattle.std.specs.Prelude.{◌==◌}
-use Rattle.std.proofs.lemmas.Bool.{false≢true, cases_lt}
+use Rattle.std.proofs.lemmas.Bool.{false≢true}
 use Rattle.std.proofs.lemmas.Bool.Decides.{eqb_tells, nat_tests}
-use Rattle.std.proofs.lemmas.List.{get_or-map}
 use Rattle.cet_words.specs.Layout.{image_end}
 use Rattle.cet_words.specs.Job.{ImageData}
 use Rattle.cet_book.specs.declared.entries.Entry.{Entry}
 use Rattle.cet_book.specs.declared.entries.Entry.TheVariants.{Call, Restorer, Frame, Previous, Blank}
 use Rattle.cet_book.specs.declared.entries.Holder.{Holder}
 use Rattle.cet_book.specs.declared.entries.Holder.TheVariants.{Maker, Current, Parked, Left, Lost}
-use Rattle.cet_book.specs.Book.{Region, Book, region, top}
-use Rattle.cet_book.specs.Facts.{is_left, is_previous, one, links, AllReturn, IsReturn}
+use Rattle.cet_book.specs.Book.{Book, region, top}
+use Rattle.cet_book.specs.Facts.{is_left, one, links, AllReturn}
 use Rattle.cet_book.specs.Stack.{tops, words_of}
-use Rattle.cet_book.specs.View.{Span, no_span, span_of, Has, IsKept, in_view, shown_of, region_words}
-use Rattle.cet_book.specs.Marks.{place, from_of, is_unseen, marked, top_marked, followed, visit_if, visit, sweep, rounds}
+use Rattle.cet_book.specs.View.{Span, span_of, IsKept, in_view, shown_of}
+use Rattle.cet_book.specs.Marks.{from_of, marked, top_marked, followed}
 use Rattle.cet_book.specs.declared.regions.Shown.{Shown}
 use Rattle.cet_book.specs.declared.regions.Shown.TheVariants as shown
 use Rattle.cet_book.specs.declared.marks.Mark.{Mark}
 use Rattle.cet_book.specs.declared.marks.Mark.TheVariants.{Unseen, Fresh, Done}
-use Rattle.cet_book.proofs.Lists.{counted, counted_set, counted_le, counted_all}
-use Rattle.cet_book.proofs.Setting.{Setting, reg, count, at, there, found, place_is, place_out, top_in, top_place, list_is}
-use Rattle.cet_book.proofs.InView.{is_seen, is_fresh, is_done, mark_at, Seen, Follows, follows_same, follows_then, not_seen, marked_by, set_all, marked_follows, marked_here, top_follows, top_out, followed_follows, view_more}
+use Rattle.cet_book.proofs.Lists.{counted, counted_set}
+use Rattle.cet_book.proofs.Setting.{Setting, reg, at, found, place_out, top_place}
+use Rattle.cet_book.proofs.InView.{is_seen, mark_at, Seen, not_seen, marked_by, set_all, marked_here, top_follows, top_out, followed_follows, view_more}
 
 -- the mark agrees with the book, on a way no longer than there are marks
 pub record IsRight (b : Book) (numbers : List ℕ) (k seen : ℕ) (s : Shown) (from : ℕ) : Type 0 where

@@ -1,22 +1,21 @@
 -- Rounds over all regions come to an end in which no words are left to follow. Source: own.
-use Rattle.std.proofs.Common.{◌≡◌, ◌≢◌, ℕ, zero, suc, ◌+◌, ◌<◌, ◌≤◌, ◌⊎◌, inl, inr, Bool, true, false, List, [], ◌∷◌, length, get_or, set, drop, map, refl, sym, ◌∙◌, ap, subst, eqb, arith, length-set, get_or-set_same, get_or-set_other}
+use Rattle.std.proofs.Common.{◌≡◌, ℕ, zero, suc, ◌<◌, ◌≤◌, ◌⊎◌, inl, inr, true, false, List, [], length, get_or, set, drop, map, refl, sym, ◌∙◌, ap, subst, arith, length-set, get_or-set_same, get_or-set_other}
 use Rattle.std.specs.Prelude.{◌==◌}
 use Rattle.std.proofs.lemmas.Bool.{false≢true}
 use Rattle.std.proofs.lemmas.Bool.Decides.{eqb_tells, nat_tests}
 use Rattle.std.proofs.lemmas.List.{get_or-map}
 use Rattle.cet_words.specs.Job.{ImageData}
-use Rattle.cet_book.specs.declared.entries.Holder.{Holder}
 use Rattle.cet_book.specs.declared.entries.Holder.TheVariants.{Left}
-use Rattle.cet_book.specs.Book.{Region, Book, region, top}
-use Rattle.cet_book.specs.Facts.{is_left, one, links}
+use Rattle.cet_book.specs.Book.{Book, top}
+use Rattle.cet_book.specs.Facts.{is_left, one}
 use Rattle.cet_book.specs.Stack.{tops, words_of}
 use Rattle.cet_book.specs.View.{Span, no_span, span_of, region_words}
-use Rattle.cet_book.specs.Marks.{from_of, followed, visit_if, visit, sweep, rounds}
+use Rattle.cet_book.specs.Marks.{followed, visit_if, visit, sweep, rounds}
 use Rattle.cet_book.specs.declared.regions.Shown.{Shown}
 use Rattle.cet_book.specs.declared.marks.Mark.{Mark}
 use Rattle.cet_book.specs.declared.marks.Mark.TheVariants.{Unseen, Fresh, Done}
-use Rattle.cet_book.proofs.Lists.{counted, counted_set, counted_le, counted_all}
-use Rattle.cet_book.proofs.Setting.{Setting, reg, at, there, list_is}
+use Rattle.cet_book.proofs.Lists.{counted, counted_set, counted_all}
+use Rattle.cet_book.proofs.Setting.{Setting, reg, at, list_is}
 use Rattle.cet_book.proofs.InView.{is_seen, is_fresh, is_done, mark_at, Seen, set_all, followed_follows}
 use Rattle.cet_book.proofs.Rights.{IsRight, MarkRight, Right, follow_right, follow_hits}
 

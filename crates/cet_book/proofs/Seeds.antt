@@ -1,26 +1,24 @@
 -- The first marks: pointers tell the current stacks, and restore tokens the parked ones. Source: own.
-use Rattle.std.proofs.Common.{◌≡◌, ◌≢◌, ℕ, zero, suc, ◌+◌, ◌-◌, ◌*◌, ◌/◌, ◌%◌, ◌<◌, ◌≤◌, ◌⊎◌, inl, inr, Bool, true, false, List, [], ◌∷◌, length, get_or, map, replicate, refl, sym, ◌∙◌, ap, subst, cond, eqb, arith}
-use Rattle.std.specs.Prelude.{◌==◌, nat_lt}
+use Rattle.std.proofs.Common.{◌≡◌, ◌≢◌, ℕ, zero, suc, ◌+◌, ◌-◌, ◌*◌, ◌/◌, ◌<◌, ◌≤◌, inl, inr, Bool, true, false, List, [], ◌∷◌, length, get_or, map, replicate, refl, sym, ◌∙◌, ap, subst, cond, arith}
+use Rattle.std.specs.Prelude.{◌==◌}
 use Rattle.std.proofs.lemmas.Bool.{cases_lt}
 use Rattle.std.proofs.lemmas.Bool.Decides.{eqb_tells, nat_tests}
 use Rattle.std.proofs.lemmas.List.{length-replicate}
 use Rattle.cet_words.specs.Job.{ImageData}
-use Rattle.cet_book.specs.declared.entries.Holder.{Holder}
 use Rattle.cet_book.specs.declared.entries.Holder.TheVariants.{Current, Parked}
-use Rattle.cet_book.specs.Book.{Region, Book, region, top}
+use Rattle.cet_book.specs.Book.{Book, region, top}
 use Rattle.cet_book.specs.Stack.{slot_word}
-use Rattle.cet_book.specs.View.{Span, no_span, span_of, Has, IsKept, Points, shown_of, in_view, words_from, region_words}
+use Rattle.cet_book.specs.View.{Span, span_of, Has, IsKept, shown_of, in_view, region_words}
 use Rattle.cet_book.specs.Facts.{IsParkedAt}
-use Rattle.cet_book.specs.Marks.{place, from_of, marked, top_marked, currents, token_from, park_if, park, parks}
-use Rattle.cet_book.specs.declared.regions.Shown.{Shown}
+use Rattle.cet_book.specs.Marks.{from_of, marked, currents, token_from, park_if, park, parks}
 use Rattle.cet_book.specs.declared.regions.Shown.TheVariants as shown
 use Rattle.cet_book.specs.declared.marks.Mark.{Mark}
-use Rattle.cet_book.specs.declared.marks.Mark.TheVariants.{Unseen, Fresh, Done}
+use Rattle.cet_book.specs.declared.marks.Mark.TheVariants.{Unseen}
 use Rattle.cet_book.proofs.MarkSteps.{park_some, park_none}
 use Rattle.cet_book.proofs.Lists.{counted, words_length, words_at}
-use Rattle.cet_book.proofs.Setting.{Setting, reg, at, there, is_place, one_of, found, top_in, top_even, top_place}
-use Rattle.cet_book.proofs.InView.{is_seen, is_done, mark_at, Seen, Follows, follows_same, follows_then, top_follows, marked_follows, marked_here}
-use Rattle.cet_book.proofs.Rights.{IsRight, MarkRight, Right, marked_right, top_right, top_seen}
+use Rattle.cet_book.proofs.Setting.{Setting, reg, at, is_place, one_of, found, top_in, top_even}
+use Rattle.cet_book.proofs.InView.{is_seen, is_done, mark_at, Seen, Follows, follows_same, top_follows, marked_follows, marked_here}
+use Rattle.cet_book.proofs.Rights.{MarkRight, Right, marked_right, top_right, top_seen}
 use Rattle.cet_book.proofs.Rounds.{State, copy_at}
 
 -- marks that agree, before any words were followed

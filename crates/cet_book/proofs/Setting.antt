@@ -1,21 +1,17 @@
 -- Words and a book in step, with regions and pointers that cover it: where addresses and words are. Source: own.
-use Rattle.std.proofs.Common.{◌≡◌, ◌≢◌, ℕ, zero, suc, ◌+◌, ◌-◌, ◌*◌, ◌/◌, ◌%◌, ◌<◌, ◌≤◌, Bool, true, false, List, [], ◌∷◌, length, get_or, drop, map, refl, sym, ◌∙◌, ap, subst, arith}
-use Rattle.std.specs.Prelude.{nat_le}
-use Rattle.std.proofs.lemmas.Bool.{false≢true}
+use Rattle.std.proofs.Common.{◌≡◌, ◌≢◌, ℕ, ◌-◌, ◌/◌, ◌%◌, ◌<◌, ◌≤◌, Bool, true, false, List, length, get_or, drop, refl, sym, ◌∙◌, ap, subst, arith}
 use Rattle.std.proofs.lemmas.Bool.Decides.{nat_tests}
 use Rattle.std.proofs.lemmas.List.{get_or-map, length-map}
 use Rattle.std.proofs.lemmas.List.Sums.{position_or_len_is}
 use Rattle.std.proofs.lemmas.List.Elements.{recursion_from_All}
 use Rattle.cet_words.specs.Layout.{first_region_start}
 use Rattle.cet_words.specs.Job.{ImageData}
-use Rattle.cet_book.specs.declared.entries.Entry.{Entry}
 use Rattle.cet_book.specs.declared.entries.Holder.{Holder}
 use Rattle.cet_book.specs.declared.entries.Holder.TheVariants.{Maker, Current, Parked, Left, Lost}
-use Rattle.cet_book.specs.Book.{Region, Book, region, top, capacity}
+use Rattle.cet_book.specs.Book.{Region, Book, region, top}
 use Rattle.cet_book.proofs.Edits.{is_there}
-use Rattle.cet_book.specs.Stack.{slot_word, tops, words_of}
-use Rattle.cet_book.specs.Facts.{Stack}
-use Rattle.cet_book.specs.View.{Span, no_span, span_of, Has, IsSpan, IsReadable, InStep, IsKept, Given, Covers, region_words, words_from}
+use Rattle.cet_book.specs.Stack.{tops, words_of}
+use Rattle.cet_book.specs.View.{Span, no_span, span_of, Has, IsSpan, IsReadable, InStep, IsKept, Covers, region_words, words_from}
 use Rattle.cet_book.specs.Marks.{has, place, from_of}
 use Rattle.cet_book.proofs.Lists.{all_at, few, words_drop, stack_words}
 

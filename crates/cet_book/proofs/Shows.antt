@@ -1,5 +1,5 @@
 -- What the marks tell in the end is what the book shows. Source: own.
-use Rattle.std.proofs.Common.{◌≡◌, ◌≢◌, ℕ, zero, suc, ◌+◌, ◌-◌, ◌*◌, ◌/◌, ◌^◌, ◌<◌, ◌≤◌, Bool, true, false, List, [], ◌∷◌, ◌++◌, length, get_or, drop, take, map, replicate, refl, sym, ◌∙◌, ap, subst, arith}
+use Rattle.std.proofs.Common.{◌≡◌, ℕ, zero, suc, ◌+◌, ◌-◌, ◌*◌, ◌/◌, ◌^◌, ◌<◌, ◌≤◌, Bool, true, false, List, [], ◌∷◌, ◌++◌, length, get_or, drop, take, map, replicate, refl, sym, ◌∙◌, ap, subst, arith}
 use Rattle.std.specs.Prelude.{All}
 use Rattle.std.proofs.lemmas.Bool.{false≢true}
 use Rattle.std.proofs.lemmas.List.{map_more, get_or-map}
@@ -8,10 +8,10 @@ use Rattle.std.proofs.Math.Seq.{take-length}
 use Rattle.cet_words.specs.Job.{ImageData}
 use Rattle.cet_book.specs.declared.entries.Holder.{Holder}
 use Rattle.cet_book.specs.declared.entries.Holder.TheVariants.{Maker, Current, Parked, Left, Lost}
-use Rattle.cet_book.specs.Book.{Region, Book, region, top}
+use Rattle.cet_book.specs.Book.{Book, region, top}
 use Rattle.cet_book.specs.Stack.{tops, words_of}
-use Rattle.cet_book.specs.View.{Span, no_span, span_of, IsSpan, in_view, shown_of, shown_if, shown_region, words_from, region_words}
-use Rattle.cet_book.specs.Marks.{from_of, currents, parks, rounds, marked_all, marks_of, report_by, reports}
+use Rattle.cet_book.specs.View.{Span, no_span, span_of, IsSpan, in_view, shown_of, shown_if, shown_region, region_words}
+use Rattle.cet_book.specs.Marks.{currents, parks, rounds, marked_all, marks_of, report_by, reports}
 use Rattle.cet_book.specs.declared.regions.Shown.{Shown}
 use Rattle.cet_book.specs.declared.regions.Shown.TheVariants as shown
 use Rattle.cet_book.specs.declared.regions.StackReport.{StackReport}
@@ -20,8 +20,8 @@ use Rattle.cet_book.specs.declared.marks.Mark.TheVariants.{Unseen, Fresh, Done}
 use Rattle.cet_book.proofs.Lists.{counted, counted_le, all_at, words_length}
 use Rattle.cet_book.proofs.Setting.{Setting, reg, count, at, there, found, list_is, few_given}
 use Rattle.cet_book.proofs.InView.{is_seen, is_fresh, is_done, mark_at, Seen, view_at_least, view_held}
-use Rattle.cet_book.proofs.Rights.{IsRight, MarkRight, Right}
-use Rattle.cet_book.proofs.Rounds.{State, Stable, copy_at, rounded, all_followed}
+use Rattle.cet_book.proofs.Rights.{IsRight, MarkRight}
+use Rattle.cet_book.proofs.Rounds.{State, copy_at, rounded, all_followed}
 use Rattle.cet_book.proofs.Seeds.{Seeded, seeded_state, start_seeded, currents_seeded, currents_hit, parks_seeded, parks_keep, parks_hit}
 
 -- addresses of words are far below 2^63

@@ -8,6 +8,8 @@ use Rattle.cet_book.specs.declared.entries.Entry.{Entry}
 use Rattle.cet_book.specs.declared.entries.Entry.TheVariants.{Call, Restorer, Frame, Previous, Blank}
 use Rattle.cet_book.specs.declared.entries.Holder.{Holder}
 use Rattle.cet_book.specs.declared.entries.Holder.TheVariants.{Maker, Current, Parked, Left, Lost}
+use Rattle.cet_book.specs.declared.events.Event.{Event}
+use Rattle.cet_book.specs.declared.events.Event.TheVariants as event
 use Rattle.cet_words.specs.Change.{Change, Called, Returned, Raised, Acquired, Released, Claimed, Seeded, Born, Pushed, Popped, Ended, Busied, Freed}
 
 -- a shadow stack: addresses from start up to end, its entries with the newest first, and its one holder
@@ -201,21 +203,42 @@ busied t k b =
 abbrev pub freed : ℕ → ℕ → Book → Option Book
 freed t k b = if holds_stack t (stack_of b k) then Some (put_stack b k None) else None
 
--- the book after a change by a thread, or None where the book has no such change
+-- the book after an event, or None where the book has no such event
+abbrev pub book_step : Book → Event → Option Book
+book_step b (event.Called t back) = with_current t b (λ m r. called back m r b)
+book_step b (event.Returned t) = with_current t b (λ m r. returned m r.entries b)
+book_step b (event.Raised t count) = with_current t b (λ m r. raised m count b)
+book_step b (event.Acquired t at) = with_current t b (λ m r. acquired t at m b)
+book_step b (event.Released t) = with_current t b (λ m r. released m r.entries b)
+book_step b (event.Claimed t start pages maker) = claimed t start pages maker b
+book_step b (event.Seeded t s blanks) = seeded t s blanks b
+book_step b (event.Born parent child s) = born parent child s b
+book_step b (event.Pushed t restorer) = with_current t b (λ m r. pushed restorer m r b)
+book_step b (event.Popped t) = with_current t b (λ m r. popped m r.entries b)
+book_step b (event.Ended t) = with_current t b (λ m r. ended m r b)
+book_step b (event.Busied t stack) = busied t stack b
+book_step b (event.Freed t stack) = freed t stack b
+
+-- the event that a thread's change is: a row tells a region by its start, and an event by its number
+abbrev pub event_of : Book → (t : ℕ) → Change → Event
+event_of b t (Called back) = event.Called t back
+event_of b t Returned = event.Returned t
+event_of b t (Raised count) = event.Raised t count
+event_of b t (Acquired at) = event.Acquired t at
+event_of b t Released = event.Released t
+event_of b t (Claimed start pages maker) = event.Claimed t start pages maker
+event_of b t (Seeded start blanks) = event.Seeded t (starting_at start b) blanks
+event_of b t (Born child start) = event.Born t child (starting_at start b)
+event_of b t (Pushed restorer) = event.Pushed t restorer
+event_of b t Popped = event.Popped t
+event_of b t Ended = event.Ended t
+event_of b t (Busied stack) = event.Busied t stack
+event_of b t (Freed stack) = event.Freed t stack
+
+
+-- the book after a change by a thread: that after its event
 abbrev pub book_after : ℕ → Book → Change → Option Book
-book_after t b (Called back) = with_current t b (λ m r. called back m r b)
-book_after t b Returned = with_current t b (λ m r. returned m r.entries b)
-book_after t b (Raised count) = with_current t b (λ m r. raised m count b)
-book_after t b (Acquired at) = with_current t b (λ m r. acquired t at m b)
-book_after t b Released = with_current t b (λ m r. released m r.entries b)
-book_after t b (Claimed start pages maker) = claimed t start pages maker b
-book_after t b (Seeded start blanks) = seeded t (starting_at start b) blanks b
-book_after t b (Born child start) = born t child (starting_at start b) b
-book_after t b (Pushed restorer) = with_current t b (λ m r. pushed restorer m r b)
-book_after t b Popped = with_current t b (λ m r. popped m r.entries b)
-book_after t b Ended = with_current t b (λ m r. ended m r b)
-book_after t b (Busied stack) = busied t stack b
-book_after t b (Freed stack) = freed t stack b
+book_after t b c = book_step b (event_of b t c)
 
 -- the book after changes, one after another
 abbrev pub books_after : ℕ → Book → List Change → Option Book

@@ -1,7 +1,7 @@
 -- The report of shadow stacks from words alone, whatever the words are: the stacks that pointers and restore tokens tell of are
 -- marked, then those that a previous-SSP token on a marked stack leads to. Source: own.
 use Rattle.std.proofs.Common.{zero, suc}
-use Rattle.std.specs.Prelude.{ℕ, ◌+◌, ◌-◌, ◌*◌, ◌/◌, Bool, true, false, ◌&&◌, ◌==◌, nat_lt, nat_le, if◌then◌else◌, List, [], ◌∷◌, ◌++◌, length, drop, map, replicate, slice_index, slice_index_or, slice_set}
+use Rattle.std.specs.Prelude.{ℕ, ◌+◌, ◌-◌, ◌/◌, Bool, true, false, ◌&&◌, ◌==◌, nat_lt, nat_le, if◌then◌else◌, List, [], ◌∷◌, ◌++◌, length, drop, map, replicate, slice_index_or, slice_set}
 use Rattle.std.specs.List.{position_or_len}
 use Rattle.cet_book.specs.View.{Span, no_span, region_words}
 use Rattle.cet_book.specs.declared.regions.Shown.{Shown}

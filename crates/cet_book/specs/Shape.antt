@@ -1,7 +1,5 @@
 -- What holds of every book that changes lead to, without any word of memory. Source: own.
-use Rattle.std.specs.Prelude.{◌≡◌, ℕ, ◌+◌, ◌*◌, ◌%◌, ◌<◌, ◌≤◌, Bool, false, ◌==◌, if◌then◌else◌, List, [], ◌∷◌, length, slice_index_or, Option, Some, None}
-use Rattle.cet_book.specs.declared.entries.Entry.{Entry}
-use Rattle.cet_book.specs.declared.entries.Entry.TheVariants.{Call, Restorer, Frame, Previous, Blank}
+use Rattle.std.specs.Prelude.{◌≡◌, ℕ, ◌+◌, ◌*◌, ◌<◌, ◌≤◌, List, [], length, slice_index_or, Option, Some, None}
 use Rattle.cet_book.specs.declared.entries.Holder.{Holder}
 use Rattle.cet_book.specs.declared.entries.Holder.TheVariants.{Maker, Current, Parked, Left, Lost}
 use Rattle.cet_book.specs.Book.{Region, Book, region, top, current_of}

@@ -1,7 +1,7 @@
 -- Which shadow stacks a report shows, and when words and pointers tell it: the report lists the stacks in view with their
 -- words. Source: own.
 use Rattle.std.proofs.Common.{zero, suc}
-use Rattle.std.specs.Prelude.{◌≡◌, ℕ, ◌+◌, ◌-◌, ◌*◌, ◌/◌, ◌%◌, ◌<◌, ◌≤◌, ◌⊎◌, ◌↔◌, Bool, true, false, List, [], ◌∷◌, map, length, All, slice_index, slice_index_or}
+use Rattle.std.specs.Prelude.{◌≡◌, ℕ, ◌+◌, ◌-◌, ◌/◌, ◌%◌, ◌<◌, ◌≤◌, ◌⊎◌, ◌↔◌, Bool, true, false, List, [], ◌∷◌, map, length, All, slice_index, slice_index_or}
 use Rattle.cet_words.specs.Job.{ImageData}
 use Rattle.cet_words.specs.Layout.{entry_word, first_kernel_page, first_mmap_page, first_region_start, page_count}
 use Rattle.cet_words.specs.Entries.{entry_of}

@@ -1,8 +1,8 @@
 //! The book: who has which shadow stack and supervisor stack, and what is on each.
 
 ghost use Rattle.std.specs.Prelude.{◌≡◌, IfOk};
-ghost use Rattle.cet_book.specs.Book.{first_book};
-ghost use Rattle.cet_book.specs.Events.{Applied, book_step};
+ghost use Rattle.cet_book.specs.Book.{book_step, first_book};
+ghost use Rattle.cet_book.specs.Events.{Applied};
 
 use crate::entries::Holder;
 use crate::events::{BookFault, Event};

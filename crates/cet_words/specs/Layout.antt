@@ -117,12 +117,9 @@ exit_word = 1605632
 abbrev pub next_thread_word : ℕ
 next_thread_word = 1605633
 
--- how many pages of the shadow area, and of the mmap area, have been drawn
+-- how many pages of the shadow area have been drawn
 abbrev pub draw_shadow_word : ℕ
 draw_shadow_word = 1605634
-
-abbrev pub draw_mmap_word : ℕ
-draw_mmap_word = 1605635
 
 -- the pending signals of a thread
 abbrev pub pend_word : (thread : ℕ) → ℕ

@@ -1,6 +1,4 @@
-use Rattle.std.proofs.Common.{◌≡◌, ◌∙◌, sym, ap, get_or, ◌-◌}
-use Rattle.cet_book.specs.Marks.{followed, top_marked}
-use Rattle.cet_book.specs.declared.regions.Shown.TheVariants as shown
+use Rattle.std.proofs.Common.{◌∙◌, sym}
 use Rattle.cet_book.proofs.MarkSteps.{followed_more, followed_none}
 use Rattle.cet_book.proofs.marks.follow_words.Goals as goal
 

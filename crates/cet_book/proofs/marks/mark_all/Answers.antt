@@ -1,5 +1,5 @@
-use Rattle.std.proofs.Common.{◌≡◌, refl, sym, ◌∙◌, ap, length, arith}
-use Rattle.cet_book.specs.Marks.{currents, parks, rounds, marked_all}
+use Rattle.std.proofs.Common.{◌≡◌, refl, ◌∙◌, ap, length, arith}
+use Rattle.cet_book.specs.Marks.{parks, rounds, marked_all}
 use Rattle.cet_book.proofs.MarkSteps.{rounds_more}
 use Rattle.cet_book.proofs.marks.mark_all.Goals as goal
 

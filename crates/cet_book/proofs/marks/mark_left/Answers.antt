@@ -1,4 +1,4 @@
-use Rattle.std.proofs.Common.{◌<◌, refl, sym, ◌∙◌, length, arith}
+use Rattle.std.proofs.Common.{◌<◌, refl, ◌∙◌, length, arith}
 use Rattle.cet_book.specs.Marks.{sweep}
 use Rattle.cet_book.proofs.MarkSteps.{sweep_fresh, sweep_not}
 use Rattle.cet_book.proofs.marks.mark_left.Goals.{in-Fresh, in_default}

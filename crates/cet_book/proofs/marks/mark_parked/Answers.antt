@@ -1,5 +1,5 @@
-use Rattle.std.proofs.Common.{◌<◌, ◌≤◌, refl, sym, ◌∙◌, ap, length, arith}
-use Rattle.cet_book.specs.Marks.{parks, park_if}
+use Rattle.std.proofs.Common.{◌<◌, refl, sym, ◌∙◌, length, arith}
+use Rattle.cet_book.specs.Marks.{parks}
 use Rattle.cet_book.proofs.MarkSteps.{park_more, park_some, park_none}
 use Rattle.cet_book.proofs.marks.mark_parked.Goals.{then-token-words, else-token-words}
 use Rattle.cet_book.proofs.marks.mark_parked.Goals as goal

@@ -1,5 +1,5 @@
-use Rattle.std.proofs.Common.{◌≡◌, ◌≤◌, ◌∙◌, sym, ap, length, arith}
-use Rattle.cet_book.specs.Marks.{top_marked, marked, place}
+use Rattle.std.proofs.Common.{◌≤◌, sym, length, arith}
+use Rattle.cet_book.specs.Marks.{top_marked}
 use Rattle.cet_book.proofs.MarkSteps.{marked_past}
 use Rattle.cet_book.proofs.marks.mark_top.Goals as goal
 

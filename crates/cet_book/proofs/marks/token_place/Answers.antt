@@ -1,4 +1,4 @@
-use Rattle.std.proofs.Common.{arith, ◌≡◌, ◌≢◌, ◌+◌, ◌*◌, get_or}
+use Rattle.std.proofs.Common.{arith}
 use Rattle.cet_book.proofs.MarkSteps.{token_here, token_next, token_none}
 use Rattle.cet_book.proofs.marks.token_place.Goals as goal
 

@@ -1,4 +1,4 @@
-use Rattle.std.proofs.Common.{◌≡◌, sym, ◌∙◌, length}
+use Rattle.std.proofs.Common.{sym, ◌∙◌, length}
 use Rattle.cet_book.proofs.PageTable.{has_both, table_found, table_none}
 use Rattle.cet_book.proofs.pages.place_of.Goals as goal
 

@@ -1,4 +1,4 @@
-use Rattle.std.proofs.Common.{inl, inr, arith, ◌<◌, ◌≤◌, ◌⊎◌}
+use Rattle.std.proofs.Common.{inl, inr, arith}
 use Rattle.cet_book.proofs.pages.put_pages.Goals as goal
 
 pub returns-clause-others : goal.returns-clause-others

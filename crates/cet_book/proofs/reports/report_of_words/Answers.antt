@@ -1,12 +1,9 @@
 use Rattle.std.proofs.Common.{◌≡◌, ◌∙◌, ◌+◌, ◌*◌, ◌<◌, ◌^◌, sym, ap, subst, List, ℕ, [], length, get_or, map}
 use Rattle.std.proofs.lemmas.Result.{IfOk-weaker}
-use Rattle.cet_words.specs.Job.{ImageData}
-use Rattle.cet_book.specs.Book.{Book, region}
-use Rattle.cet_book.specs.View.{Span, no_span, region_words, InStep, Covers, shown_region}
+use Rattle.cet_book.specs.View.{Span, no_span, region_words}
 use Rattle.cet_book.specs.Marks.{marks_of, reports, word_report}
 use Rattle.cet_book.specs.declared.marks.Mark.{Mark}
 use Rattle.cet_book.specs.declared.regions.StackReport.{StackReport}
-use Rattle.cet_book.proofs.Setting.{Setting}
 use Rattle.cet_book.proofs.Shows.{fits, shown_is}
 use Rattle.cet_book.proofs.reports.report_of_words.Goals as goal
 

@@ -1,4 +1,4 @@
-use Rattle.std.proofs.Common.{refl, ◌<◌, length, arith}
+use Rattle.std.proofs.Common.{◌<◌, length, arith}
 use Rattle.cet_book.specs.Marks.{reports}
 use Rattle.cet_book.proofs.MarkSteps.{reports_more}
 use Rattle.cet_book.proofs.reports.reports_of.Goals as goal

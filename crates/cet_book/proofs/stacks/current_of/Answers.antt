@@ -1,4 +1,4 @@
-use Rattle.std.proofs.Common.{◌≡◌, true, sym, ◌∙◌}
+use Rattle.std.proofs.Common.{sym, ◌∙◌}
 use Rattle.cet_book.proofs.Lookups.{current_is}
 use Rattle.cet_book.proofs.stacks.current_of.Goals as goal
 

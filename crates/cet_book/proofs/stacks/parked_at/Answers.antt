@@ -1,4 +1,4 @@
-use Rattle.std.proofs.Common.{◌≡◌, ◌<◌, sym, ◌∙◌, arith}
+use Rattle.std.proofs.Common.{sym, ◌∙◌, arith}
 use Rattle.cet_book.proofs.Lookups.{parked_is, parked_none}
 use Rattle.cet_book.proofs.stacks.parked_at.Goals as goal
 

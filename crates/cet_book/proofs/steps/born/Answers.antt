@@ -1,7 +1,6 @@
-use Rattle.std.proofs.Common.{◌≡◌, ◌<◌, ◌≤◌, ◌∙◌, sym, ap, refl, true, false, Some, get_or, length, arith, subst}
+use Rattle.std.proofs.Common.{◌≡◌, ◌∙◌, sym, ap, refl, true, false, Some, length, arith}
 use Rattle.std.specs.Prelude.{nat_le}
 use Rattle.std.proofs.lemmas.Bool.Decides.{nat_tests}
-use Rattle.cet_book.specs.Book.{born, nowhere, Region}
 use Rattle.cet_book.specs.Events.{book_of}
 use Rattle.cet_book.proofs.EventSteps.{born_step}
 use Rattle.cet_book.proofs.steps.born.Goals as goal

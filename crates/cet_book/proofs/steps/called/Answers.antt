@@ -1,4 +1,4 @@
-use Rattle.std.proofs.Common.{◌≡◌, ◌∙◌, sym, ap, refl, true, false, Some}
+use Rattle.std.proofs.Common.{◌∙◌, sym, ap, refl, true, false, Some}
 use Rattle.cet_book.specs.Book.{called}
 use Rattle.cet_book.specs.Events.{book_of}
 use Rattle.cet_book.proofs.EventSteps.{with_none, called_step, no_memory}

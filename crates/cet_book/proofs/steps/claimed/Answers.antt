@@ -1,5 +1,5 @@
-use Rattle.std.proofs.Common.{◌≡◌, ◌∙◌, sym, ap, refl, true, false, Some, ◌++◌, ◌+◌, ◌*◌, [], ◌∷◌, List}
-use Rattle.cet_book.specs.Book.{Region, claim}
+use Rattle.std.proofs.Common.{◌∙◌, sym, ap, refl, true, false, Some, ◌++◌, ◌+◌, ◌*◌, [], ◌∷◌}
+use Rattle.cet_book.specs.Book.{Region}
 use Rattle.cet_book.specs.Events.{book_of}
 use Rattle.cet_book.proofs.EventSteps.{claimed_step, no_memory}
 use Rattle.cet_book.proofs.steps.claimed.Goals as goal

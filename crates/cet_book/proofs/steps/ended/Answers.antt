@@ -1,4 +1,4 @@
-use Rattle.std.proofs.Common.{◌≡◌, ◌∙◌, sym, ap, refl, Some}
+use Rattle.std.proofs.Common.{◌∙◌, sym, ap, refl, Some}
 use Rattle.cet_book.specs.Book.{ended}
 use Rattle.cet_book.specs.Events.{book_of}
 use Rattle.cet_book.proofs.EventSteps.{with_none, with_some}

@@ -1,5 +1,5 @@
-use Rattle.std.proofs.Common.{◌≡◌, ◌<◌, ◌≤◌, ◌∙◌, ◌-◌, ◌+◌, suc, sym, ap, refl, true, false, Some, get_or, length, arith, subst, List, Option, ℕ}
-use Rattle.cet_book.specs.Book.{popped, nowhere, Region}
+use Rattle.std.proofs.Common.{◌∙◌, sym, ap, refl, true, false, Some}
+use Rattle.cet_book.specs.Book.{popped}
 use Rattle.cet_book.specs.Events.{book_of}
 use Rattle.cet_book.proofs.EventSteps.{with_none, with_some, popped_step}
 use Rattle.cet_book.proofs.steps.popped.Goals as goal

@@ -1,7 +1,5 @@
-use Rattle.std.proofs.Common.{◌≡◌, ◌<◌, ◌≤◌, ◌∙◌, sym, ap, refl, true, false, Some, get_or, length, arith, subst}
-use Rattle.std.specs.Prelude.{nat_le}
-use Rattle.std.proofs.lemmas.Bool.Decides.{nat_tests}
-use Rattle.cet_book.specs.Book.{pushed, nowhere, Region}
+use Rattle.std.proofs.Common.{◌∙◌, sym, ap, refl, true, false, Some}
+use Rattle.cet_book.specs.Book.{pushed}
 use Rattle.cet_book.specs.Events.{book_of}
 use Rattle.cet_book.proofs.EventSteps.{with_none, pushed_step, no_memory}
 use Rattle.cet_book.proofs.steps.pushed.Goals as goal

@@ -1,5 +1,5 @@
-use Rattle.std.proofs.Common.{◌≡◌, ◌<◌, ◌≤◌, ◌∙◌, ◌-◌, ◌+◌, suc, sym, ap, refl, true, false, Some, get_or, length, arith, subst, List, Option, ℕ}
-use Rattle.cet_book.specs.Book.{raised, nowhere, Region}
+use Rattle.std.proofs.Common.{◌≡◌, ◌≤◌, ◌∙◌, ◌-◌, ◌+◌, suc, sym, ap, refl, get_or, length, arith, subst}
+use Rattle.cet_book.specs.Book.{raised, nowhere}
 use Rattle.cet_book.specs.Facts.{links}
 use Rattle.cet_book.specs.Events.{book_of}
 use Rattle.cet_book.proofs.EventSteps.{with_none, with_some, raised_none, raised_next, no_self}

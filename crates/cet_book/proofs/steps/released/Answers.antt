@@ -1,7 +1,5 @@
-use Rattle.std.proofs.Common.{◌≡◌, ◌<◌, ◌≤◌, ◌∙◌, sym, ap, refl, true, false, Some, get_or, length, arith, subst}
-use Rattle.std.specs.Prelude.{nat_le}
-use Rattle.std.proofs.lemmas.Bool.Decides.{nat_tests}
-use Rattle.cet_book.specs.Book.{released, nowhere, Region}
+use Rattle.std.proofs.Common.{◌∙◌, sym, ap, refl, true, false, Some, get_or, length, arith}
+use Rattle.cet_book.specs.Book.{released, nowhere}
 use Rattle.cet_book.specs.Events.{book_of}
 use Rattle.cet_book.proofs.EventSteps.{with_none, with_some, released_none, released_step, no_self}
 use Rattle.cet_book.proofs.steps.released.Goals as goal

@@ -1,5 +1,5 @@
-use Rattle.std.proofs.Common.{◌≡◌, ◌<◌, ◌≤◌, ◌∙◌, ◌-◌, ◌+◌, suc, sym, ap, refl, true, false, Some, get_or, length, arith, subst, List, Option, ℕ}
-use Rattle.cet_book.specs.Book.{returned, nowhere, Region}
+use Rattle.std.proofs.Common.{◌∙◌, sym, ap, refl, true, false, Some}
+use Rattle.cet_book.specs.Book.{returned}
 use Rattle.cet_book.specs.Events.{book_of}
 use Rattle.cet_book.proofs.EventSteps.{with_none, with_some, returned_step, no_self}
 use Rattle.cet_book.proofs.steps.returned.Goals as goal
