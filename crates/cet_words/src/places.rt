@@ -78,9 +78,6 @@ pub const NEXT_THREAD_WORD: u32 = 1_605_633;
 /// The kernel's word DRAW_SHADOW: how many pages of the shadow area have been drawn.
 pub const DRAW_SHADOW_WORD: u32 = 1_605_634;
 
-/// The kernel's word DRAW_MMAP: how many pages of the mmap area have been drawn.
-pub const DRAW_MMAP_WORD: u32 = 1_605_635;
-
 /// What the kernel's entry leaves below a held token.
 pub const KERNEL_RETURN: u64 = 0xffff_8000_0010_0000;
 
