@@ -13,7 +13,7 @@ use Rattle.cet_isa.specs.Reading.{Read, decoded}
 use Rattle.cet_isa.specs.Spells.{Begins, Spells}
 use Rattle.cet_isa.proofs.DecodedLaws.{decoded_spelling}
 use Rattle.cet_isa.proofs.ReadingLaws.{decoded_within}
-use Rattle.cet_asm.specs.Program.{IsFirstFault, IsProgram, fault_of}
+use Rattle.cet_asm.specs.Program.{Fault, IsFirstFault, IsProgram, fault_of}
 use Rattle.cet_asm.specs.declared.program.Program.{Program}
 use Rattle.cet_book.specs.Book.{Book}
 use Rattle.cet_elf.specs.Accepts.{Accepts, FirstBroken, image_of}
@@ -87,7 +87,7 @@ same_spelling code s t rest more i j f g a b =
     let both : Read i (length s) ≡ Read j (length t) = sym x ∙ y in
     let instr : i ≡ j = cc in
     let size : length s ≡ length t = cc in
-    (instr, sym (take_at s rest (length s) refl) ∙ ap (take (length s)) (sym a ∙ b) ∙ take_at t more (length s) size)
+    (instr, sym (take_at s rest (length s) refl) ∙ ap (take (length s)) (sym a ∙ b) ∙ take_at t more (length s) (sym size))
 
 first_same : (p q : Piece) (code rest more : List ℕ) → IsFirst p code → IsFirst q code → code ≡ piece_bytes p ++ rest → code ≡ piece_bytes q ++ more → p ≡ q
 first_same (Instruction i s) (Instruction j t) code rest more f g a b =
@@ -155,19 +155,29 @@ reported_same job s t x y a b =
 
 -- ---- programs
 
+abbrev program_of : (text static_data : List ℕ) → (entry mark : ℕ) → Program
+program_of text static_data entry mark = record { text = text; static_data = static_data; entry = entry; mark = mark }
+
 program_same : (source : List ℕ) (p q : Program) → IsProgram source p → IsProgram source q → p ≡ q
 program_same source p q a b =
-    let text = a.text ∙ sym b.text in
-    let data' = a.static_data ∙ sym b.static_data in
-    let entry = a.entry ∙ sym b.entry in
-    let mark = a.mark ∙ sym b.mark in
-    cc
+    ap (λ t. program_of t p.static_data p.entry p.mark) (a.text ∙ sym b.text)
+    ∙ ap (λ d. program_of q.text d p.entry p.mark) (a.static_data ∙ sym b.static_data)
+    ∙ ap (λ e. program_of q.text q.static_data e p.mark) (a.entry ∙ sym b.entry)
+    ∙ ap (program_of q.text q.static_data q.entry) (a.mark ∙ sym b.mark)
+
+abbrev line_in : Option Fault → ℕ
+line_in None = 0
+line_in (Some f) = f.line
+
+abbrev rule_in : Option Fault → ℕ
+rule_in None = 0
+rule_in (Some f) = f.rule
 
 fault_same : (bytes : List ℕ) (s t : Status) (x y : List ℕ) → Faults bytes s x → Faults bytes t y → One s t x y
 fault_same bytes s t x y a b =
     let both = sym a.broken ∙ b.broken in
-    let lines : a.line ≡ b.line = cc in
-    let rules : a.rule ≡ b.rule = cc in
+    let lines : a.line ≡ b.line = ap line_in both in
+    let rules : a.rule ≡ b.rule = ap rule_in both in
     (a.refused ∙ ap (λ n. status.AsmRefused n a.rule) lines ∙ ap (status.AsmRefused b.line) rules ∙ sym b.refused, a.nothing ∙ sym b.nothing)
 
 not_assembled : (bytes : List ℕ) (s t : Status) (x y : List ℕ) → Faults bytes s x → Assembles bytes t y → ⊥

@@ -15,7 +15,7 @@ HasEnded thread = IsSome thread.core.over
 
 ended_by : (thread : Thread) (threads : List Thread) (n : ℕ) (over : Option End) → thread.core.over ≡ over → cond (goes_on over) (Some n) (first_live threads (n + 1)) ≡ None → HasEnded thread × (first_live threads (n + 1) ≡ None)
 ended_by thread threads n None q e = cc
-ended_by thread threads n (Some x) q e = (subst IsSome (sym q) tt, e)
+ended_by thread threads n (Some x) q e = (subst IsSome (sym q) refl, e)
 
 none_live : (threads : List Thread) (n : ℕ) → first_live threads n ≡ None → All HasEnded threads
 none_live [] n e = All-nil HasEnded
@@ -44,7 +44,7 @@ full_complete job m given turns f =
 
 dead_by : (thread : Thread) (threads : List Thread) (n : ℕ) (over : Option End) → thread.core.over ≡ over → cond (goes_on over) (n ∷ live_from threads (n + 1)) (live_from threads (n + 1)) ≡ [] → HasEnded thread × (live_from threads (n + 1) ≡ [])
 dead_by thread threads n None q e = cc
-dead_by thread threads n (Some x) q e = (subst IsSome (sym q) tt, e)
+dead_by thread threads n (Some x) q e = (subst IsSome (sym q) refl, e)
 
 all_dead : (threads : List Thread) (n : ℕ) → live_from threads n ≡ [] → All HasEnded threads
 all_dead [] n e = All-nil HasEnded

@@ -1,6 +1,6 @@
 //! Laws of the schedules, and of what a command answers.
 
-ghost use Rattle.std.specs.Prelude.{ℕ, ◌≡◌, List};
+ghost use Rattle.std.specs.Prelude.{ℕ, ◌≡◌, List, None};
 ghost use Rattle.cet_words.specs.Job.{JobData};
 ghost use Rattle.cet_page.specs.Machine.{Machine, run};
 ghost use Rattle.cet_top.specs.Answer.{Answers};

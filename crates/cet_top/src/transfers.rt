@@ -1,4 +1,4 @@
-ghost use Rattle.std.specs.Prelude.{◌<◌, ◌≤◌, length, IfOk, OnOk, OnErr, IsErrOf};
+ghost use Rattle.std.specs.Prelude.{◌≡◌, ◌<◌, ◌≤◌, length, IfOk, OnOk, OnErr, IsErrOf};
 ghost use Rattle.cet_io.specs.Stream.{HasCause, AppendsSome};
 ghost use Rattle.cet_top.specs.Reading.{ReadSome, ReadToEnd, ReadTooMuch, ReadUntilFault, source_state};
 ghost use Rattle.cet_top.specs.Serves.{Wrote, sink_state};

@@ -1,6 +1,6 @@
 use Rattle.std.proofs.Common.{arith, rules}
 use Rattle.std.proofs.lemmas.Result.{err_from_is_err_and}
-use Rattle.std.proofs.lemmas.List.{take_rest}
+use Rattle.std.proofs.lemmas.List.{length-drop, take_rest}
 use Rattle.cet_top.proofs.Known.{Appends-more, AppendsSome-more}
 use Rattle.cet_top.proofs.transfers.write_all.Goals as goal
 
