@@ -44,11 +44,10 @@ fn writes_what_it_loads(rt: HostRuntime) -> Result<(), Fail> {
         mark: 2,
     };
     let file = write(alloc, &program)?;
-    assert_eq!(rt;
-        file.as_slice().get(..264),
-        Some(EXIT_SEVEN_HEADERS.as_slice())
-    );
-    assert_eq!(rt; file.as_slice().get(4096..), Some(EXIT_SEVEN.as_slice()));
+    let front = file.as_slice().get(..264).ok_or("a short file")?;
+    assert_eq!(rt; front, EXIT_SEVEN_HEADERS.as_slice());
+    let text = file.as_slice().get(4096..).ok_or("a short file")?;
+    assert_eq!(rt; text, EXIT_SEVEN.as_slice());
     let image = load(alloc, file.as_slice()).ok().ok_or("refused")?;
     assert_eq!(rt;
         (image.entry, image.marked, image.tracked),
