@@ -31,7 +31,8 @@ const FIRST_HANDLER_WORD: u32 = 1_605_696;
 /// The word of page 0's entry.
 const FIRST_ENTRY_WORD: u32 = 1_614_848;
 
-/// What the kernel's entry leaves below a held token.
+/// What the kernel's entry leaves below a held token: a return address in the kernel's half, as a call there
+/// would leave it. No page of the machine has it, so it is no token and no address of a program.
 const KERNEL_RETURN: u64 = 0xffff_8000_0010_0000;
 
 /// The number of the service exit.
