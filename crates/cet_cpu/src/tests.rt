@@ -13,9 +13,6 @@ const EXIT_SEVEN: [u8; 12] = [
     0xbf, 0x07, 0x00, 0x00, 0x00, 0xb8, 0x3c, 0x00, 0x00, 0x00, 0x0f, 0x05,
 ];
 
-/// `call` over a `nop` to a `ret`.
-const CALL_AND_RETURN: [u8; 7] = [0xe8, 0x01, 0x00, 0x00, 0x00, 0x90, 0xc3];
-
 /// The image of a text of at most 16 bytes at 0x401000.
 fn image_of(alloc: Global, text: &[u8]) -> Result<Image, NoMemory>
     requires { length text.now ≤ 16 }
@@ -138,46 +135,6 @@ fn moves_and_exits(rt: HostRuntime) -> Result<(), Fail> {
     assert_eq!(rt; cpu.end(), Some(End::Exit(7)));
     assert_eq!(rt; cpu.next(&job), None);
     assert_eq!(rt; cpu.arch().count, 3);
-    Ok(())
-}
-
-#[test]
-fn calls_and_returns(rt: HostRuntime) -> Result<(), Fail> {
-    let image = image_of(rt.alloc(), &CALL_AND_RETURN)?;
-    let words = &mut Plain::new(rt.alloc(), &image)?;
-    let job = Job {
-        image: &image,
-        procs: 1,
-        limit: 2,
-        signals: &[],
-    };
-    let cpu = &mut first(&job);
-    // The program stack's word at 0x7fffffb8 and the shadow stack's at 0x200008ff8.
-    let rows = [
-        (Access::Load(1_605_632), None),
-        (Access::Load(1_605_664), None),
-        (Access::Look(1087), None),
-        (Access::Look(2120), None),
-        (Access::Store(557_047, 0x401005), None),
-        (
-            Access::Store(1_085_951, 0x401005),
-            noted(0x401000, What::Call, 0x401006, 0x2_0000_8ff8),
-        ),
-        (Access::Load(1_605_632), None),
-        (Access::Load(1_605_664), None),
-        (Access::Look(1087), None),
-        (Access::Look(2120), None),
-        (Access::Load(557_047), None),
-        (
-            Access::Load(1_085_951),
-            noted(0x401006, What::Ret, 0x401005, 0x2_0000_9000),
-        ),
-    ];
-    expect_accesses(&rt, &job, words, cpu, &rows);
-    assert_eq!(rt; cpu.end(), Some(End::Limit));
-    assert_eq!(rt; cpu.next(&job), None);
-    assert_eq!(rt; cpu.arch().rip, 0x401005);
-    assert_eq!(rt; cpu.arch().regs[4], 0x7fff_ffc0);
     Ok(())
 }
 

@@ -1,2 +1,3 @@
 mod Narrowing
+mod LeadLaws
 mod IndexLaws

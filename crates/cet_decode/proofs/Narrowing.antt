@@ -18,13 +18,14 @@ use Rattle.cet_decode.specs.Views.{form_view}
 use Rattle.cet_decode.specs.Index.{maybe_row_at, some_at}
 
 -- no bytes that begin by the chain are read by the row
-abbrev blocked_by : List Pattern → table.Form → Rex → Bool
+abbrev pub blocked_by : List Pattern → table.Form → Rex → Bool
 blocked_by chain f rex = not (allows f.wide rex) || conflict chain (filled_places (places f rex))
 
 abbrev pub blocked : List Pattern → Form → Bool
 blocked chain x = let f = form_view x in blocked_by chain f NoRex && (blocked_by chain f ClearRex && blocked_by chain f SetRex)
 
-form_blocked : (chain : List Pattern) (f : table.Form) (rex : Rex) (bytes rest : List ℕ) → blocked_by chain f rex ≡ true → run chain bytes ≡ Ok rest → form_at f rex bytes ≡ Err Differs
+-- what begins by the chain is not read by the row with this REX
+pub form_blocked : (chain : List Pattern) (f : table.Form) (rex : Rex) (bytes rest : List ℕ) → blocked_by chain f rex ≡ true → run chain bytes ≡ Ok rest → form_at f rex bytes ≡ Err Differs
 unfolding form_at
 form_blocked chain f rex bytes rest b e = go (allows f.wide rex) b
   where
@@ -32,7 +33,7 @@ form_blocked chain f rex bytes rest b e = go (allows f.wide rex) b
     go false b = refl
     go true b = chain_apart chain f rex bytes rest b e
 
-or_differs : {A : Type 0} (r : Result A Miss) → or_else (Err Differs) r ≡ r
+pub or_differs : {A : Type 0} (r : Result A Miss) → or_else (Err Differs) r ≡ r
 or_differs (Ok x) = refl
 or_differs (Err m) = refl
 

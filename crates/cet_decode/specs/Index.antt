@@ -1,5 +1,5 @@
 -- The rows that an index names, one after another. Source: own.
-use Rattle.std.specs.Prelude.{ℕ, ◌+◌, ◌/◌, ◌==◌, if◌then◌else◌, List, [], ◌∷◌, Option, Some, None, Result, Err, slice_get}
+use Rattle.std.specs.Prelude.{ℕ, List, [], ◌∷◌, Option, Some, None, Result, Err, slice_get}
 use Rattle.cet_isa.specs.declared.instructions.Instr.{Instr}
 use Rattle.cet_isa.specs.Reader.{Miss, Differs, or_else}
 use Rattle.cet_isa.specs.Reading.{row_at}
@@ -28,9 +28,3 @@ picks_by (Some value) picks = all_of (slice_get picks value)
 -- the numbers that the index has for a key
 abbrev pub picks_at : List Row → List (List ℕ) → ℕ → List ℕ
 picks_at index picks key = picks_by (value_of key index) picks
-
--- the first byte divided by 8; after a REX prefix, 32 more than the next byte divided by 8
-abbrev pub key_at : List ℕ → Option ℕ
-key_at [] = None
-key_at (b ∷ []) = if b / 16 == 4 then None else Some (b / 8)
-key_at (b ∷ c ∷ rest) = if b / 16 == 4 then Some (32 + c / 8) else Some (b / 8)

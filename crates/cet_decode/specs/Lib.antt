@@ -1,3 +1,4 @@
 pub mod Views
 pub mod Decoded
 pub mod Index
+pub mod Lead

@@ -1,124 +1,85 @@
-//! An index of the table by the first bytes, so that only the rows that may begin so are tried.
+//! Reading by the maps of opcodes, so that only the rows that may begin so are tried.
 
 ghost use Rattle.std.specs.Prelude.{◌≡◌, slice_get};
+ghost use Rattle.std.specs.Option.{option_copied};
 ghost use Rattle.cet_isa.specs.Forms.{forms};
 ghost use Rattle.cet_isa.specs.Reading.{any_at};
 ghost use Rattle.cet_decode.specs.Views.{Gives};
-ghost use Rattle.cet_decode.specs.Index.{maybe_row_at, some_at, picks_at, key_at};
+ghost use Rattle.cet_decode.specs.Index.{maybe_row_at, some_at, picks_at};
+ghost use Rattle.cet_decode.specs.Lead.{taker, chosen, chosen_at, mapped, mapped_by};
 
 use crate::forms::{FORMS, Form};
-use crate::reading::{Miss, read_listed, read_row};
+use crate::leads::{Lead, key_of, lead_of};
+use crate::maps::{ONE_BYTE, PICKS, PREFIXED, PREFIXED_PICKS, TWO_BYTE};
+use crate::reading::{Miss, read_behind, read_listed, read_row, takes};
 use cet_isa::Instr;
-use cet_rows::{Row, Rows};
+use cet_rows::Rows;
 
-macro_rules! at {
-    ($key:literal => $value:literal) => {
-        Row { key: $key, value: $value }
-    };
+/// The row with this number, where it takes REX and the bytes behind the opcode.
+fn taker<'r>(rows: &'r [Form], number: u8, rex: u8, bytes: &[u8]) -> Option<&'r Form>
+    ensures { option_copied result ≡ taker (slice_get rows.now number) rex bytes.now }
+{
+    match rows.get(usize::from(number)) {
+        Some(form) => {
+            if takes(form, rex, bytes) {
+                Some(form)
+            } else {
+                None
+            }
+        }
+        None => None,
+    }
 }
 
-/// Keys are the first byte divided by 8, and after a REX prefix 32 more than the next byte divided by 8.
-/// Values are rows of `PICKS`.
-pub const INDEX: Rows<44> = Rows {
-    rows: [
-        at!(0 => 0),
-        at!(1 => 1),
-        at!(2 => 0),
-        at!(3 => 0),
-        at!(4 => 0),
-        at!(5 => 0),
-        at!(6 => 0),
-        at!(7 => 2),
-        at!(10 => 3),
-        at!(11 => 4),
-        at!(12 => 5),
-        at!(13 => 6),
-        at!(14 => 7),
-        at!(15 => 7),
-        at!(16 => 8),
-        at!(17 => 9),
-        at!(18 => 10),
-        at!(21 => 11),
-        at!(23 => 12),
-        at!(24 => 13),
-        at!(25 => 14),
-        at!(26 => 15),
-        at!(29 => 16),
-        at!(30 => 17),
-        at!(31 => 18),
-        at!(32 => 0),
-        at!(33 => 19),
-        at!(34 => 0),
-        at!(35 => 0),
-        at!(36 => 0),
-        at!(37 => 0),
-        at!(38 => 0),
-        at!(39 => 20),
-        at!(42 => 3),
-        at!(43 => 4),
-        at!(44 => 21),
-        at!(48 => 22),
-        at!(49 => 23),
-        at!(53 => 11),
-        at!(55 => 24),
-        at!(56 => 25),
-        at!(58 => 15),
-        at!(62 => 26),
-        at!(63 => 27),
-    ],
-};
+/// The first of the rows with these numbers that takes REX and the bytes behind the opcode.
+#[tactic(auto, unfolding(crate::specs::Lead::chosen))]
+fn choose<'r>(rows: &'r [Form], numbers: &[u8], rex: u8, bytes: &[u8]) -> Option<&'r Form>
+    ensures { option_copied result ≡ chosen rows.now numbers.now rex bytes.now }
+{
+    for number in numbers {
+        match taker(rows, *number, rex, bytes) {
+            Some(form) => return Some(form),
+            None => {}
+        }
+    }
+    None
+}
 
-/// The numbers of the rows of the table that may begin so, from the lowest on, filled up with 255.
-pub const PICKS: [[u8; 13]; 28] = [
-    [0, 2, 5, 255, 255, 255, 255, 255, 255, 255, 255, 255, 255],
-    [0, 2, 5, 18, 28, 38, 52, 58, 64, 65, 255, 255, 255],
-    [0, 1, 2, 5, 47, 51, 255, 255, 255, 255, 255, 255, 255],
-    [
-        39, 255, 255, 255, 255, 255, 255, 255, 255, 255, 255, 255, 255,
-    ],
-    [
-        43, 255, 255, 255, 255, 255, 255, 255, 255, 255, 255, 255, 255,
-    ],
-    [57, 59, 60, 61, 75, 255, 255, 255, 255, 255, 255, 255, 255],
-    [
-        40, 41, 255, 255, 255, 255, 255, 255, 255, 255, 255, 255, 255,
-    ],
-    [
-        53, 255, 255, 255, 255, 255, 255, 255, 255, 255, 255, 255, 255,
-    ],
-    [3, 4, 6, 7, 8, 255, 255, 255, 255, 255, 255, 255, 255],
-    [11, 13, 20, 255, 255, 255, 255, 255, 255, 255, 255, 255, 255],
-    [
-        56, 255, 255, 255, 255, 255, 255, 255, 255, 255, 255, 255, 255,
-    ],
-    [
-        10, 255, 255, 255, 255, 255, 255, 255, 255, 255, 255, 255, 255,
-    ],
-    [
-        14, 255, 255, 255, 255, 255, 255, 255, 255, 255, 255, 255, 255,
-    ],
-    [15, 29, 30, 31, 54, 55, 255, 255, 255, 255, 255, 255, 255],
-    [
-        44, 255, 255, 255, 255, 255, 255, 255, 255, 255, 255, 255, 255,
-    ],
-    [32, 33, 34, 35, 36, 37, 255, 255, 255, 255, 255, 255, 255],
-    [45, 48, 49, 255, 255, 255, 255, 255, 255, 255, 255, 255, 255],
-    [9, 22, 23, 26, 27, 62, 63, 68, 69, 70, 71, 72, 73],
-    [24, 25, 42, 46, 50, 66, 67, 255, 255, 255, 255, 255, 255],
-    [0, 2, 5, 18, 28, 38, 74, 255, 255, 255, 255, 255, 255],
-    [0, 1, 2, 5, 255, 255, 255, 255, 255, 255, 255, 255, 255],
-    [
-        19, 255, 255, 255, 255, 255, 255, 255, 255, 255, 255, 255, 255,
-    ],
-    [3, 4, 6, 7, 8, 21, 255, 255, 255, 255, 255, 255, 255],
-    [11, 12, 13, 20, 255, 255, 255, 255, 255, 255, 255, 255, 255],
-    [
-        14, 17, 255, 255, 255, 255, 255, 255, 255, 255, 255, 255, 255,
-    ],
-    [15, 16, 29, 30, 31, 255, 255, 255, 255, 255, 255, 255, 255],
-    [9, 26, 27, 255, 255, 255, 255, 255, 255, 255, 255, 255, 255],
-    [24, 25, 42, 46, 50, 255, 255, 255, 255, 255, 255, 255, 255],
-];
+fn read_chosen<'a>(rows: &[Form], numbers: &[u8], lead: Lead<'a>) -> Result<(Instr, &'a [u8]), Miss>
+    ensures { Gives (λ x. (x.0, x.1.now)) result (chosen_at rows.now numbers.now lead.entry.rex lead.entry.opcode lead.entry.rest.now) }
+{
+    match choose(rows, numbers, lead.rex, lead.rest) {
+        Some(form) => read_behind(form, lead.rex, lead.opcode, lead.rest),
+        None => Err(Miss::Differs),
+    }
+}
+
+fn read_mapped<'a>(
+    rows: &[Form],
+    map: &[u8],
+    picks: &[[u8; 5]],
+    lead: Lead<'a>,
+) -> Result<(Instr, &'a [u8]), Miss>
+    ensures { Gives (λ x. (x.0, x.1.now)) result (chosen_at rows.now (mapped map.now picks.now lead.entry.opcode) lead.entry.rex lead.entry.opcode lead.entry.rest.now) }
+{
+    let Some(value) = map.get(usize::from(lead.opcode)) else {
+        return read_chosen(rows, &[], lead);
+    };
+    match picks.get(usize::from(*value)) {
+        Some(numbers) => read_chosen(rows, numbers, lead),
+        None => read_chosen(rows, &[], lead),
+    }
+}
+
+fn read_lead<'a>(lead: Lead<'a>) -> Result<(Instr, &'a [u8]), Miss>
+    ensures { Gives (λ x. (x.0, x.1.now)) result (chosen_at FORMS (mapped_by lead.entry.escaped ONE_BYTE TWO_BYTE PICKS lead.entry.opcode) lead.entry.rex lead.entry.opcode lead.entry.rest.now) }
+{
+    if lead.escaped {
+        read_mapped(&FORMS, &TWO_BYTE, &PICKS, lead)
+    } else {
+        read_mapped(&FORMS, &ONE_BYTE, &PICKS, lead)
+    }
+}
 
 fn read_numbered<'a>(rows: &[Form], number: u8, bytes: &'a [u8]) -> Result<(Instr, &'a [u8]), Miss>
     ensures { Gives (λ x. (x.0, x.1.now)) result (maybe_row_at (slice_get rows.now number) bytes.now) }
@@ -146,8 +107,8 @@ fn read_some<'a>(rows: &[Form], numbers: &[u8], bytes: &'a [u8]) -> Result<(Inst
 
 fn read_picked<'a>(
     rows: &[Form],
-    index: &Rows<44>,
-    picks: &[[u8; 13]],
+    index: &Rows<5>,
+    picks: &[[u8; 8]],
     key: u16,
     bytes: &'a [u8],
 ) -> Result<(Instr, &'a [u8]), Miss>
@@ -162,41 +123,28 @@ fn read_picked<'a>(
     }
 }
 
-/// The key of these bytes; none where they are empty, or a REX prefix alone.
-fn key_of(bytes: &[u8]) -> Option<u16>
-    ensures { result ≡ key_at bytes.now }
-{
-    match bytes {
-        [] => None,
-        [first] => {
-            if first / 16 == 4 {
-                None
-            } else {
-                Some(u16::from(*first) / 8)
-            }
-        }
-        [first, next, ..] => {
-            if first / 16 == 4 {
-                Some(32 + u16::from(*next) / 8)
-            } else {
-                Some(u16::from(*first) / 8)
-            }
-        }
-    }
-}
-
 fn read_by_key(key: u16, bytes: &[u8]) -> Result<(Instr, &[u8]), Miss>
-    ensures { Gives (λ x. (x.0, x.1.now)) result (some_at FORMS (picks_at INDEX.rows PICKS key) bytes.now) }
+    ensures { Gives (λ x. (x.0, x.1.now)) result (some_at FORMS (picks_at PREFIXED.rows PREFIXED_PICKS key) bytes.now) }
 {
-    read_picked(&FORMS, &INDEX, &PICKS, key, bytes)
+    read_picked(&FORMS, &PREFIXED, &PREFIXED_PICKS, key, bytes)
 }
 
-/// An instruction by the table, whose rows are chosen by the index where the bytes have a key.
-pub fn read_indexed(bytes: &[u8]) -> Result<(Instr, &[u8]), Miss>
+/// An instruction by the table, where other bytes than REX and 0f may stand before the opcode.
+fn read_prefixed(bytes: &[u8]) -> Result<(Instr, &[u8]), Miss>
     ensures { Gives (λ x. (x.0, x.1.now)) result (any_at forms bytes.now) }
 {
     match key_of(bytes) {
         Some(key) => read_by_key(key, bytes),
         None => read_listed(bytes),
+    }
+}
+
+/// An instruction by the table, whose rows are found by the opcode, or by what stands before it.
+pub fn read_indexed(bytes: &[u8]) -> Result<(Instr, &[u8]), Miss>
+    ensures { Gives (λ x. (x.0, x.1.now)) result (any_at forms bytes.now) }
+{
+    match lead_of(bytes) {
+        Some(lead) => read_lead(lead),
+        None => read_prefixed(bytes),
     }
 }

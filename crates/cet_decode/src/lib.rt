@@ -7,6 +7,8 @@ mod fields;
 mod forms;
 mod index;
 mod kinds;
+mod leads;
+mod maps;
 mod meaning;
 mod reading;
 #[cfg(test)]

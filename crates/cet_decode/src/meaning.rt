@@ -30,6 +30,8 @@ fn mov(size: Size, dst: Operand, src: Operand) -> Instr
     Instr::Mov { size, dst, src }
 }
 
+// The groups stand apart in the program too, so that each writes its instructions in place.
+#[inline(never)]
 fn arith(kind: Arith, x: &Parts, imm: &[u8]) -> Instr
     ensures { result ≡ instr_of (arith_view kind) (fields_view x.now imm.now) }
 {
@@ -48,6 +50,7 @@ fn arith(kind: Arith, x: &Parts, imm: &[u8]) -> Instr
     }
 }
 
+#[inline(never)]
 fn unary(kind: Unary, x: &Parts, imm: &[u8]) -> Instr
     ensures { result ≡ instr_of (unary_view kind) (fields_view x.now imm.now) }
 {
@@ -76,6 +79,7 @@ fn unary(kind: Unary, x: &Parts, imm: &[u8]) -> Instr
     }
 }
 
+#[inline(never)]
 fn moved(kind: Move, x: &Parts, imm: &[u8]) -> Instr
     ensures { result ≡ instr_of (move_view kind) (fields_view x.now imm.now) }
 {
@@ -112,6 +116,7 @@ fn moved(kind: Move, x: &Parts, imm: &[u8]) -> Instr
     }
 }
 
+#[inline(never)]
 fn flow(kind: Flow, x: &Parts, imm: &[u8]) -> Instr
     ensures { result ≡ instr_of (flow_view kind) (fields_view x.now imm.now) }
 {
@@ -144,6 +149,7 @@ fn flow(kind: Flow, x: &Parts, imm: &[u8]) -> Instr
     }
 }
 
+#[inline(never)]
 fn shadow(kind: Shadow, x: &Parts, imm: &[u8]) -> Instr
     ensures { result ≡ instr_of (shadow_view kind) (fields_view x.now imm.now) }
 {
@@ -169,15 +175,15 @@ fn shadow(kind: Shadow, x: &Parts, imm: &[u8]) -> Instr
 }
 
 /// The instruction of this kind with these fields and this immediate.
-pub fn instr(kind: Kind, x: &Parts, imm: &[u8]) -> Instr
-    ensures { result ≡ instr_of (kind_view kind) (fields_view x.now imm.now) }
+pub fn instr(kind: &Kind, x: &Parts, imm: &[u8]) -> Instr
+    ensures { result ≡ instr_of (kind_view kind.now) (fields_view x.now imm.now) }
 {
     match kind {
-        Kind::Arith(kind) => arith(kind, x, imm),
-        Kind::Unary(kind) => unary(kind, x, imm),
-        Kind::Move(kind) => moved(kind, x, imm),
-        Kind::Flow(kind) => flow(kind, x, imm),
-        Kind::Shadow(kind) => shadow(kind, x, imm),
-        Kind::Plain(instr) => instr,
+        Kind::Arith(kind) => arith(*kind, x, imm),
+        Kind::Unary(kind) => unary(*kind, x, imm),
+        Kind::Move(kind) => moved(*kind, x, imm),
+        Kind::Flow(kind) => flow(*kind, x, imm),
+        Kind::Shadow(kind) => shadow(*kind, x, imm),
+        Kind::Plain(instr) => *instr,
     }
 }

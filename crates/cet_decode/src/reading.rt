@@ -5,6 +5,7 @@ ghost use Rattle.cet_isa.specs.Forms.{forms};
 ghost use Rattle.cet_isa.specs.Spells.{has, allows, rex_pattern, places, imm_len};
 ghost use Rattle.cet_isa.specs.Reading.{byte_at, cells_at, bytes_at, operand_at, read_at, form_at, row_at, any_at};
 ghost use Rattle.cet_decode.specs.Views.{pattern_view, place_view, wide_view, rex_view, imm_view, form_view, Gives};
+ghost use Rattle.cet_decode.specs.Lead.{rex_at, operand_behind, row_behind, takes_modrm, takes};
 
 use crate::addressing::{disp_count, operand, sib_count};
 use crate::fields::{Parts, byte, signed};
@@ -90,16 +91,27 @@ fn bytes_of(count: usize, bytes: &[u8]) -> Result<(&[u8], &[u8]), Miss>
     Ok(bytes.split_at(count))
 }
 
-#[tactic(auto, unfolding(cet_isa::specs::Reading::operand_at))]
-fn operand_of_cells(cells: [u8; 8], bytes: &[u8]) -> Result<(Operand, &[u8]), Miss>
-    ensures { Gives (λ x. (x.0, x.1.now)) result (operand_at cells bytes.now) }
+/// What mod and rm name, by the SIB and displacement that follow.
+#[tactic(auto, using(crate::proofs::LeadLaws::operand_at_zero))]
+fn operand_behind(rex: u8, modrm: u8, bytes: &[u8]) -> Result<(Operand, &[u8]), Miss>
+    ensures { Gives (λ x. (x.0, x.1.now)) result (operand_behind rex modrm bytes.now) }
 {
-    let (rex, modrm) = (cells[3], cells[7]);
+    // Neither SIB nor displacement follows. A row without ModRM counts as one with ModRM 0.
+    if modrm == 0 {
+        return Ok((operand(rex, 0, 0, 0), bytes));
+    }
     let (sib, rest) = bytes_of(sib_count(modrm), bytes)?;
     let sib = byte(sib, 0);
     let (disp, rest) = bytes_of(disp_count(modrm, sib), rest)?;
     let rm = operand(rex, modrm, sib, signed(disp));
     Ok((rm, rest))
+}
+
+#[tactic(auto, unfolding(cet_isa::specs::Reading::operand_at))]
+fn operand_of_cells(cells: [u8; 8], bytes: &[u8]) -> Result<(Operand, &[u8]), Miss>
+    ensures { Gives (λ x. (x.0, x.1.now)) result (operand_at cells bytes.now) }
+{
+    operand_behind(cells[3], cells[7], bytes)
 }
 
 fn imm_count(imm: Imm) -> usize
@@ -127,7 +139,7 @@ fn read<'a>(form: &Form, rex: Rex, bytes: &'a [u8]) -> Result<(Instr, &'a [u8]),
         modrm: cells[7],
         rm,
     };
-    Ok((instr(form.kind, &parts, imm), rest))
+    Ok((instr(&form.kind, &parts, imm), rest))
 }
 
 fn is_allowed(wide: Wide, rex: Rex) -> bool
@@ -156,6 +168,60 @@ fn read_allowed<'a>(form: &Form, rex: Rex, bytes: &'a [u8]) -> Result<(Instr, &'
     }
 }
 
+/// An instruction by a row, from the byte behind its opcode on; REX is 0 where there is none.
+#[tactic(auto, unfolding(crate::specs::Lead::row_behind))]
+pub fn read_behind<'a>(
+    form: &Form,
+    rex: u8,
+    opcode: u8,
+    bytes: &'a [u8],
+) -> Result<(Instr, &'a [u8]), Miss>
+    ensures { Gives (λ x. (x.0, x.1.now)) result (row_behind (form_view form.now) rex opcode bytes.now) }
+{
+    let (modrm, rest) = byte_of(form.modrm, bytes)?;
+    let (rm, rest) = operand_behind(rex, modrm, rest)?;
+    let (imm, rest) = bytes_of(imm_count(form.imm), rest)?;
+    let parts = Parts {
+        rex,
+        opcode,
+        modrm,
+        rm,
+    };
+    Ok((instr(&form.kind, &parts, imm), rest))
+}
+
+fn rex_of(rex: u8) -> Rex
+    ensures { rex_view result ≡ rex_at rex }
+{
+    if rex == 0 {
+        Rex::Absent
+    } else if rex / 8 % 2 == 1 {
+        Rex::Set
+    } else {
+        Rex::Clear
+    }
+}
+
+fn takes_modrm(place: Option<Pattern>, bytes: &[u8]) -> bool
+    ensures { result ≡ takes_modrm (place_view place) bytes.now }
+{
+    let Some(pattern) = place else {
+        return true;
+    };
+    match bytes {
+        [] => true,
+        [byte, ..] => is_in(&pattern, *byte),
+    }
+}
+
+/// Whether a row takes this REX (0 for none), and the first of the bytes behind the opcode as its ModRM.
+pub fn takes(form: &Form, rex: u8, bytes: &[u8]) -> bool
+    ensures { result ≡ takes (form_view form.now) rex bytes.now }
+{
+    is_allowed(form.wide, rex_of(rex)) && takes_modrm(form.modrm, bytes)
+}
+
+/// An instruction by this row, from its first byte on.
 #[tactic(auto, unfolding(cet_isa::specs::Reading::row_at))]
 pub fn read_row<'a>(form: &Form, bytes: &'a [u8]) -> Result<(Instr, &'a [u8]), Miss>
     ensures { Gives (λ x. (x.0, x.1.now)) result (row_at (form_view form.now) bytes.now) }

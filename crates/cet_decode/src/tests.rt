@@ -1,4 +1,6 @@
-use super::index::INDEX;
+//! Instructions by their bytes, as GNU as assembles them or as the manual has them.
+
+use super::maps::PREFIXED;
 use super::{Decoded, decode};
 use cet_isa::{Base, Instr, Mem, Operand, Reg, Size};
 
@@ -116,6 +118,13 @@ fn addressing(rt: HostRuntime) {
 }
 
 #[test]
-fn index_has_each_key_once(rt: HostRuntime) {
-    assert!(rt; INDEX.disjoint());
+fn prefixes_have_one_list_each(rt: HostRuntime) {
+    assert!(rt; PREFIXED.disjoint());
+}
+
+fn is_sent<T: Send>() {}
+
+#[test]
+fn goes_to_other_threads() {
+    is_sent::<Decoded>();
 }

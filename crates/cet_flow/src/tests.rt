@@ -86,185 +86,140 @@ fn accesses(
     )
 }
 
-fn step(value: u64) -> Record {
+/// A record with no error code.
+fn record(what: What, a: u64, b: u64) -> Record {
     Record {
         rip: 0x40_1000,
-        what: What::Step,
+        what,
         code: 0,
-        a: value,
-        b: 2,
+        a,
+        b,
     }
 }
 
-fn general_protection() -> Fault {
-    Fault {
-        name: FaultName::Gp,
-        code: 0,
-        a: 0,
-        b: 0,
-    }
+fn step(value: u64) -> Record {
+    record(What::Step, value, 2)
 }
 
-fn at_rbx() -> Mem {
-    Mem {
+/// A fault with this code and these two values.
+fn fault<T>(name: FaultName, code: u32, a: u64, b: u64) -> Result<T, Stop> {
+    Err(Stop::Fault(Fault { name, code, a, b }))
+}
+
+/// An instruction, the answers that it is given, its accesses, and its record with RIP and RSP after it.
+type Row = (
+    Instr,
+    &'static [u64],
+    &'static [Access],
+    Result<(Record, u64, u64), Stop>,
+);
+
+/// The word at 0x7fffffa8 is 557,045, and that at 0x200008ff8 is 1,085,951.
+fn rows() -> [Row; 9] {
+    let at_rbx = Mem {
         base: Base::Reg(Reg::Rbx),
         index: None,
         scale: 1,
         disp: 8,
-    }
-}
-
-#[test]
-fn pushes(rt: HostRuntime) {
-    // The word at 0x7fffffa8.
-    let store = |value| [Access::Look(1087), Access::Store(557_045, value)];
-    let rows = [
-        (Operand::Reg(Reg::Rcx), 0x22),
-        (Operand::Reg(Reg::Rsp), 0x7fff_ffb0),
-        (Operand::Imm(-2), 0xffff_ffff_ffff_fffe),
-    ];
-    for (src, value) in rows {
-        let done = accesses(
-            &rt,
-            &thread(),
-            &Instr::Push { src },
-            &[STACK_ENTRY],
-            &store(value),
-        );
-        let (arch, noted) = done.expect(&rt, "no result");
-        assert_eq!(rt; noted, step(value), "{src:?}");
-        assert_eq!(rt; arch.regs[4], 0x7fff_ffa8);
-        assert_eq!(rt;
-            (arch.rip, arch.ssp, arch.count),
-            (0x40_1003, 0x2_0000_8ff8, 6)
-        );
-    }
-}
-
-#[test]
-fn push_of_memory(rt: HostRuntime) {
-    // The word at 0x401008 is loaded before the stack is looked at.
-    let wanted = [
-        Access::Look(1),
-        Access::Load(513),
-        Access::Look(1087),
-        Access::Store(557_045, 0x1234),
-    ];
-    let instr = Instr::Push {
-        src: Operand::Mem(at_rbx()),
     };
-    let answers = [0x0010_1025, 0x1234, STACK_ENTRY];
-    let done = accesses(&rt, &thread(), &instr, &answers, &wanted);
-    let (_, noted) = done.expect(&rt, "no result");
-    assert_eq!(rt; noted, step(0x1234));
-}
-
-#[test]
-fn pops(rt: HostRuntime) {
-    let wanted = [Access::Look(1087), Access::Load(557_046)];
-    let answers = [STACK_ENTRY, 0x5678];
-    let pop = |dst| accesses(&rt, &thread(), &Instr::Pop { dst }, &answers, &wanted);
-    let (arch, noted) = pop(Reg::Rcx).expect(&rt, "no result");
-    assert_eq!(rt; noted, step(0x5678));
-    assert_eq!(rt; (arch.regs[1], arch.regs[4]), (0x5678, 0x7fff_ffb8));
-    let (arch, noted) = pop(Reg::Rsp).expect(&rt, "no result");
-    assert_eq!(rt; noted, step(0x5678));
-    assert_eq!(rt; arch.regs[4], 0x5678);
-}
-
-#[test]
-fn leaves(rt: HostRuntime) {
-    // The word at 0x7fffff00, where RBP points.
-    let wanted = [Access::Look(1087), Access::Load(557_024)];
-    let done = accesses(
-        &rt,
-        &thread(),
-        &Instr::Leave,
-        &[STACK_ENTRY, 0x5678],
-        &wanted,
-    );
-    let (arch, noted) = done.expect(&rt, "no result");
-    assert_eq!(rt; noted, step(0x5678));
-    assert_eq!(rt; (arch.regs[4], arch.regs[5]), (0x7fff_ff08, 0x5678));
-}
-
-#[test]
-fn indirect_calls(rt: HostRuntime) {
     let call = |reg| Instr::CallInd {
         target: Operand::Reg(reg),
         notrack: false,
     };
-    let wanted = [
-        Access::Look(1087),
-        Access::Look(2120),
-        Access::Store(557_045, 0x40_1003),
-        Access::Store(1_085_950, 0x40_1003),
-    ];
-    let answers = [STACK_ENTRY, SHADOW_ENTRY];
-    let done = accesses(&rt, &thread(), &call(Reg::Rbx), &answers, &wanted);
-    let (arch, noted) = done.expect(&rt, "no result");
-    assert_eq!(rt;
-        (noted.what, noted.a, noted.b),
-        (What::Call, 0x40_1000, 0x2_0000_8ff0)
-    );
-    assert_eq!(rt; (arch.rip, arch.regs[4]), (0x40_1000, 0x7fff_ffa8));
-    // A target that isn't canonical faults before any access.
-    let done = accesses(&rt, &thread(), &call(Reg::R8), &[], &[]);
-    assert_eq!(rt; done.err(), Some(Stop::Fault(general_protection())));
+    let ret = Instr::RetImm { bytes: 24 };
+    [
+        // RSP as it was before the push.
+        (
+            Instr::Push {
+                src: Operand::Reg(Reg::Rsp),
+            },
+            &[STACK_ENTRY],
+            &[Access::Look(1087), Access::Store(557_045, 0x7fff_ffb0)],
+            Ok((step(0x7fff_ffb0), 0x40_1003, 0x7fff_ffa8)),
+        ),
+        // The word at 0x401008 is loaded before the stack is looked at.
+        (
+            Instr::Push {
+                src: Operand::Mem(at_rbx),
+            },
+            &[0x0010_1025, 0x1234, STACK_ENTRY],
+            &[
+                Access::Look(1),
+                Access::Load(513),
+                Access::Look(1087),
+                Access::Store(557_045, 0x1234),
+            ],
+            Ok((step(0x1234), 0x40_1003, 0x7fff_ffa8)),
+        ),
+        (
+            Instr::Pop { dst: Reg::Rsp },
+            &[STACK_ENTRY, 0x5678],
+            &[Access::Look(1087), Access::Load(557_046)],
+            Ok((step(0x5678), 0x40_1003, 0x5678)),
+        ),
+        // The word at 0x7fffff00, where RBP points.
+        (
+            Instr::Leave,
+            &[STACK_ENTRY, 0x5678],
+            &[Access::Look(1087), Access::Load(557_024)],
+            Ok((step(0x5678), 0x40_1003, 0x7fff_ff08)),
+        ),
+        (
+            call(Reg::Rbx),
+            &[STACK_ENTRY, SHADOW_ENTRY],
+            &[
+                Access::Look(1087),
+                Access::Look(2120),
+                Access::Store(557_045, 0x40_1003),
+                Access::Store(1_085_950, 0x40_1003),
+            ],
+            Ok((
+                record(What::Call, 0x40_1000, 0x2_0000_8ff0),
+                0x40_1000,
+                0x7fff_ffa8,
+            )),
+        ),
+        // A target that isn't canonical faults before any access.
+        (call(Reg::R8), &[], &[], fault(FaultName::Gp, 0, 0, 0)),
+        (
+            ret,
+            &[STACK_ENTRY, SHADOW_ENTRY, 0x40_1020, 0x40_1020],
+            &RETURN,
+            Ok((
+                record(What::Ret, 0x40_1020, 0x2_0000_9000),
+                0x40_1020,
+                0x7fff_ffd0,
+            )),
+        ),
+        (
+            ret,
+            &[STACK_ENTRY, SHADOW_ENTRY, 0x40_1020, 0x40_1021],
+            &RETURN,
+            fault(FaultName::Cp, 1, 0x40_1020, 0x40_1021),
+        ),
+        (
+            Instr::JmpRel { disp: -3 },
+            &[],
+            &[],
+            Ok((step(0x40_1000), 0x40_1000, 0x7fff_ffb0)),
+        ),
+    ]
 }
 
-#[test]
-fn returns(rt: HostRuntime) {
-    let wanted = [
-        Access::Look(1087),
-        Access::Look(2120),
-        Access::Load(557_046),
-        Access::Load(1_085_951),
-    ];
-    let ret = |word, shadow_word| {
-        let answers = [STACK_ENTRY, SHADOW_ENTRY, word, shadow_word];
-        accesses(
-            &rt,
-            &thread(),
-            &Instr::RetImm { bytes: 24 },
-            &answers,
-            &wanted,
-        )
-    };
-    let (arch, noted) = ret(0x40_1020, 0x40_1020).expect(&rt, "no result");
-    assert_eq!(rt;
-        (noted.what, noted.a, noted.b),
-        (What::Ret, 0x40_1020, 0x2_0000_9000)
-    );
-    assert_eq!(rt; (arch.rip, arch.regs[4]), (0x40_1020, 0x7fff_ffd0));
-    let differs = Fault {
-        name: FaultName::Cp,
-        code: 1,
-        a: 0x40_1020,
-        b: 0x40_1021,
-    };
-    assert_eq!(rt; ret(0x40_1020, 0x40_1021).err(), Some(Stop::Fault(differs)));
-    assert_eq!(rt;
-        ret(1 << 47, 1 << 47).err(),
-        Some(Stop::Fault(general_protection()))
-    );
-}
+const RETURN: [Access; 4] = [
+    Access::Look(1087),
+    Access::Look(2120),
+    Access::Load(557_046),
+    Access::Load(1_085_951),
+];
 
 #[test]
-fn jumps(rt: HostRuntime) {
-    let jump = |instr: &Instr| accesses(&rt, &thread(), instr, &[], &[]);
-    let (arch, noted) = jump(&Instr::JmpRel { disp: -3 }).expect(&rt, "no result");
-    assert_eq!(rt; (arch.rip, noted), (0x40_1000, step(0x40_1000)));
-    let indirect = |reg| Instr::JmpInd {
-        target: Operand::Reg(reg),
-        notrack: true,
-    };
-    let (arch, _) = jump(&indirect(Reg::R9)).expect(&rt, "no result");
-    assert_eq!(rt; arch.rip, 0x99);
-    assert_eq!(rt;
-        jump(&indirect(Reg::R8)).err(),
-        Some(Stop::Fault(general_protection()))
-    );
+fn accesses_and_records(rt: HostRuntime) {
+    for (instr, answers, wanted, want) in rows() {
+        let came = accesses(&rt, &thread(), &instr, answers, wanted);
+        let came = came.map(|(arch, noted)| (noted, arch.rip, arch.regs[4]));
+        assert_eq!(rt; came, want, "{instr:?}");
+    }
 }
 
 /// RFLAGS, and the conditions that hold under it, by the table of the manual.

@@ -19,7 +19,8 @@ clash p q = not (eqb (bit_and p.value q.mask) (bit_and q.value p.mask)) || (nat_
 has_parts : (p : Pattern) (b : ℕ) → has p b ≡ true → (bit_and b p.mask ≡ p.value) × (b < p.below)
 has_parts p b h = let a = and_parts (eqb (bit_and b p.mask) p.value) (ltb b p.below) h in (eqb-true _ _ a.0, ltb-true _ _ a.1)
 
-clash_apart : (p q : Pattern) (b : ℕ) → clash p q ≡ true → has p b ≡ true → has q b ≡ true → ⊥
+-- no byte is in both
+pub clash_apart : (p q : Pattern) (b : ℕ) → clash p q ≡ true → has p b ≡ true → has q b ≡ true → ⊥
 clash_apart p q b c hp hq =
     let fp = has_parts p b hp in
     let fq = has_parts q b hq in
@@ -104,7 +105,7 @@ pub tries : List Try → List ℕ → Result (Instr × List ℕ) Miss
 tries [] bytes = Err Differs
 tries (h ∷ hs) bytes = or_else (attempt h bytes) (tries hs bytes)
 
-or_else-assoc : {A : Type 0} (a b c : Result A Miss) → or_else (or_else a b) c ≡ or_else a (or_else b c)
+pub or_else-assoc : {A : Type 0} (a b c : Result A Miss) → or_else (or_else a b) c ≡ or_else a (or_else b c)
 or_else-assoc (Ok x) b c = refl
 or_else-assoc (Err Ends) (Ok x) c = refl
 or_else-assoc (Err Differs) (Ok x) c = refl

@@ -1,4 +1,5 @@
 pub mod Fetching
+pub mod PageLaws
 pub mod Runs
 pub mod Walk
 pub mod WalkRows

@@ -1,7 +1,10 @@
-ghost use Rattle.std.specs.Prelude.{◌≡◌};
-ghost use Rattle.cet_page.specs.Page.{checked, index_at, page_fault, kind_allows, who_allows, is_shadow_stack_page};
+//! The page check and its page faults (Intel SDM volume 3A, paging access rights and page-fault error codes).
 
-use cet_isa::{Fault, FaultName};
+ghost use Rattle.std.specs.Prelude.{◌≡◌};
+ghost use Rattle.cet_page.specs.Page.{checked, has, index_at, page_fault, kind_allows, who_allows, is_shadow_stack_page};
+
+use bitflags::Flags;
+use cet_isa::{Fault, FaultName, PageEntry};
 
 /// What an access to a page is for.
 #[derive(Clone, Copy, Debug, PartialEq, Eq)]
@@ -20,40 +23,43 @@ pub enum Who {
     Supervisor,
 }
 
-const PRESENT: u64 = 1;
+/// Whether an entry has a bit.
+#[tactic(auto, using(crate::proofs::PageLaws::some_bits))]
+fn has(entry: u64, bit: PageEntry) -> bool
+    ensures { result ≡ has entry bit.0 }
+{
+    PageEntry::from_bits_retain(entry).intersects(bit)
+}
 
-const WRITABLE: u64 = 1 << 1;
-
-const USER: u64 = 1 << 2;
-
-const DIRTY: u64 = 1 << 6;
-
-const NO_EXECUTE: u64 = 1 << 63;
-
+/// Whether an entry has D and not R/W, as those of shadow-stack pages.
 fn is_shadow_stack_page(entry: u64) -> bool
     ensures { result ≡ is_shadow_stack_page entry }
 {
-    entry & 0x42 == DIRTY
+    let both = PageEntry::D.union(PageEntry::RW);
+    let entry = PageEntry::from_bits_retain(entry).intersection(both);
+    entry.bits() == PageEntry::D.bits()
 }
 
+#[tactic(auto, using(crate::proofs::PageLaws::no_bits))]
 fn kind_allows(kind: Kind, entry: u64) -> bool
     ensures { result ≡ kind_allows kind entry }
 {
     match kind {
-        Kind::Fetch => entry & NO_EXECUTE == 0,
+        Kind::Fetch => !has(entry, PageEntry::XD),
         Kind::Load => true,
-        Kind::Store => entry & WRITABLE != 0,
+        Kind::Store => has(entry, PageEntry::RW),
         Kind::ShadowLoad => is_shadow_stack_page(entry),
         Kind::ShadowStore => is_shadow_stack_page(entry),
     }
 }
 
+#[tactic(auto, using(crate::proofs::PageLaws::no_bits))]
 fn who_allows(who: Who, entry: u64) -> bool
     ensures { result ≡ who_allows who entry }
 {
     match who {
-        Who::User => entry & USER != 0,
-        Who::Supervisor => entry & USER == 0,
+        Who::User => has(entry, PageEntry::US),
+        Who::Supervisor => !has(entry, PageEntry::US),
     }
 }
 
@@ -61,7 +67,7 @@ fn who_allows(who: Who, entry: u64) -> bool
 pub fn page_fault(entry: u64, kind: Kind, who: Who, addr: u64) -> Fault
     ensures { result ≡ page_fault entry kind who addr }
 {
-    let present_code = if entry & PRESENT != 0 { 1 } else { 0 };
+    let present_code = if has(entry, PageEntry::P) { 1 } else { 0 };
     let kind_code = match kind {
         Kind::Fetch => 16,
         Kind::Load => 0,
@@ -85,7 +91,7 @@ pub fn page_fault(entry: u64, kind: Kind, who: Who, addr: u64) -> Fault
 pub fn check(entry: u64, kind: Kind, who: Who, addr: u64) -> Result<(), Fault>
     ensures { result ≡ checked entry kind who addr }
 {
-    if entry & PRESENT != 0 && who_allows(who, entry) && kind_allows(kind, entry) {
+    if has(entry, PageEntry::P) && who_allows(who, entry) && kind_allows(kind, entry) {
         Ok(())
     } else {
         Err(page_fault(entry, kind, who, addr))

@@ -1,3 +1,5 @@
+//! The parts of the machine that carry instructions.
+
 ghost use Rattle.std.specs.Prelude.{◌≡◌};
 ghost use Rattle.cet_page.specs.Family.{family_of};
 

@@ -1,3 +1,5 @@
+//! What a row comes to.
+
 use cet_isa::{Arch, Record};
 
 /// What a row comes to.

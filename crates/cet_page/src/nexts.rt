@@ -1,3 +1,5 @@
+//! What a part's `next` answers.
+
 ghost use Rattle.std.specs.Prelude.{◌≡◌, ◌<◌, ◌^◌, ◌-◌};
 
 use crate::cursors::Stop;

@@ -1,3 +1,5 @@
+//! The page check by the codes of the manual; what a row keeps.
+
 use crate::{Kind, Vals, Who, check, index_of};
 use cet_isa::FaultName;
 use cet_words::Access;
@@ -75,4 +77,11 @@ fn indices_and_values(rt: HostRuntime) {
     vals.add(Access::Look(1), 42);
     assert_eq!(rt; (vals.done(), vals.count()), (3, 2));
     assert_eq!(rt; (vals.value(0), vals.value(1)), (40, 42));
+}
+
+fn is_sent<T: Send>() {}
+
+#[test]
+fn goes_to_other_threads() {
+    is_sent::<Vals>();
 }

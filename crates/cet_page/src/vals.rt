@@ -7,11 +7,13 @@ use crate::cursors::Cursor;
 use cet_words::Access;
 use std::marker::Model;
 
-/// How many values a row keeps at most.
+/// How many values a row keeps at most. The rows that keep most keep 6 (EXIT, PEND, and up to four looks,
+/// loads and exchanges); services that exchange more words are to come.
 const MOST_KEPT: usize = 32;
 
-/// The values kept in a row, at most 32, and the number of its accesses so far, at most 4,096. All
-/// accesses but stores keep their value.
+/// The values kept in a row, at most 32, and the number of its accesses so far, at most 4,096: the longest
+/// row, an `exit`, makes 15, and a service to come stores the entries of up to 1,024 pages. All accesses
+/// but stores keep their value.
 #[derive(Drop)]
 pub struct Vals {
     kept: [u64; 32],

@@ -78,7 +78,8 @@ pub const NEXT_THREAD_WORD: u32 = 1_605_633;
 /// The kernel's word DRAW_SHADOW: how many pages of the shadow area have been drawn.
 pub const DRAW_SHADOW_WORD: u32 = 1_605_634;
 
-/// What the kernel's entry leaves below a held token.
+/// What the kernel's entry leaves below a held token: a return address in the kernel's half, as a call there
+/// would leave it. No page of the machine has it, so it is no token and no address of a program.
 pub const KERNEL_RETURN: u64 = 0xffff_8000_0010_0000;
 
 /// The number of the page that holds an address, below 3,154, or none where no range of the machine
