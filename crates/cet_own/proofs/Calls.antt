@@ -37,7 +37,8 @@ use Rattle.cet_own.proofs.Classes.{pushes}
 use Rattle.cet_own.proofs.Parts.{Claim, one_after, claim_bind, claim_cond, tested_then, store_look_then, shadow_look_then, store_then}
 use Rattle.cet_own.proofs.OperandParts.{read_operand_then}
 use Rattle.cet_own.proofs.Places.{page_word, shadow_slot, below_is, room_below}
-use Rattle.cet_own.specs.Past.{progress, untouched, drew, numbered}
+use Rattle.cet_own.specs.Past.{drew, numbered}
+use Rattle.cet_own.proofs.Progress.{progress, untouched}
 use Rattle.cet_page.specs.Trail.{Visit}
 use Rattle.cet_own.proofs.Resting.{Resting, rest_kept, rest_stacked, rested}
 

@@ -27,8 +27,8 @@ use Rattle.std.proofs.lemmas.Bool.Decides.{nat_tests}
 use Rattle.cet_page.specs.Script.{birth}
 use Rattle.cet_page.specs.Trail.{Visit}
 use Rattle.cet_own.specs.ExitWord.{IsEnding}
-use Rattle.cet_own.specs.Past.{next_word, draw_word, alters, restorer_word}
-use Rattle.cet_own.proofs.Counters.{CountsBy, no_count, LeavesCounters}
+use Rattle.cet_own.specs.Past.{next_word, draw_word, restorer_word}
+use Rattle.cet_own.proofs.Counters.{CountsBy, no_count, LeavesCounters, alters}
 use Rattle.cet_own.specs.Stands.{OwnWord, own_slot, below_token}
 use Rattle.cet_own.proofs.Still.{KeepsRestorers}
 use Rattle.cet_own.proofs.ClassLaws.{one_book, sound_after, wrote, exchange_does, exchange_fails, holds_gate, holds_end}

@@ -1,5 +1,5 @@
 -- What an access does to the counter of draws and to that of threads, and births. Source: own.
-use Rattle.std.proofs.Common.{◌≡◌, ◌≢◌, ℕ, ◌+◌, ◌^◌, ◌<◌, ◌≤◌, false, List, [], ◌∷◌, None}
+use Rattle.std.proofs.Common.{◌≡◌, ◌≢◌, ℕ, ◌+◌, ◌^◌, ◌<◌, ◌≤◌, Bool, false, List, [], ◌∷◌, None}
 use Rattle.std.specs.Prelude.{slice_index}
 use Rattle.cet_words.specs.Change.{Change, Born}
 use Rattle.cet_words.specs.declared.accesses.Access.{Access}
@@ -10,7 +10,12 @@ use Rattle.cet_book.proofs.Kept.{NoneBorn}
 use Rattle.cet_page.specs.Script.{birth}
 use Rattle.cet_own.proofs.Standing.{HasNone}
 use Rattle.cet_page.specs.Trail.{Visit}
-use Rattle.cet_own.specs.Past.{draw_word, next_word, alters, drew, numbered}
+use Rattle.cet_own.specs.Past.{touches, draw_word, next_word, drew, numbered}
+
+-- the access may write the word
+abbrev pub alters : Access → (word : ℕ) → Bool
+alters (access.Load word) w = false
+alters a w = touches a w
 
 -- t makes region s for the child, which has nothing: eight pages from this start on
 pub record Bears (t child s start : ℕ) (b : Book) : Type 0 where

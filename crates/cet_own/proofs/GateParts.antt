@@ -25,7 +25,8 @@ use Rattle.cet_own.specs.Stands.{below_token}
 use Rattle.cet_own.proofs.Owed.{State, own_stack}
 use Rattle.cet_own.proofs.Classes.{refused, settles, reloads, enters, leaves, exits}
 use Rattle.cet_own.proofs.Parts.{Claim, one_after, claim_bind, peek_then}
-use Rattle.cet_own.specs.Past.{Progress, progress, untouched, left_in, below_frame}
+use Rattle.cet_own.specs.Past.{left_in, below_frame}
+use Rattle.cet_own.proofs.Progress.{Progress, progress, untouched}
 use Rattle.cet_page.specs.Trail.{Visit}
 use Rattle.cet_own.proofs.Resting.{Resting, rest_kept, Inside, inside_kept, inside_left, rest_stacked, inside_stacked}
 

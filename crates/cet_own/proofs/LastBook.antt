@@ -192,7 +192,7 @@ one_thread (x ∷ []) e = (x, refl)
 one_thread (x ∷ y ∷ l) e = absurd (omega arith)
 
 core_none : (job : JobData) (s : State) (thread : Thread) (over : Option End) (status : ℕ) → over ≡ Some (ending.Exit status) → CoreStands job 0 s thread.core over → HasNone 0 s.book
-core_none job s thread over status e h = subst (CoreStands job 0 s thread.core) e h
+core_none job s thread over status e h = (let ended = subst (CoreStands job 0 s thread.core) e h in ended.0)
 
 ended_at : (job : JobData) (s : State) (thread : Thread) (over : Option End) (e : End) → over ≡ Some e → CoreStands job 0 s thread.core over → KeepsStack over → thread.core.arch.ssp ≡ tops s.book (current_of 0 s.book)
 ended_at job s thread None e is h k = cc

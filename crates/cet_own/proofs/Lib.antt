@@ -14,6 +14,7 @@ pub mod Classes
 pub mod Changed
 pub mod HeldAfter
 pub mod Places
+pub mod Progress
 pub mod Resting
 pub mod Parts
 pub mod OperandParts

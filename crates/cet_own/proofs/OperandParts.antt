@@ -18,7 +18,7 @@ use Rattle.cet_own.proofs.Owed.{State}
 use Rattle.cet_own.proofs.Classes.{loads, stores}
 use Rattle.cet_own.proofs.Parts.{Claim, claim_bind, tested_then, look_then, store_look_then}
 use Rattle.cet_own.proofs.Places.{page_word}
-use Rattle.cet_own.specs.Past.{progress, untouched}
+use Rattle.cet_own.proofs.Progress.{progress, untouched}
 use Rattle.cet_page.specs.Trail.{Visit}
 use Rattle.cet_own.proofs.Resting.{Resting, rest_kept, rest_stacked}
 

@@ -28,8 +28,8 @@ use Rattle.cet_page.specs.Trail.{Visit, row_trail, trail_of}
 use Rattle.cet_own.proofs.Frame.{OnCame}
 use Rattle.cet_own.proofs.Owed.{State, rules}
 use Rattle.cet_own.proofs.Parts.{During, Fails}
-use Rattle.cet_own.specs.Past.{draw_word, next_word, alters, is_draw, drew, is_number, numbered}
-use Rattle.cet_own.proofs.Counters.{CountsBy, no_count, draws_pages, bears_child, bears_nobody, CountersTell}
+use Rattle.cet_own.specs.Past.{draw_word, next_word, is_draw, drew, is_number, numbered}
+use Rattle.cet_own.proofs.Counters.{CountsBy, no_count, draws_pages, bears_child, bears_nobody, CountersTell, alters}
 use Rattle.cet_own.proofs.Standing.{HasNone}
 use Rattle.cet_own.specs.Stands.{paid_births, paid_draws, thread_births, thread_draws}
 

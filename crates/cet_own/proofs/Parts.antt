@@ -30,7 +30,8 @@ use Rattle.cet_own.proofs.Owed.{State, state_after, Known, rules}
 use Rattle.cet_own.specs.ExitWord.{IsEnding}
 use Rattle.cet_own.proofs.Classes.{looks, loads, stores as stored, exchanges, finishes, swaps, adds, clears as cleared}
 use Rattle.cet_own.proofs.Places.{store_page, entry_there, shadow_page, in_page}
-use Rattle.cet_own.specs.Past.{Progress, progress, untouched, left_in, frame_pushed, below_frame}
+use Rattle.cet_own.specs.Past.{left_in, frame_pushed, below_frame}
+use Rattle.cet_own.proofs.Progress.{Progress, progress, untouched}
 use Rattle.cet_page.specs.Trail.{Visit, visit}
 use Rattle.cet_own.proofs.Resting.{Resting, rest_kept, Inside, inside_kept, inside_left, rest_stacked, inside_stacked, rested}
 

@@ -6,7 +6,8 @@ use Rattle.cet_book.specs.Book.{Book, stack_of}
 use Rattle.cet_book.proofs.Relies.{Relies}
 use Rattle.cet_own.proofs.Standing.{Stacked, stacked_kept, free_kept, AtRest}
 use Rattle.cet_book.proofs.Held.{Free}
-use Rattle.cet_own.specs.Past.{Progress, untouched, below_frame}
+use Rattle.cet_own.specs.Past.{below_frame}
+use Rattle.cet_own.proofs.Progress.{Progress, untouched}
 
 -- it holds no supervisor stack, and the row has done d
 pub record Resting (t : ℕ) (d now : Progress) (b : Book) (ssp : ℕ) : Type 0 where

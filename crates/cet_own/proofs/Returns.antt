@@ -36,7 +36,7 @@ use Rattle.cet_own.proofs.Classes.{loads, pops}
 use Rattle.cet_own.proofs.Parts.{Claim, one_after, claim_bind, tested_then, look_then, shadow_look_then, load_then}
 use Rattle.cet_own.proofs.Places.{shadow_slot, above_is, entry_at}
 use Rattle.cet_own.proofs.Calls.{entries_of, EndsRow, own_kept}
-use Rattle.cet_own.specs.Past.{progress, untouched}
+use Rattle.cet_own.proofs.Progress.{progress, untouched}
 use Rattle.cet_page.specs.Trail.{Visit, visit}
 use Rattle.cet_own.proofs.Resting.{Resting, rest_kept, rest_stacked, rested}
 

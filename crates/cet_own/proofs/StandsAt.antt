@@ -6,6 +6,7 @@ use Rattle.std.proofs.lemmas.Nat.{or_block}
 use Rattle.std.proofs.lemmas.Bool.Decides.{eqb_tells}
 use Rattle.cet_words.specs.Job.{JobData}
 use Rattle.cet_isa.specs.declared.threads.End.{End}
+use Rattle.cet_isa.specs.declared.threads.End.TheVariants as ending
 use Rattle.cet_book.specs.Book.{Book, region, top}
 use Rattle.cet_book.specs.Facts.{In, Place}
 use Rattle.cet_book.specs.Stack.{slot_word}
@@ -50,7 +51,9 @@ token_found words b p h place = (
 
 core_at : (job : JobData) (t : ℕ) (s : State) (thread : Thread) (over : Option End) → CoreStands job t s thread.core over → CoreAt job thread.core over
 core_at job t s thread None h = h.waits
-core_at job t s thread (Some e) h = tt
+core_at job t s thread (Some (ending.Exit status)) h = h.1
+core_at job t s thread (Some ending.Group) h = h.2
+core_at job t s thread (Some ending.Limit) h = h.2
 
 core_below : (job : JobData) (t : ℕ) (s : State) (thread : Thread) (over : Option End) → over ≡ None → CoreStands job t s thread.core over → thread.core.arch.count < job.limit
 core_below job t s thread None e h = h.waits.count

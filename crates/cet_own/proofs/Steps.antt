@@ -27,7 +27,7 @@ use Rattle.cet_own.proofs.Owed.{State}
 use Rattle.cet_own.proofs.Parts.{Fails, Claim, claim_cond, exchange_then, swap_then, fetch_add_then}
 use Rattle.cet_own.proofs.OperandParts.{load_at_then, write_place_then, store_at_then, read_operand_then}
 use Rattle.cet_own.proofs.Calls.{EndsRow}
-use Rattle.cet_own.specs.Past.{Progress, progress, untouched}
+use Rattle.cet_own.proofs.Progress.{Progress, progress, untouched}
 use Rattle.cet_page.specs.Trail.{Visit}
 use Rattle.cet_own.proofs.Resting.{Resting, rest_kept, rest_stacked, rested}
 

@@ -98,7 +98,7 @@ none_current t i b h n e =
 
 core_keeps : (job : JobData) (t i : ℕ) (s : State) (core : Core) (over : Option End) → Shape s.book → CoreStands job t s core over → (region s.book i).holder ≡ Current t → KeepsStack over
 core_keeps job t i s core None sh h e = tt
-core_keeps job t i s core (Some (ending.Exit status)) sh h e = none_current t i s.book sh h e
+core_keeps job t i s core (Some (ending.Exit status)) sh h e = none_current t i s.book sh h.0 e
 core_keeps job t i s core (Some ending.Group) sh h e = tt
 core_keeps job t i s core (Some ending.Limit) sh h e = tt
 
@@ -333,14 +333,14 @@ module _ (job : JobData) (j : IsJob job) (m : Machine) (t : ℕ) (s : State) (th
       made_by d p y x (other n q none) = p.bounds x.core.arch.made (st.made y x q)
       made_by d p y x (newcomer c) = c.made
 
-  pub acts : (own : ℕ → List Change) → ThreadStands job t s (Some thread) → InRow job t s thread.core → come job thread.core.arch thread.core.seen ≡ Wants a own → TurnedBy job m t s thread (Some a)
-  acts own at r w =
+  pub acts : (changes : ℕ → List Change) → ThreadStands job t s (Some thread) → InRow job t s thread.core → come job thread.core.arch thread.core.seen ≡ Wants a changes → TurnedBy job m t s thread (Some a)
+  acts changes at r w =
       let inside = slice_get_within m.threads t thread e in
       let before = counters_tell job m.words m.threads t thread s.book j st.paid e (λ y q. subst (ThreadStands job y s) q (st.threads y)) in
-      let d = led job j m.words t s thread.core a own before st.holds (st.still t thread e) at.0 r w in
+      let d = led job j m.words t s thread.core a changes before st.holds (st.still t thread e) at.0 r w in
       let size = st.holds.size in
       let uncounted = d.owed.uncounted m.words refl st.holds in
-      let bore = child_taken job thread.core (answer m.words a) a own w in
+      let bore = child_taken job thread.core (answer m.words a) a changes w in
       let waits = subst (ChildAt job) bore (child_at job thread.core (answer m.words a) r.waits) in
       let p = enlisted job j (after m.words a) s d.next m.threads t moved inside m.words a thread.core.arch (trail_of job thread.core) changes_now refl size st.holds.sound.book.shape d.is st.paid.least before.nexts st.paid.number d.others waits (d.owed.counts m.words refl st.holds) in
       record {

@@ -1,4 +1,4 @@
--- What is read off the trail of a row: what it left in a word, what it may still lean on, and what it has done so far.
+-- What is read off the trail of a row: what it left in a word, what it may still lean on, and what it has counted.
 -- Source: own.
 use Rattle.std.specs.Prelude.{ℕ, ◌+◌, ◌-◌, ◌*◌, ◌%◌, ◌^◌, Bool, true, false, ◌||◌, ◌&&◌, nat_lt, ◌==◌, if◌then◌else◌, bit_or, bit_and, List, [], ◌∷◌, Option, Some, None}
 use Rattle.cet_words.specs.Layout.{action_word, draw_shadow_word, next_thread_word}
@@ -21,11 +21,6 @@ touches (access.FetchAdd word value) w = word == w
 touches (access.FetchOr word value) w = word == w
 touches (access.FetchAnd word value) w = word == w
 touches (access.CompareExchange word expected value) w = word == w
-
--- the access may write the word
-abbrev pub alters : Access → (word : ℕ) → Bool
-alters (access.Load word) w = false
-alters a w = touches a w
 
 -- what stands in the word of an access after it, by its answer
 abbrev pub leaves_word : Access → (answer : ℕ) → ℕ
@@ -121,17 +116,3 @@ is_number a = false
 abbrev pub numbered : List Visit → Bool
 numbered [] = false
 numbered (x ∷ past) = is_number x.access || numbered past
-
--- ---- what a row has done
-
--- All that claims need to know of it: a further fact of the kind is a further field.
-pub record Progress : Type 0 where
-  pub framed : Bool
-  pub drawing : Bool
-  pub numbering : Bool
-
-abbrev pub progress : List Visit → Progress
-progress past = record { framed = frame_pushed past; drawing = drew past; numbering = numbered past }
-
-abbrev pub untouched : Progress
-untouched = record { framed = false; drawing = false; numbering = false }
