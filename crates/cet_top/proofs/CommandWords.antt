@@ -6,7 +6,8 @@ use Rattle.std.proofs.lemmas.Bool.Decides.{Decides-ltb}
 use Rattle.std.proofs.lemmas.Option.{slice_get_within, slice_get-get_or, slice_get-map, get_or_from_slice_get}
 use Rattle.cet_base.proofs.NumberLaws.{number_of-decimal}
 use Rattle.cet_top.specs.Grammar.{CommandRow, FaultyWord, Given, IsAmong, IsIn, IsLine}
-use Rattle.cet_top.specs.Reader.{Reader, find_command, may_end, start, step, steps}
+use Rattle.cet_top.specs.Reader.{Reader, find_command, may_end, start, step}
+use Rattle.cet_top.proofs.ReaderSteps.{steps}
 use Rattle.cet_top.specs.Settings.{SettingsData}
 use Rattle.cet_top.specs.Words.{IsCommand, Means, command_of, commands, defaults, settings_of, with_operand, with_option}
 use Rattle.cet_top.specs.declared.options.OptionName.{OptionName}

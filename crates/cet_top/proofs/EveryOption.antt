@@ -7,7 +7,8 @@ use Rattle.std.specs.Str.{bytes_eq}
 use Rattle.std.proofs.lemmas.List.{append-nil, length-append}
 use Rattle.cet_base.specs.Numbers.{number_of}
 use Rattle.cet_top.specs.Grammar.{CommandRow, FaultyWord, IsAmong, IsIn, OptionRow, Value}
-use Rattle.cet_top.specs.Reader.{Reader, find_command, may_end, start, step, steps}
+use Rattle.cet_top.specs.Reader.{Reader, find_command, may_end, start, step}
+use Rattle.cet_top.proofs.ReaderSteps.{steps}
 use Rattle.cet_top.specs.Words.{number_within}
 use Rattle.cet_top.proofs.FaultyLines.{misses, no_command, no_word, stops}
 use Rattle.cet_top.proofs.Tables.{command_among, good_table}

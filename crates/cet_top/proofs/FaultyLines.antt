@@ -3,7 +3,8 @@ use Rattle.std.proofs.Common.{ℕ, ◌+◌, ◌<◌, ◌≤◌, ◌≡◌, Bool,
 use Rattle.std.specs.Prelude.{option_and_then}
 use Rattle.std.proofs.lemmas.List.{take_at}
 use Rattle.cet_top.specs.Grammar.{Begins, CommandRow, FaultyWord, Given, IsAmong, IsIn, IsLine}
-use Rattle.cet_top.specs.Reader.{Reader, find_command, may_end, start, step, steps}
+use Rattle.cet_top.specs.Reader.{Reader, find_command, may_end, start, step}
+use Rattle.cet_top.proofs.ReaderSteps.{steps}
 use Rattle.cet_top.proofs.Faulty.{accepted_begins, faulty_after, faulty_here}
 use Rattle.cet_top.proofs.LineReads.{Led, Line, goes_on, line_read, read_line}
 use Rattle.cet_top.proofs.Tables.{command_found, good_among, good_table}

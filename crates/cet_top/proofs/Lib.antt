@@ -1,3 +1,4 @@
+pub mod ReaderSteps
 mod Appended
 mod Signs
 mod Tables

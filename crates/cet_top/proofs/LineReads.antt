@@ -4,7 +4,8 @@ use Rattle.std.specs.Prelude.{option_and_then, slice_set, fold, map, nat_lt, ◌
 use Rattle.std.specs.List.{list_all}
 use Rattle.std.proofs.lemmas.Bool.{and_parts}
 use Rattle.cet_top.specs.Grammar.{AreApart, AreOptions, AreTaken, AreValues, CommandRow, Given, HasAll, IsAmong, IsLine, IsSpelled, NoneOf, OptionRow, Value}
-use Rattle.cet_top.specs.Reader.{Reader, back, ends_by, filled_by, find_option, front, is_filled, is_open, may_end, none_filled, start, step, steps}
+use Rattle.cet_top.specs.Reader.{Reader, back, ends_by, filled_by, find_option, front, is_filled, is_open, may_end, none_filled, start, step}
+use Rattle.cet_top.proofs.ReaderSteps.{steps}
 use Rattle.cet_top.proofs.Filled.{AllOpen, HasEach, Room, fill, fill_all, filled_here, filled_still, has_all, has_more, has_now, open_before, open_first, room_more, still_open}
 use Rattle.cet_top.proofs.Signs.{back_joined, back_none, front_joined, front_whole}
 use Rattle.cet_top.proofs.Tables.{GoodOption, GoodRow, good_values, has_example}

@@ -4,7 +4,8 @@ use Rattle.std.specs.Prelude.{option_and_then, slice_set, ◌⊎◌, nat_lt}
 use Rattle.std.proofs.lemmas.Bool.{and_parts}
 use Rattle.std.proofs.lemmas.Option.{cond_some}
 use Rattle.cet_top.specs.Grammar.{CommandRow, IsAmong, OptionRow, Value}
-use Rattle.cet_top.specs.Reader.{Reader, back, filled_by, find_option, front, is_open, none_filled, operand_step, option_begins, option_by, start, step, step_by, steps, value_step}
+use Rattle.cet_top.specs.Reader.{Reader, back, filled_by, find_option, front, is_open, none_filled, operand_step, option_begins, option_by, start, step, step_by, value_step}
+use Rattle.cet_top.proofs.ReaderSteps.{steps}
 use Rattle.cet_top.proofs.Filled.{Room, opens, opens_less, room_first, room_more}
 use Rattle.cet_top.proofs.Signs.{parted_word, whole_word}
 use Rattle.cet_top.proofs.Tables.{GoodRow, good_values, option_found}

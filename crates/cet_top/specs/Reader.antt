@@ -83,7 +83,3 @@ module _ {C O S : Type 0} (with_operand : S → List ℕ → S) (with_option : S
   -- one word more; none where no line goes on with it
   abbrev pub step : Reader C O S → (word : List ℕ) → Option (Reader C O S)
   step r word = step_by r r.wants r.operands word
-
-  abbrev pub steps : Reader C O S → (words : List (List ℕ)) → Option (Reader C O S)
-  steps r [] = Some r
-  steps r (w ∷ ws) = option_and_then (λ s. steps s ws) (step r w)
