@@ -1,4 +1,7 @@
 //! Reading by the maps of opcodes, so that only the rows that may begin so are tried.
+//!
+//! The functions on the way of most instructions are inlined, since their results are large: handed on
+//! by copies they would cost more than the decoding itself.
 
 ghost use Rattle.std.specs.Prelude.{◌≡◌, slice_get};
 ghost use Rattle.std.specs.Option.{option_copied};
@@ -16,6 +19,7 @@ use cet_isa::Instr;
 use cet_rows::Rows;
 
 /// The row with this number, where it takes REX and the bytes behind the opcode.
+#[inline(always)]
 fn taker<'r>(rows: &'r [Form], number: u8, rex: u8, bytes: &[u8]) -> Option<&'r Form>
     ensures { option_copied result ≡ taker (slice_get rows.now number) rex bytes.now }
 {
@@ -32,6 +36,7 @@ fn taker<'r>(rows: &'r [Form], number: u8, rex: u8, bytes: &[u8]) -> Option<&'r 
 }
 
 /// The first of the rows with these numbers that takes REX and the bytes behind the opcode.
+#[inline(always)]
 #[tactic(auto, unfolding(crate::specs::Lead::chosen))]
 fn choose<'r>(rows: &'r [Form], numbers: &[u8], rex: u8, bytes: &[u8]) -> Option<&'r Form>
     ensures { option_copied result ≡ chosen rows.now numbers.now rex bytes.now }
@@ -45,6 +50,7 @@ fn choose<'r>(rows: &'r [Form], numbers: &[u8], rex: u8, bytes: &[u8]) -> Option
     None
 }
 
+#[inline(always)]
 fn read_chosen<'a>(rows: &[Form], numbers: &[u8], lead: Lead<'a>) -> Result<(Instr, &'a [u8]), Miss>
     ensures { Gives (λ x. (x.0, x.1.now)) result (chosen_at rows.now numbers.now lead.entry.rex lead.entry.opcode lead.entry.rest.now) }
 {
@@ -54,6 +60,7 @@ fn read_chosen<'a>(rows: &[Form], numbers: &[u8], lead: Lead<'a>) -> Result<(Ins
     }
 }
 
+#[inline(always)]
 fn read_mapped<'a>(
     rows: &[Form],
     map: &[u8],
@@ -71,6 +78,7 @@ fn read_mapped<'a>(
     }
 }
 
+#[inline(always)]
 fn read_lead<'a>(lead: Lead<'a>) -> Result<(Instr, &'a [u8]), Miss>
     ensures { Gives (λ x. (x.0, x.1.now)) result (chosen_at FORMS (mapped_by lead.entry.escaped ONE_BYTE TWO_BYTE PICKS lead.entry.opcode) lead.entry.rex lead.entry.opcode lead.entry.rest.now) }
 {

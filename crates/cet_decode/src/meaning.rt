@@ -175,6 +175,7 @@ fn shadow(kind: Shadow, x: &Parts, imm: &[u8]) -> Instr
 }
 
 /// The instruction of this kind with these fields and this immediate.
+#[inline(always)]
 pub fn instr(kind: &Kind, x: &Parts, imm: &[u8]) -> Instr
     ensures { result ≡ instr_of (kind_view kind.now) (fields_view x.now imm.now) }
 {

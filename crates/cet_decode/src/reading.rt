@@ -92,6 +92,7 @@ fn bytes_of(count: usize, bytes: &[u8]) -> Result<(&[u8], &[u8]), Miss>
 }
 
 /// What mod and rm name, by the SIB and displacement that follow.
+#[inline(always)]
 #[tactic(auto, using(crate::proofs::LeadLaws::operand_at_zero))]
 fn operand_behind(rex: u8, modrm: u8, bytes: &[u8]) -> Result<(Operand, &[u8]), Miss>
     ensures { Gives (λ x. (x.0, x.1.now)) result (operand_behind rex modrm bytes.now) }
@@ -169,6 +170,7 @@ fn read_allowed<'a>(form: &Form, rex: Rex, bytes: &'a [u8]) -> Result<(Instr, &'
 }
 
 /// An instruction by a row, from the byte behind its opcode on; REX is 0 where there is none.
+#[inline(always)]
 #[tactic(auto, unfolding(crate::specs::Lead::row_behind))]
 pub fn read_behind<'a>(
     form: &Form,
