@@ -147,8 +147,7 @@ run_same job o p a b =
 
 reported_same : (job : JobData) (s t : Status) (x y : List ℕ) → Reports job (ByRobin job) style.Full s x → Reports job (ByRobin job) style.Full t y → One s t x y
 reported_same job s t x y a b =
-    let same = run_same job a.outcome b.outcome a.ran b.ran in
-    (
+    let same = run_same job a.outcome b.outcome a.ran b.ran in (
       a.told.ends ∙ ap (λ (o : Outcome). status_of o.process) same ∙ sym b.told.ends,
       a.told.reports ∙ ap (λ (o : Outcome). report_of o style.Full) same ∙ sym b.told.reports,
     )

@@ -61,8 +61,7 @@ faulty_first word words none = commanded (word ∷ words) 1 (no_command with_ope
 take_next : (xs : List (List ℕ)) (i : ℕ) (x : List ℕ) → slice_get xs i ≡ Some x → (take (i + 1) xs ≡ take i xs ++ x ∷ []) × (drop i xs ≡ x ∷ drop (i + 1) xs) × (length (take i xs) ≡ i) × (i < length xs)
 take_next xs i x e =
     let l = slice_get_within xs i x e in
-    let here : get_or xs i x ≡ x = get_or_from_slice_get xs i x x e in
-    (
+    let here : get_or xs i x ≡ x = get_or_from_slice_get xs i x x e in (
       take_more xs i x l ∙ ap (λ (y : List ℕ). take i xs ++ y ∷ []) here,
       drop_more xs i x l ∙ ap (λ (y : List ℕ). y ∷ drop (i + 1) xs) here,
       length-take-le i xs (omega arith),

@@ -295,9 +295,6 @@ module _ {C O S : Type 0} (with_operand : S → List ℕ → S) (with_option : S
             )
       ]
 
-
-
-
   then_goes : (r next : Reader C O S) (words : List (List ℕ)) → steps with_operand with_option r words ≡ Some next → GoesOn next → GoesOn r
   then_goes r next words e g = record {
     words = words ++ g.words;
