@@ -1,7 +1,7 @@
 -- The maps name for each opcode the rows that may begin so, and `PREFIXED` for each prefix.
-use Rattle.std.proofs.Common.{◌≡◌, ℕ, ◌/◌, ◌<◌, Bool, true, false, not, ◌||◌, cond, eqb, List, [], ◌∷◌, Option, Some, None, Ok, Err, refl, sym, ap, subst, ◌∙◌, arith, ◌⊎◌, inl, inr, ◌&&◌}
+use Rattle.std.proofs.Common.{◌≡◌, ℕ, ◌/◌, ◌<◌, Bool, true, false, not, ◌||◌, cond, eqb, List, [], ◌∷◌, Option, Some, None, Ok, Err, refl, sym, ap, subst, ◌∙◌, arith, inl, inr, ◌&&◌}
 use Rattle.std.proofs.lemmas.Bool.{agree_below, agree_below_at, and_parts, or_cases, eq-eqb, eqb-true}
-use Rattle.cet_isa.specs.Form.{Pattern, Rex, NoRex, ClearRex, SetRex, byte}
+use Rattle.cet_isa.specs.Form.{Pattern, NoRex, ClearRex, SetRex, byte}
 use Rattle.cet_isa.specs.Forms.{forms}
 use Rattle.cet_isa.specs.Spells.{has}
 use Rattle.cet_isa.specs.Reader.{Differs, IsBytes}
@@ -12,7 +12,7 @@ use Rattle.cet_decode.specs.declared.maps.TheConstants.{ONE_BYTE, TWO_BYTE, PICK
 use Rattle.cet_decode.specs.Index.{picks_at, some_at}
 use Rattle.cet_decode.specs.Lead.{LeadData, lead, is_prefix, behind_escape, behind_rex, lead_at, long_key, key_at, chosen_at, mapped_by}
 use Rattle.cet_decode.proofs.Narrowing.{names_all, by_numbers}
-use Rattle.cet_decode.proofs.LeadLaws.{clear_rex, set_rex, escaped_by, RexIs, fits_all, led_is, led_at, all_apart, chosen_is}
+use Rattle.cet_decode.proofs.LeadLaws.{clear_rex, set_rex, escaped_by, fits_all, led_is, led_at, all_apart, chosen_is}
 
 -- ---- what is tested of the tables, by computation
 

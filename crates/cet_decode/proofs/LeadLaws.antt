@@ -1,7 +1,7 @@
 -- A row whose first bytes stand there reads on behind its opcode, by the REX prefix that stands there alone.
 use Rattle.std.proofs.Common.{◌≡◌, ℕ, ◌/◌, ◌%◌, ◌<◌, Bool, true, false, not, ◌&&◌, ◌||◌, cond, eqb, List, [], ◌∷◌, Option, Some, None, Result, Ok, Err, refl, sym, ap, ◌∙◌, ◌⊎◌, inl, inr, pos, arith, take, drop, length}
 use Rattle.std.specs.Prelude.{slice_get, slice_index}
-use Rattle.std.proofs.lemmas.Bool.{agree_below, agree_below_at, and_parts, and_cases, or_cases, not-true, le-ltb}
+use Rattle.std.proofs.lemmas.Bool.{agree_below_at, and_parts, and_cases, or_cases, not-true, le-ltb}
 use Rattle.cet_isa.specs.declared.instructions.Instr.{Instr}
 use Rattle.cet_isa.specs.Form.{Pattern, Rex, NoRex, ClearRex, SetRex}
 use Rattle.cet_isa.specs.Form as table
