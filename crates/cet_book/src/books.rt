@@ -56,7 +56,8 @@ impl Book {
         })
     }
 
-    /// AppliedTo an event. A refusal changes nothing.
+    /// Makes the change that an event stands for. `NotLegal` exactly where the book has no such event, also when memory is
+    /// short; a refusal changes nothing.
     pub fn apply(&mut self, alloc: Global, event: &Event) -> Result<(), BookFault>
         ensures { Applied result self.old self.new (book_step self.old event.now) }
     {
