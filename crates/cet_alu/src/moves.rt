@@ -97,7 +97,7 @@ pub fn cmov(
 }
 
 /// LEA.
-pub fn load_address(arch: &Arch, size: Size, reg: Reg, mem: Mem, next: u64) -> (Arch, Record)
+pub fn lea(arch: &Arch, size: Size, reg: Reg, mem: Mem, next: u64) -> (Arch, Record)
     requires { arch.now.count < 2 ^ 32 - 1 }
     ensures { result ≡ assigned arch.now reg (effective arch.now mem next % limit size) next }
 {

@@ -6,7 +6,7 @@ ghost use Rattle.cet_page.specs.Script.{play};
 ghost use Rattle.cet_page.specs.Plays.{Comes};
 ghost use Rattle.cet_page.specs.Operands.{register, stepped, assigned, settled};
 ghost use Rattle.cet_page.specs.Values.{bits, limit, sum, difference, keeping, ones_complement, shifted_left, shifted_right, shifted_arithmetic};
-ghost use Rattle.cet_page.specs.Arithmetic.{carry, alu, test, multiply, with_carry, shift_count, shift};
+ghost use Rattle.cet_page.specs.Arithmetic.{carry, alu, test, imul, with_carry, shift_count, shift};
 
 use crate::values::{
     bits, difference, keeping, logical, ones_complement, operation, product, shifted_arithmetic,
@@ -68,8 +68,8 @@ pub fn test(
 }
 
 /// IMUL of two operands.
-#[tactic(auto, using(cet_page::proofs::ScriptLaws::play_bind), unfolding(cet_page::specs::Arithmetic::multiply))]
-pub fn multiply(
+#[tactic(auto, using(cet_page::proofs::ScriptLaws::play_bind), unfolding(cet_page::specs::Arithmetic::imul))]
+pub fn imul(
     arch: &Arch,
     size: Size,
     reg: Reg,
@@ -78,7 +78,7 @@ pub fn multiply(
     at: &mut Cursor,
 ) -> Result<(Arch, Record), Stop>
     requires { arch.now.count < 2 ^ 32 - 1 }
-    ensures { Comes (play (multiply arch.now size reg src next) at.old.left at.old.rest.now) result at.new.left at.new.rest.now }
+    ensures { Comes (play (imul arch.now size reg src next) at.old.left at.old.rest.now) result at.new.left at.new.rest.now }
 {
     let y = at.read_operand(arch, size, src, next)?;
     let computed = product(size, register_of(arch, size, reg), y);
@@ -86,7 +86,7 @@ pub fn multiply(
 }
 
 /// INC.
-pub fn increment(arch: &Arch, size: Size, reg: Reg, next: u64) -> (Arch, Record)
+pub fn inc(arch: &Arch, size: Size, reg: Reg, next: u64) -> (Arch, Record)
     requires { arch.now.count < 2 ^ 32 - 1 }
     ensures { result ≡ settled arch.now reg (keeping (carry arch.now) (sum size (register arch.now reg % limit size) 1 0)) next }
 {
@@ -95,7 +95,7 @@ pub fn increment(arch: &Arch, size: Size, reg: Reg, next: u64) -> (Arch, Record)
 }
 
 /// DEC.
-pub fn decrement(arch: &Arch, size: Size, reg: Reg, next: u64) -> (Arch, Record)
+pub fn dec(arch: &Arch, size: Size, reg: Reg, next: u64) -> (Arch, Record)
     requires { arch.now.count < 2 ^ 32 - 1 }
     ensures { result ≡ settled arch.now reg (keeping (carry arch.now) (difference size (register arch.now reg % limit size) 1 0)) next }
 {
@@ -104,7 +104,7 @@ pub fn decrement(arch: &Arch, size: Size, reg: Reg, next: u64) -> (Arch, Record)
 }
 
 /// NOT.
-pub fn invert(arch: &Arch, size: Size, reg: Reg, next: u64) -> (Arch, Record)
+pub fn not(arch: &Arch, size: Size, reg: Reg, next: u64) -> (Arch, Record)
     requires { arch.now.count < 2 ^ 32 - 1 }
     ensures { result ≡ assigned arch.now reg (ones_complement size (register arch.now reg % limit size)) next }
 {
@@ -117,7 +117,7 @@ pub fn invert(arch: &Arch, size: Size, reg: Reg, next: u64) -> (Arch, Record)
 }
 
 /// NEG.
-pub fn negate(arch: &Arch, size: Size, reg: Reg, next: u64) -> (Arch, Record)
+pub fn neg(arch: &Arch, size: Size, reg: Reg, next: u64) -> (Arch, Record)
     requires { arch.now.count < 2 ^ 32 - 1 }
     ensures { result ≡ settled arch.now reg (difference size 0 (register arch.now reg % limit size) 0) next }
 {
@@ -138,7 +138,7 @@ fn shift_count(arch: &Arch, size: Size, count: Count) -> u32
 }
 
 /// SHL.
-pub fn shift_left(arch: &Arch, size: Size, reg: Reg, count: Count, next: u64) -> (Arch, Record)
+pub fn shl(arch: &Arch, size: Size, reg: Reg, count: Count, next: u64) -> (Arch, Record)
     requires { arch.now.count < 2 ^ 32 - 1 }
     ensures { result ≡ shift arch.now size reg (shift_count arch.now size count) (shifted_left size (register arch.now reg % limit size) (shift_count arch.now size count)) next }
 {
@@ -151,7 +151,7 @@ pub fn shift_left(arch: &Arch, size: Size, reg: Reg, count: Count, next: u64) ->
 }
 
 /// SHR.
-pub fn shift_right(arch: &Arch, size: Size, reg: Reg, count: Count, next: u64) -> (Arch, Record)
+pub fn shr(arch: &Arch, size: Size, reg: Reg, count: Count, next: u64) -> (Arch, Record)
     requires { arch.now.count < 2 ^ 32 - 1 }
     ensures { result ≡ shift arch.now size reg (shift_count arch.now size count) (shifted_right size (register arch.now reg % limit size) (shift_count arch.now size count)) next }
 {
@@ -164,13 +164,7 @@ pub fn shift_right(arch: &Arch, size: Size, reg: Reg, count: Count, next: u64) -
 }
 
 /// SAR.
-pub fn shift_arithmetic(
-    arch: &Arch,
-    size: Size,
-    reg: Reg,
-    count: Count,
-    next: u64,
-) -> (Arch, Record)
+pub fn sar(arch: &Arch, size: Size, reg: Reg, count: Count, next: u64) -> (Arch, Record)
     requires { arch.now.count < 2 ^ 32 - 1 }
     ensures { result ≡ shift arch.now size reg (shift_count arch.now size count) (shifted_arithmetic size (register arch.now reg % limit size) (shift_count arch.now size count)) next }
 {

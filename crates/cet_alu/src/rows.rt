@@ -10,11 +10,8 @@ ghost use Rattle.cet_page.specs.Row.{next_address};
 ghost use Rattle.cet_page.specs.Arithmetic.{arithmetic};
 
 use crate::locked::{lock_cmpxchg, lock_xadd, xchg};
-use crate::moves::{cmov, load_address, mov, movsxd, movzx};
-use crate::operations::{
-    alu, decrement, increment, invert, multiply, negate, set_carry, shift_arithmetic, shift_left,
-    shift_right, test,
-};
+use crate::moves::{cmov, lea, mov, movsxd, movzx};
+use crate::operations::{alu, dec, imul, inc, neg, not, sar, set_carry, shl, shr, test};
 use cet_decode::instruction_length;
 use cet_isa::{Arch, Instr, Record};
 use cet_page::{Cursor, Next, Stop, Vals, assigned, invalid_opcode, next_address, stepped};
@@ -39,18 +36,18 @@ pub fn follow(
         Instr::MovWide { dst, value } => Ok(assigned(arch, dst, value, next)),
         Instr::MovZero8 { dst, src } => movzx(arch, dst, src, next, at),
         Instr::MovSign32 { dst, src } => movsxd(arch, dst, src, next, at),
-        Instr::Lea { size, dst, src } => Ok(load_address(arch, size, dst, src, next)),
+        Instr::Lea { size, dst, src } => Ok(lea(arch, size, dst, src, next)),
         Instr::Xchg { dst, reg } => xchg(arch, dst, reg, next, at),
         Instr::LockXadd { mem, reg } => lock_xadd(arch, mem, reg, next, at),
         Instr::LockCmpxchg { mem, reg } => lock_cmpxchg(arch, mem, reg, next, at),
-        Instr::Inc { size, reg } => Ok(increment(arch, size, reg, next)),
-        Instr::Dec { size, reg } => Ok(decrement(arch, size, reg, next)),
-        Instr::Not { size, reg } => Ok(invert(arch, size, reg, next)),
-        Instr::Neg { size, reg } => Ok(negate(arch, size, reg, next)),
-        Instr::Imul { size, dst, src } => multiply(arch, size, dst, src, next, at),
-        Instr::Shl { size, reg, count } => Ok(shift_left(arch, size, reg, count, next)),
-        Instr::Shr { size, reg, count } => Ok(shift_right(arch, size, reg, count, next)),
-        Instr::Sar { size, reg, count } => Ok(shift_arithmetic(arch, size, reg, count, next)),
+        Instr::Inc { size, reg } => Ok(inc(arch, size, reg, next)),
+        Instr::Dec { size, reg } => Ok(dec(arch, size, reg, next)),
+        Instr::Not { size, reg } => Ok(not(arch, size, reg, next)),
+        Instr::Neg { size, reg } => Ok(neg(arch, size, reg, next)),
+        Instr::Imul { size, dst, src } => imul(arch, size, dst, src, next, at),
+        Instr::Shl { size, reg, count } => Ok(shl(arch, size, reg, count, next)),
+        Instr::Shr { size, reg, count } => Ok(shr(arch, size, reg, count, next)),
+        Instr::Sar { size, reg, count } => Ok(sar(arch, size, reg, count, next)),
         Instr::Cmov {
             cond,
             size,

@@ -17,7 +17,7 @@ use Rattle.cet_isa.specs.declared.instructions.Size.{Size}
 use Rattle.cet_isa.specs.declared.instructions.Size.TheVariants as size
 use Rattle.cet_isa.specs.declared.threads.Arch.{Arch}
 use Rattle.cet_page.specs.declared.flags.Computed.{Computed}
-use Rattle.cet_page.specs.Arithmetic.{operated, alu, test, multiply, move, movzx, movsxd, cmov, xchg, lock_xadd, lock_cmpxchg, shift_count, arithmetic}
+use Rattle.cet_page.specs.Arithmetic.{operated, alu, test, imul, move, movzx, movsxd, cmov, xchg, lock_xadd, lock_cmpxchg, shift_count, arithmetic}
 use Rattle.cet_page.specs.Flow.{push, pop, leave, jump_indirect}
 use Rattle.cet_page.specs.Operands.{register, assigned, settled}
 use Rattle.cet_page.specs.Parts.{invalid_opcode}
@@ -77,9 +77,9 @@ module _ (job : JobData) (arch : Arch) (free : IsElsewhere job arch) where
       read_operand_then job arch (EndsRow job arch) past before s sz dst next _ rest (λ p z n rest1 x.
       read_operand_then job arch (EndsRow job arch) p z n sz src next _ rest1 (λ p' z' n' rest2 y. (rested rest2, λ held now. free, tt)))
 
-  multiply_claim : (past : List Visit) (before s : State) (sz : Size) (r : Reg) (src : Operand) (next : ℕ) → Resting arch.number untouched (progress past) s.book arch.ssp → Claim job arch (EndsRow job arch) past before s (multiply arch sz r src next)
-  unfolding multiply
-  multiply_claim past before s sz r src next rest =
+  imul_claim : (past : List Visit) (before s : State) (sz : Size) (r : Reg) (src : Operand) (next : ℕ) → Resting arch.number untouched (progress past) s.book arch.ssp → Claim job arch (EndsRow job arch) past before s (imul arch sz r src next)
+  unfolding imul
+  imul_claim past before s sz r src next rest =
       read_operand_then job arch (EndsRow job arch) past before s sz src next _ rest (λ p z n rest1 y. (rested rest1, λ held now. free, tt))
 
   move_claim : (past : List Visit) (before s : State) (sz : Size) (dst src : Operand) (next : ℕ) → Resting arch.number untouched (progress past) s.book arch.ssp → Claim job arch (EndsRow job arch) past before s (move arch sz dst src next)
@@ -150,7 +150,7 @@ module _ (job : JobData) (arch : Arch) (free : IsElsewhere job arch) where
   arithmetic_claim past before s (instr.Dec sz r) next rest = (rested rest, λ held now. free, tt)
   arithmetic_claim past before s (instr.Not sz r) next rest = (rested rest, λ held now. free, tt)
   arithmetic_claim past before s (instr.Neg sz r) next rest = (rested rest, λ held now. free, tt)
-  arithmetic_claim past before s (instr.Imul sz r src) next rest = multiply_claim past before s sz r src next rest
+  arithmetic_claim past before s (instr.Imul sz r src) next rest = imul_claim past before s sz r src next rest
   arithmetic_claim past before s (instr.Shl sz r c) next rest = shift_ends past before s sz r (shifted_left sz (register arch r % limit sz) (shift_count arch sz c)) next (shift_count arch sz c == 0) rest
   arithmetic_claim past before s (instr.Shr sz r c) next rest = shift_ends past before s sz r (shifted_right sz (register arch r % limit sz) (shift_count arch sz c)) next (shift_count arch sz c == 0) rest
   arithmetic_claim past before s (instr.Sar sz r c) next rest = shift_ends past before s sz r (shifted_arithmetic sz (register arch r % limit sz) (shift_count arch sz c)) next (shift_count arch sz c == 0) rest

@@ -27,7 +27,7 @@ use Rattle.cet_page.specs.declared.families.Family.{Family}
 use Rattle.cet_page.specs.declared.families.Family.TheVariants as families
 use Rattle.cet_page.specs.declared.flags.Computed.{Computed}
 use Rattle.cet_page.specs.Family.{family_of}
-use Rattle.cet_page.specs.Arithmetic.{operated, alu, test, multiply, move, movzx, movsxd, cmov, xchg, lock_xadd, lock_cmpxchg, arithmetic}
+use Rattle.cet_page.specs.Arithmetic.{operated, alu, test, imul, move, movzx, movsxd, cmov, xchg, lock_xadd, lock_cmpxchg, arithmetic}
 use Rattle.cet_page.specs.Flow.{call, call_next, call_indirect, ret, push, pop, leave, jump_indirect, flow}
 use Rattle.cet_page.specs.Gate.{gate_in, entered, exit, exit_group, syscall, kill, delivery, deliver}
 use Rattle.cet_page.specs.Fetch.{missing, missing_in}
@@ -123,7 +123,7 @@ walk_xchg arch (operand.Imm z) r next = search rules depth 99 fits 9000
 ruleset arithmetic_rules = (rules, walk_operated, walk_move, walk_xchg)
 
 pub walk_arithmetic : (arch : Arch) (i : Instr) (next : ℕ) → Walk 2 2 false (EndsRow arch) (arithmetic arch i next)
-unfolding alu test multiply movzx movsxd cmov lock_xadd lock_cmpxchg
+unfolding alu test imul movzx movsxd cmov lock_xadd lock_cmpxchg
 walk_arithmetic arch (instr.Mov s dst src) next = search arithmetic_rules depth 99 fits 9000
 walk_arithmetic arch i next = search arithmetic_rules depth 99 fits 9000
 

@@ -51,8 +51,8 @@ test arch s dst src next = do
   y ← read_operand arch s src next
   done (compared arch (logical s (bit_and x y)) next)
 
-unfoldable pub multiply : Arch → Size → Reg → (src : Operand) → (next : ℕ) → Row
-multiply arch s r src next = do
+unfoldable pub imul : Arch → Size → Reg → (src : Operand) → (next : ℕ) → Row
+imul arch s r src next = do
   y ← read_operand arch s src next
   done (settled arch r (product s (register arch r % limit s) y) next)
 
@@ -146,7 +146,7 @@ arithmetic arch (instr.Inc s r) next = done (settled arch r (keeping (carry arch
 arithmetic arch (instr.Dec s r) next = done (settled arch r (keeping (carry arch) (difference s (register arch r % limit s) 1 0)) next)
 arithmetic arch (instr.Not s r) next = done (assigned arch r (ones_complement s (register arch r % limit s)) next)
 arithmetic arch (instr.Neg s r) next = done (settled arch r (difference s 0 (register arch r % limit s) 0) next)
-arithmetic arch (instr.Imul s r src) next = multiply arch s r src next
+arithmetic arch (instr.Imul s r src) next = imul arch s r src next
 arithmetic arch (instr.Shl s r c) next = done (shift arch s r (shift_count arch s c) (shifted_left s (register arch r % limit s) (shift_count arch s c)) next)
 arithmetic arch (instr.Shr s r c) next = done (shift arch s r (shift_count arch s c) (shifted_right s (register arch r % limit s) (shift_count arch s c)) next)
 arithmetic arch (instr.Sar s r c) next = done (shift arch s r (shift_count arch s c) (shifted_arithmetic s (register arch r % limit s) (shift_count arch s c)) next)
