@@ -235,7 +235,6 @@ event_of b t Ended = event.Ended t
 event_of b t (Busied stack) = event.Busied t stack
 event_of b t (Freed stack) = event.Freed t stack
 
-
 -- the book after a change by a thread: that after its event
 abbrev pub book_after : ℕ → Book → Change → Option Book
 book_after t b c = book_step b (event_of b t c)
