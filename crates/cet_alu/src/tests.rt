@@ -9,7 +9,7 @@ use cet_isa::Size::{Dword, Qword};
 use cet_isa::{
     AluOp, Arch, Base, Cond, Count, Fault, FaultName, Instr, Mem, Operand, Record, Reg, Size, What,
 };
-use cet_page::{Cursor, Next, Stop, Vals, with_register};
+use cet_page::{Cursor, Mark, Next, Stop, Vals, with_register};
 use cet_words::{Access, Bytes, Image, Job, NoMemory, Segment, Segments};
 use std::alloc::Global;
 use std::test::Fail;
@@ -257,7 +257,7 @@ fn faults_of_memory(rt: HostRuntime) {
     let locked = Instr::LockCmpxchg { mem, reg };
     // The entry that a page of the main stack has, but with U clear, and with W clear.
     let (kernel, read_only) = (0x8000_0000_0053_f063, 0x8000_0000_0053_f025);
-    let look = Stop::Access(Access::Look(1087));
+    let look = Stop::Access(Access::Look(1087), Mark::Plain);
     // An instruction, RCX, the answers that it has had, and where it stops.
     let rows: [(Instr, u64, &[u64], Stop); 9] = [
         (load, 0x8000_0000_0001, &[], fault(FaultName::Gp, 0, 0, 0)),

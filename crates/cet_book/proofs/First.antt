@@ -29,7 +29,8 @@ first_shape = record {
   chain = λ q s. ap (links s) (first_empty q) ∙ sym (first_all (λ i r. one (is_left q r.holder) ≡ 0) refl (λ i. refl) s);
 }
 
-no_stack : (k : ℕ) → stack_of first_book k ≡ None
+-- no supervisor stack has a holder
+pub no_stack : (k : ℕ) → stack_of first_book k ≡ None
 no_stack zero = refl
 no_stack (suc zero) = refl
 no_stack (suc (suc zero)) = refl

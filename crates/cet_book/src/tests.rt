@@ -3,7 +3,10 @@
 ghost use Rattle.std.specs.Prelude.{◌≤◌, ◌<◌};
 
 use super::*;
-use cet_words::{Access, FIRST_SHADOW_WORD, Image, Perform, Plain, SHADOW_START, Segments};
+use cet_words::{
+    Access, Bytes, FIRST_SHADOW_WORD, Image, NoMemory, Perform, Plain, SHADOW_START, Segment,
+    Segments,
+};
 use std::alloc::Global;
 use std::process::Abort;
 use std::test::Fail;
@@ -306,16 +309,29 @@ fn sketch_report(alloc: Global, reports: &StackReports) -> Result<String, Fail> 
     Ok(text)
 }
 
-#[test]
-fn odd_words(rt: HostRuntime) -> Result<(), Fail> {
-    let alloc = rt.alloc();
-    let image = Image {
+/// An image of one page of code.
+fn image(alloc: Global) -> Result<Image, NoMemory> {
+    let segment = Segment {
+        start: 0x401000,
+        bytes: Bytes::new(alloc),
+        size: 16,
+        write: false,
+        exec: true,
+    };
+    let mut segments = Segments::new(alloc);
+    segments.push(alloc, segment)?;
+    Ok(Image {
         entry: 0x401000,
         marked: true,
         tracked: false,
-        segments: Segments::new(alloc),
-    };
-    let mut words = Plain::new(alloc, &image)?;
+        segments,
+    })
+}
+
+#[test]
+fn odd_words(rt: HostRuntime) -> Result<(), Fail> {
+    let alloc = rt.alloc();
+    let mut words = Plain::new(alloc, &image(alloc)?)?;
     // thread 0's stack leads to the second, and that one to it, to itself, between two stacks and into the fourth
     put(&mut words, 0x2_0000_1ff8, 0x2_0000_3fd8 + 3);
     put(&mut words, 0x2_0000_3fd8, 0x2_0000_1ff8 + 3);

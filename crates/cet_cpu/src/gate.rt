@@ -267,7 +267,7 @@ fn kill(arch: &Arch, signal: u8, at: &mut Cursor) -> Result<(Arch, Record, Leavi
     Ok(killed(arch, signal, before))
 }
 
-/// The delivery of the signal of a due fault: the kill, after a look at its handler unless it is masked.
+/// The delivery of the signal of a due fault: the kill, after a load of its handler unless it is masked.
 #[tactic(auto, using(cet_page::proofs::ScriptLaws::play_bind), unfolding(cet_page::specs::Gate::delivery))]
 fn delivery(arch: &Arch, signal: u8, at: &mut Cursor) -> Result<(Arch, Record, Leaving), Stop>
     requires low { 0 < signal }

@@ -1,3 +1,5 @@
+//! A short thread, access by access, on the words of an image.
+
 ghost use Rattle.std.specs.Prelude.{◌≤◌, length};
 ghost use Rattle.cet_cpu.specs.Cpu.{IsCpu};
 

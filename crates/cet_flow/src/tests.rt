@@ -1,3 +1,5 @@
+//! Accesses, records and faults of calls, returns, pushes, pops and jumps, written out.
+
 ghost use Rattle.std.specs.Prelude.{◌<◌, ◌-◌, ◌^◌, ◌≤◌, length};
 
 use super::*;

@@ -12,7 +12,7 @@ use Rattle.cet_book.specs.declared.entries.Holder.TheVariants.{Parked, Current}
 use Rattle.cet_book.specs.Book.{region, top, current_of, stack_of, first_book}
 use Rattle.cet_book.proofs.Addresses.{first_returns}
 use Rattle.cet_book.proofs.Edits.{current_holds}
-use Rattle.cet_book.proofs.First.{first_empty, first_current, first_is_book}
+use Rattle.cet_book.proofs.First.{no_stack, first_empty, first_current, first_is_book}
 use Rattle.cet_book.specs.Stack.{slot, slot_word, tops}
 use Rattle.cet_book.specs.Facts.{Stack, Place, LiesIn}
 use Rattle.cet_page.specs.Core.{first_core, unheld}
@@ -92,17 +92,6 @@ token_start k l =
     let r : (1535 + 1024 * k) % 1024 ≡ 511 = omega arith in
     let d : ((1535 + 1024 * k) % 1024 == 511) ≡ true = grind (arith, nat_tests) in
     rw (a, b, c, d) (omega arith)
-
-no_stack : (k : ℕ) → stack_of first_book k ≡ None
-no_stack zero = refl
-no_stack (suc zero) = refl
-no_stack (suc (suc zero)) = refl
-no_stack (suc (suc (suc zero))) = refl
-no_stack (suc (suc (suc (suc zero)))) = refl
-no_stack (suc (suc (suc (suc (suc zero))))) = refl
-no_stack (suc (suc (suc (suc (suc (suc zero)))))) = refl
-no_stack (suc (suc (suc (suc (suc (suc (suc zero))))))) = refl
-no_stack (suc (suc (suc (suc (suc (suc (suc (suc k)))))))) = refl
 
 first_gates : (image : ImageData) (words : List ℕ) → IsStart image words → Gates words first_book
 unfolding start_word

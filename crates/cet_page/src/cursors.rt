@@ -20,7 +20,8 @@ pub enum Mark {
     Takes(u8),
     /// It gives the supervisor stack back that the thread holds.
     Gives,
-    /// It bears the thread whose number is the answer, with its shadow stack from this address on.
+    /// Where the answer is below 32, it bears the thread of that number, with its shadow stack from this
+    /// address on.
     Bears(u64),
 }
 

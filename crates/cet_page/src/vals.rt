@@ -7,7 +7,7 @@ use crate::cursors::Cursor;
 use cet_words::Access;
 use std::marker::Model;
 
-/// How many values a row keeps at most. The rows that keep most keep 6 (EXIT, PEND, and up to four looks,
+/// How many values a row keeps at most. The rows that keep most keep 7 (EXIT, PEND, and up to five looks,
 /// loads and exchanges); services that exchange more words are to come.
 const MOST_KEPT: usize = 32;
 

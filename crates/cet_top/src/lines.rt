@@ -1,3 +1,5 @@
+//! The lines of a report, word by word.
+
 ghost use Rattle.std.specs.Prelude.{◌≡◌, ◌++◌, map, OnOk};
 ghost use Rattle.std.specs.List.{flat_map};
 ghost use Rattle.cet_top.specs.Line.{word_text, spaced, line};

@@ -1,3 +1,5 @@
+//! What a run has come to: records, ends and shadow stacks, and how they are to be shown.
+
 ghost use Rattle.std.specs.Prelude.{◌≡◌, [], ◌∷◌, ◌++◌, length, OnOk, OnErr, slice_get};
 
 use cet_isa::{End, Record};

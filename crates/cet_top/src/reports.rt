@@ -1,3 +1,5 @@
+//! The text of a report.
+
 ghost use Rattle.std.specs.Prelude.{◌≡◌, ◌++◌, drop, OnOk, IfOk};
 ghost use Rattle.std.specs.List.{flat_map, enumerate_from};
 ghost use Rattle.cet_top.specs.Line.{line};

@@ -1,3 +1,5 @@
+//! How a command ended, with its exit code and its line.
+
 ghost use Rattle.std.specs.Prelude.{◌≡◌};
 ghost use Rattle.cet_top.specs.Status.{status_code};
 

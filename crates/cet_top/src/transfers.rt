@@ -1,3 +1,5 @@
+//! All of a source read, and all of an output written.
+
 ghost use Rattle.std.specs.Prelude.{◌≡◌, ◌<◌, ◌≤◌, length, IfOk, OnOk, OnErr, IsErrOf};
 ghost use Rattle.cet_io.specs.Stream.{HasCause, AppendsSome};
 ghost use Rattle.cet_top.specs.Reading.{ReadSome, ReadToEnd, ReadTooMuch, ReadUntilFault, source_state};

@@ -3,4 +3,4 @@ use Rattle.cet_book.proofs.Readable.{readable}
 use Rattle.cet_book.proofs.tests.odd_words.Goals as goal
 
 pub report_of_words-requires : goal.report_of_words-requires
-report_of_words-requires c = readable _ _ refl refl
+report_of_words-requires c c' = readable _ _ refl refl
