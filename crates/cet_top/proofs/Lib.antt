@@ -13,7 +13,7 @@ mod Listed
 mod Known
 mod InputReads
 mod Steps
-mod LiveGuests
+mod LiveThreads
 mod WordsFrom
 mod QuietTraces
 mod ScheduleLaws

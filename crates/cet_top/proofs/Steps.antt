@@ -13,7 +13,7 @@ use Rattle.cet_page.specs.Machine.{Machine, Thread, machine, thread_after, with_
 use Rattle.cet_page.specs.Within.{Waits}
 use Rattle.cet_page.proofs.WithinLaws.{no_child, waiting}
 use Rattle.cet_cpu.specs.Cpu.{IsCpu}
-use Rattle.cet_top.specs.Guests.{GuestData, AllGuests, left_to, thread_of, threads_of}
+use Rattle.cet_top.specs.TracedThreads.{TracedThreadData, AllTraced, left_to, thread_of, threads_of}
 use Rattle.cet_top.specs.Schedule.{IsRobin, next_turn}
 use Rattle.cet_top.specs.Turns.{IsGoing, Robined, thread_left, total_left}
 use Rattle.cet_top.proofs.TurnLaws.{Leads}
@@ -47,27 +47,27 @@ pub lead_ends : (job : JobData) (start now : Machine) (last : Option ℕ) (turns
 lead_ends job start now last turns h n =
     record { turns = turns; robin = subst (IsRobin job start None) (append-nil turns) (h.1 [] n); ran = h.0 }
 
--- ---- guests and their threads
+-- ---- threads with what is kept beside them
 
-thread_here : (guests : List GuestData) (t : ℕ) (guest : GuestData) → slice_get guests t ≡ Some guest → slice_get (threads_of guests) t ≡ Some (thread_of guest)
-thread_here guests t guest i = slice_get-map thread_of guests t ∙ ap (option_map thread_of) i
+thread_here : (all_traced : List TracedThreadData) (t : ℕ) (traced : TracedThreadData) → slice_get all_traced t ≡ Some traced → slice_get (threads_of all_traced) t ≡ Some (thread_of traced)
+thread_here all_traced t traced i = slice_get-map thread_of all_traced t ∙ ap (option_map thread_of) i
 
-pub guest_step : (job : JobData) (words words' : List ℕ) (guests : List GuestData) (t : ℕ) (guest guest' : GuestData) (a : Access) → slice_get guests t ≡ Some guest → next_access job guest.cpu.core ≡ Some a → words' ≡ after words a → thread_of guest' ≡ thread_after (thread_of guest) (taken job guest.cpu.core (answer words a)) → machine words' (threads_of (slice_set guests t guest')) ≡ step job (machine words (threads_of guests)) t
-guest_step job words words' guests t guest guest' a i n w e =
-    ap (machine words') (map-set thread_of guests t guest')
-    ∙ turn_step job words words' (threads_of guests) t (thread_of guest) (thread_of guest') a (thread_here guests t guest i) n w e
+pub traced_step : (job : JobData) (words words' : List ℕ) (all_traced : List TracedThreadData) (t : ℕ) (traced traced' : TracedThreadData) (a : Access) → slice_get all_traced t ≡ Some traced → next_access job traced.cpu.core ≡ Some a → words' ≡ after words a → thread_of traced' ≡ thread_after (thread_of traced) (taken job traced.cpu.core (answer words a)) → machine words' (threads_of (slice_set all_traced t traced')) ≡ step job (machine words (threads_of all_traced)) t
+traced_step job words words' all_traced t traced traced' a i n w e =
+    ap (machine words') (map-set thread_of all_traced t traced')
+    ∙ turn_step job words words' (threads_of all_traced) t (thread_of traced) (thread_of traced') a (thread_here all_traced t traced i) n w e
 
-pub guest_falls : (job : JobData) (guests : List GuestData) (t value : ℕ) (guest guest' : GuestData) → t < length guests → slice_get guests t ≡ Some guest → IsCpu job guest.cpu → guest.cpu.core.over ≡ None → thread_of guest' ≡ thread_after (thread_of guest) (taken job guest.cpu.core value) → left_to job (slice_set guests t guest') < left_to job guests
-guest_falls job guests t value guest guest' l i h o e =
-    let below : t < length (threads_of guests) = subst (λ n. t < n) (sym (length-map guests thread_of)) l in
-    subst (λ threads. total_left job threads < left_to job guests) (sym (map-set thread_of guests t guest'))
-    (turn_falls job (threads_of guests) t value (thread_of guest) (thread_of guest') below (thread_here guests t guest i) (waiting job guest.cpu.core h.state o) o e)
+pub traced_falls : (job : JobData) (all_traced : List TracedThreadData) (t value : ℕ) (traced traced' : TracedThreadData) → t < length all_traced → slice_get all_traced t ≡ Some traced → IsCpu job traced.cpu → traced.cpu.core.over ≡ None → thread_of traced' ≡ thread_after (thread_of traced) (taken job traced.cpu.core value) → left_to job (slice_set all_traced t traced') < left_to job all_traced
+traced_falls job all_traced t value traced traced' l i h o e =
+    let below : t < length (threads_of all_traced) = subst (λ n. t < n) (sym (length-map all_traced thread_of)) l in
+    subst (λ threads. total_left job threads < left_to job all_traced) (sym (map-set thread_of all_traced t traced'))
+    (turn_falls job (threads_of all_traced) t value (thread_of traced) (thread_of traced') below (thread_here all_traced t traced i) (waiting job traced.cpu.core h.state o) o e)
 
-pub over_here : (guests : List GuestData) (t : ℕ) (guest : GuestData) → slice_get guests t ≡ Some guest → IsGoing (threads_of guests) t → guest.cpu.core.over ≡ None
-over_here guests t guest i w =
-    let e : thread_of guest ≡ w.0 = let h = thread_here guests t guest i in cc (h, w.1) in
+pub over_here : (all_traced : List TracedThreadData) (t : ℕ) (traced : TracedThreadData) → slice_get all_traced t ≡ Some traced → IsGoing (threads_of all_traced) t → traced.cpu.core.over ≡ None
+over_here all_traced t traced i w =
+    let e : thread_of traced ≡ w.0 = let h = thread_here all_traced t traced i in cc (h, w.1) in
     ap (λ (x : Thread). x.core.over) e ∙ w.2
 
-pub cpu_here : (job : JobData) (guests : List GuestData) (t : ℕ) (guest : GuestData) → AllGuests job guests → t < length guests → slice_get guests t ≡ Some guest → IsCpu job guest.cpu
-cpu_here job guests t guest a l i =
-    subst (λ (x : GuestData). IsCpu job x.cpu) (get_or_from_slice_get guests t guest guest i) (a t guest l)
+pub cpu_here : (job : JobData) (all_traced : List TracedThreadData) (t : ℕ) (traced : TracedThreadData) → AllTraced job all_traced → t < length all_traced → slice_get all_traced t ≡ Some traced → IsCpu job traced.cpu
+cpu_here job all_traced t traced a l i =
+    subst (λ (x : TracedThreadData). IsCpu job x.cpu) (get_or_from_slice_get all_traced t traced traced i) (a t traced l)

@@ -9,7 +9,7 @@ pub mod Line
 pub mod Report
 pub mod Schedule
 pub mod Turns
-pub mod Guests
+pub mod TracedThreads
 pub mod Outcome
 pub mod FirstStack
 pub mod Shown

@@ -2,11 +2,11 @@
 
 ghost use Rattle.std.specs.Prelude.{◌≡◌, ◌<◌, ◌≤◌, length, map, IfOk, IfSome};
 ghost use Rattle.cet_own.specs.ExitWord.{IsExitWord};
-ghost use Rattle.cet_top.specs.Guests.{threads_of};
+ghost use Rattle.cet_top.specs.TracedThreads.{threads_of};
 ghost use Rattle.cet_top.specs.Outcome.{first_limit, first_status, process_end, thread_out, status_in, ended_by};
 
-use crate::guests::Guest;
 use crate::outcomes::{ProcessEnd, ThreadOut, ThreadOuts};
+use crate::traced_threads::TracedThread;
 use cet_isa::End;
 use cet_words::NoMemory;
 use std::alloc::Global;
@@ -59,12 +59,15 @@ pub(crate) fn process_end(exit: u64, outs: &[ThreadOut]) -> ProcessEnd
 }
 
 /// The threads of a finished run, by number.
-pub(crate) fn thread_outs(alloc: Global, mut guests: Vec<Guest>) -> Result<ThreadOuts, NoMemory>
-    ensures { IfOk result (λ outs. outs ≡ map thread_out (threads_of guests.items)) }
+pub(crate) fn thread_outs(
+    alloc: Global,
+    mut all_traced: Vec<TracedThread>,
+) -> Result<ThreadOuts, NoMemory>
+    ensures { IfOk result (λ outs. outs ≡ map thread_out (threads_of all_traced.items)) }
 {
     let mut outs = ThreadOuts::new(alloc);
-    'threads: while !guests.is_empty() {
-        outs.push(alloc, guests.remove(0).out())?;
+    'threads: while !all_traced.is_empty() {
+        outs.push(alloc, all_traced.remove(0).out())?;
     }
     Ok(outs)
 }

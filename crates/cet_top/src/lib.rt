@@ -4,7 +4,6 @@
 mod commands;
 mod ends;
 mod grammar;
-mod guests;
 mod laws;
 mod lines;
 mod listing;
@@ -20,6 +19,7 @@ mod stacks;
 mod status;
 #[cfg(test)]
 mod tests;
+mod traced_threads;
 mod transfers;
 mod turns;
 mod words;

@@ -7,12 +7,12 @@ ghost use Rattle.cet_own.specs.ExitWord.{IsExitWord};
 ghost use Rattle.cet_top.specs.FirstStack.{KeepsFirsts, first_stacks, read_outcome};
 ghost use Rattle.cet_top.specs.SafeRun.{SafeRun};
 ghost use Rattle.cet_top.specs.Schedule.{ByRobin};
-ghost use Rattle.cet_top.specs.Guests.{AllGuests, threads_of};
+ghost use Rattle.cet_top.specs.TracedThreads.{AllTraced, threads_of};
 
 use crate::ends::{process_end, thread_outs};
-use crate::guests::Guest;
 use crate::outcomes::{Outcome, StackReports};
 use crate::stacks::first_stack;
+use crate::traced_threads::TracedThread;
 use crate::turns::robin;
 use cet_cpu::first;
 use cet_isa::End;
@@ -23,16 +23,16 @@ use std::alloc::Global;
 fn first_stacks<P: Perform>(
     alloc: Global,
     words: &mut P,
-    guests: &[Guest],
+    all_traced: &[TracedThread],
 ) -> Result<StackReports, NoMemory>
-    requires { KeepsFirsts (threads_of guests.now) }
+    requires { KeepsFirsts (threads_of all_traced.now) }
     ensures same { P.words words.new ≡ P.words words.old }
-    ensures stacks { IfOk result (λ stacks. stacks ≡ first_stacks (P.words words.old) (threads_of guests.now)) }
+    ensures stacks { IfOk result (λ stacks. stacks ≡ first_stacks (P.words words.old) (threads_of all_traced.now)) }
 {
     let mut stacks = StackReports::new(alloc);
-    if let [guest, ..] = guests {
-        let end = guest.end().unwrap_or(End::Group);
-        stacks.push(alloc, first_stack(alloc, words, end, guest.ssp())?)?;
+    if let [traced, ..] = all_traced {
+        let end = traced.end().unwrap_or(End::Group);
+        stacks.push(alloc, first_stack(alloc, words, end, traced.ssp())?)?;
     }
     Ok(stacks)
 }
@@ -41,16 +41,16 @@ fn first_stacks<P: Perform>(
 fn read_outcome<P: Perform>(
     alloc: Global,
     words: &mut P,
-    guests: Vec<Guest>,
+    all_traced: Vec<TracedThread>,
 ) -> Result<Outcome, NoMemory>
-    requires keeps { KeepsFirsts (threads_of guests.items) }
-    requires few { length guests.items ≤ 32 }
+    requires keeps { KeepsFirsts (threads_of all_traced.items) }
+    requires few { length all_traced.items ≤ 32 }
     requires word { IsExitWord (slice_index (P.words words.old) exit_word) }
-    ensures { IfOk result (λ outcome. outcome ≡ read_outcome (P.words words.old) (threads_of guests.items)) }
+    ensures { IfOk result (λ outcome. outcome ≡ read_outcome (P.words words.old) (threads_of all_traced.items)) }
 {
     let exit = words.perform(Access::Load(EXIT_WORD));
-    let stacks = first_stacks(alloc, words, guests.as_slice())?;
-    let threads = thread_outs(alloc, guests)?;
+    let stacks = first_stacks(alloc, words, all_traced.as_slice())?;
+    let threads = thread_outs(alloc, all_traced)?;
     let process = process_end(exit, threads.as_slice());
     Ok(Outcome {
         threads,
@@ -60,14 +60,14 @@ fn read_outcome<P: Perform>(
 }
 
 /// The start of a job: the start words, and thread 0.
-fn start(alloc: Global, job: &Job) -> Result<(Plain, Vec<Guest>), NoMemory>
+fn start(alloc: Global, job: &Job) -> Result<(Plain, Vec<TracedThread>), NoMemory>
     ensures starts { IfOk result (λ at. Starts job.now (machine at.0 (threads_of at.1.items))) }
-    ensures cores { IfOk result (λ at. AllGuests job.now at.1.items) }
+    ensures cores { IfOk result (λ at. AllTraced job.now at.1.items) }
 {
     let words = Plain::new(alloc, job.image)?;
-    let mut guests = Vec::new(alloc);
-    guests.push(Guest::new(alloc, first(job)))?;
-    Ok((words, guests))
+    let mut all_traced = Vec::new(alloc);
+    all_traced.push(TracedThread::new(alloc, first(job)))?;
+    Ok((words, all_traced))
 }
 
 /// Gives the threads turns by Robin until each has ended.
@@ -75,22 +75,22 @@ fn finish(
     alloc: Global,
     job: &Job,
     mut words: Plain,
-    mut guests: Vec<Guest>,
+    mut all_traced: Vec<TracedThread>,
 ) -> Result<Outcome, NoMemory>
-    requires starts { Starts job.now (machine words (threads_of guests.items)) }
-    requires cores { AllGuests job.now guests.items }
+    requires starts { Starts job.now (machine words (threads_of all_traced.items)) }
+    requires cores { AllTraced job.now all_traced.items }
     ensures { IfOk result (SafeRun job.now (ByRobin job.now)) }
 {
     // The job's invariant holds of it from here on.
     let _limit = job.limit;
-    robin(alloc, job, &mut words, &mut guests)?;
-    read_outcome(alloc, &mut words, guests)
+    robin(alloc, job, &mut words, &mut all_traced)?;
+    read_outcome(alloc, &mut words, all_traced)
 }
 
 /// Runs a job by Robin from its start until every thread has ended.
 pub(crate) fn run(alloc: Global, job: &Job) -> Result<Outcome, NoMemory>
     ensures { IfOk result (SafeRun job.now (ByRobin job.now)) }
 {
-    let (words, guests) = start(alloc, job)?;
-    finish(alloc, job, words, guests)
+    let (words, all_traced) = start(alloc, job)?;
+    finish(alloc, job, words, all_traced)
 }

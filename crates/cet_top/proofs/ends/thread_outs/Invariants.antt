@@ -1,11 +1,11 @@
 use Rattle.std.proofs.Common.{◌≡◌, ◌++◌, length}
 use Rattle.std.specs.Prelude.{map}
-use Rattle.cet_top.specs.Guests.{threads_of}
+use Rattle.cet_top.specs.TracedThreads.{threads_of}
 use Rattle.cet_top.specs.Outcome.{thread_out}
 use Rattle.cet_top.proofs.ends.thread_outs.Given as goal
 
 abbrev pub invariant-threads : goal.invariant-threads
-invariant-threads l = l.outs ++ map thread_out (threads_of l.guests.items) ≡ map thread_out (threads_of l.fn.guests.items)
+invariant-threads l = l.outs ++ map thread_out (threads_of l.all_traced.items) ≡ map thread_out (threads_of l.fn.all_traced.items)
 
 abbrev pub decreases-threads : goal.decreases-threads
-decreases-threads l = length l.guests.items
+decreases-threads l = length l.all_traced.items

@@ -4,7 +4,7 @@ use Rattle.std.proofs.lemmas.Result.{IfOk-weaker}
 use Rattle.cet_words.specs.Job.{IsJob}
 use Rattle.cet_own.proofs.LastBook.{last_book}
 use Rattle.cet_own.proofs.Run.{exit_run, safe_run}
-use Rattle.cet_top.specs.Guests.{thread_of}
+use Rattle.cet_top.specs.TracedThreads.{thread_of}
 use Rattle.cet_top.proofs.Finished.{ended_exit, ended_keeps, ended_ran}
 use Rattle.cet_top.proofs.runs.finish.Goals as goal
 
@@ -16,7 +16,7 @@ read_outcome-requires-clause-keeps c =
 pub read_outcome-requires-clause-few : goal.read_outcome-requires-clause-few
 read_outcome-requires-clause-few c =
     let job = subst IsJob c.job.view_is c.job.invariant in
-    subst (λ n. n ≤ 32) (length-map c.robin.new.guests.items thread_of) (ended_keeps _ _ _ _ (λ turns. last_book _ _ turns job c.requires.starts) c.in_ok-robin.ensures.ran).1
+    subst (λ n. n ≤ 32) (length-map c.robin.new.all_traced.items thread_of) (ended_keeps _ _ _ _ (λ turns. last_book _ _ turns job c.requires.starts) c.in_ok-robin.ensures.ran).1
 
 pub read_outcome-requires-clause-word : goal.read_outcome-requires-clause-word
 read_outcome-requires-clause-word c =

@@ -1,4 +1,4 @@
-//! A guest thread with its records.
+//! A thread with its records.
 
 ghost use Rattle.std.specs.Prelude.{◌≡◌, [], Some, None, OnOk};
 ghost use Rattle.cet_words.specs.Access.{answer, after};
@@ -6,7 +6,7 @@ ghost use Rattle.cet_words.specs.declared.accesses.Access.{Access};
 ghost use Rattle.cet_page.specs.Core.{next_access, taken};
 ghost use Rattle.cet_page.specs.Machine.{thread_after};
 ghost use Rattle.cet_cpu.specs.Cpu.{IsCpu};
-ghost use Rattle.cet_top.specs.Guests.{thread_of};
+ghost use Rattle.cet_top.specs.TracedThreads.{thread_of};
 ghost use Rattle.cet_top.specs.Outcome.{thread_out};
 
 use crate::outcomes::{Records, ThreadOut};
@@ -16,27 +16,27 @@ use cet_words::{Job, NoMemory, Perform};
 use std::alloc::Global;
 use std::marker::Model;
 
-/// A guest thread and its records so far.
+/// A thread and its records so far.
 #[derive(Drop)]
-pub struct Guest {
+pub struct TracedThread {
     cpu: Cpu,
     records: Records,
 }
 
-impl Model for Guest {
-    ghost use Rattle.cet_top.specs.Guests.{GuestData};
+impl Model for TracedThread {
+    ghost use Rattle.cet_top.specs.TracedThreads.{TracedThreadData};
 
-    ghost Value = { GuestData };
+    ghost Value = { TracedThreadData };
 
     ghost view = { λ g. record { cpu = g.cpu; trace = g.records } };
 }
 
-impl Guest {
+impl TracedThread {
     /// A thread before its first record.
-    pub fn new(alloc: Global, cpu: Cpu) -> Guest
+    pub fn new(alloc: Global, cpu: Cpu) -> TracedThread
         ensures { result ≡ record { cpu = cpu; trace = [] } }
     {
-        Guest {
+        TracedThread {
             cpu,
             records: Records::new(alloc),
         }
@@ -61,7 +61,7 @@ impl Guest {
         ensures { result ≡ thread_out (thread_of self) }
     {
         let end = self.end().unwrap_or(End::Group);
-        let Guest { cpu: _, records } = self;
+        let TracedThread { cpu: _, records } = self;
         ThreadOut { records, end }
     }
 
