@@ -5,3 +5,4 @@ pub mod ExitWord
 pub mod Safe
 pub mod Restores
 pub mod Stands
+pub mod Told
