@@ -1,3 +1,4 @@
 mod Narrowing
 mod LeadLaws
 mod IndexLaws
+mod RowLaws

@@ -1,13 +1,17 @@
 //! The decoder's answer.
 
-ghost use Rattle.std.specs.Prelude.{◌≡◌, ℕ, ◌<◌, ◌≤◌, List, length};
+ghost use Rattle.std.specs.Prelude.{◌≡◌, ℕ, ◌<◌, ◌≤◌, List, length, Err};
 ghost use Rattle.cet_isa.specs.declared.instructions.Instr.{Instr};
 ghost use Rattle.cet_isa.specs.Spells.{Spells};
-ghost use Rattle.cet_isa.specs.Reading.{decoded, read_length, IsAnswer};
+ghost use Rattle.cet_isa.specs.Reading.{decoding_of, decoded, read_length, IsAnswer};
 ghost use Rattle.cet_decode.specs.Decoded.{decoding, LenAtMost};
+ghost use Rattle.cet_decode.specs.Views.{miss_view};
 
-use crate::index::read_indexed;
-use crate::reading::Miss;
+use crate::forms::FORMS;
+use crate::index::{read_prefixed, row_of};
+use crate::leads::lead_of;
+use crate::meaning::instr;
+use crate::reading::{Miss, fields_behind};
 use cet_isa::Instr;
 
 /// What stands at the front of some bytes.
@@ -21,23 +25,59 @@ pub enum Decoded {
     Unknown,
 }
 
+fn missed(miss: Miss) -> Decoded
+    ensures reads { decoding result ≡ decoding_of 0 (Err (miss_view miss)) }
+    ensures len { LenAtMost 12 result }
+{
+    match miss {
+        Miss::Ends => Decoded::Short,
+        Miss::Differs => Decoded::Unknown,
+    }
+}
+
+/// What begins by other bytes than REX and 0f.
+#[inline(never)]
+#[tactic(auto, unfolding(cet_isa::specs::Reading::decoded))]
+fn answer_prefixed(bytes: &[u8]) -> Decoded
+    ensures reads { decoding result ≡ decoded bytes.now }
+    ensures len { LenAtMost 12 result }
+{
+    match read_prefixed(bytes) {
+        Ok((instr, rest)) => Decoded::Ok {
+            instr,
+            len: (bytes.len() - rest.len()) as u8,
+        },
+        Err(miss) => missed(miss),
+    }
+}
+
+// One function, since each that hands an instruction on copies it; it stands apart in the program, so that it writes
+// its answer in place.
+#[inline(never)]
 #[tactic(auto, unfolding(cet_isa::specs::Reading::decoded))]
 fn answer(bytes: &[u8]) -> Decoded
     ensures reads { decoding result ≡ decoded bytes.now }
     ensures len { LenAtMost 12 result }
 {
-    match read_indexed(bytes) {
-        Ok((instr, rest)) => Decoded::Ok {
-            instr,
-            len: (bytes.len() - rest.len()) as u8,
-        },
-        Err(Miss::Ends) => Decoded::Short,
-        Err(Miss::Differs) => Decoded::Unknown,
+    let Some(lead) = lead_of(bytes) else {
+        return answer_prefixed(bytes);
+    };
+    let Some(form) = row_of(&FORMS, &lead) else {
+        return Decoded::Unknown;
+    };
+    let (parts, imm, rest) = match fields_behind(form, lead.rex, lead.opcode, lead.rest) {
+        Ok(fields) => fields,
+        Err(miss) => return missed(miss),
+    };
+    Decoded::Ok {
+        instr: instr(&form.kind, &parts, imm),
+        len: (bytes.len() - rest.len()) as u8,
     }
 }
 
 /// The instruction at the front of the bytes, by the table of instructions (Intel SDM volume 2, in the
 /// forms that the machine takes).
+#[inline(always)]
 pub fn decode(bytes: &[u8]) -> Decoded
     // Ok, Short and Unknown come exactly where the bytes begin by a spelling, are part of one, or neither.
     ensures exact { IsAnswer bytes.now (decoding result) }

@@ -1,7 +1,7 @@
 //! Reading by the maps of opcodes, so that only the rows that may begin so are tried.
 //!
-//! The functions on the way of most instructions are inlined, since their results are large: handed on
-//! by copies they would cost more than the decoding itself.
+//! The way of most instructions ends at the row, which is small: an instruction that is handed on is copied each time,
+//! which would cost more than the decoding itself.
 
 ghost use Rattle.std.specs.Prelude.{◌≡◌, slice_get};
 ghost use Rattle.std.specs.Option.{option_copied};
@@ -9,12 +9,12 @@ ghost use Rattle.cet_isa.specs.Forms.{forms};
 ghost use Rattle.cet_isa.specs.Reading.{any_at};
 ghost use Rattle.cet_decode.specs.Views.{Gives};
 ghost use Rattle.cet_decode.specs.Index.{maybe_row_at, some_at, picks_at};
-ghost use Rattle.cet_decode.specs.Lead.{taker, chosen, chosen_at, mapped, mapped_by};
+ghost use Rattle.cet_decode.specs.Lead.{taker, chosen, mapped, mapped_by};
 
 use crate::forms::{FORMS, Form};
-use crate::leads::{Lead, key_of, lead_of};
+use crate::leads::{Lead, key_of};
 use crate::maps::{ONE_BYTE, PICKS, PREFIXED, PREFIXED_PICKS, TWO_BYTE};
-use crate::reading::{Miss, read_behind, read_listed, read_row, takes};
+use crate::reading::{Miss, read_listed, read_row, takes};
 use cet_isa::Instr;
 use cet_rows::Rows;
 
@@ -51,41 +51,32 @@ fn choose<'r>(rows: &'r [Form], numbers: &[u8], rex: u8, bytes: &[u8]) -> Option
 }
 
 #[inline(always)]
-fn read_chosen<'a>(rows: &[Form], numbers: &[u8], lead: Lead<'a>) -> Result<(Instr, &'a [u8]), Miss>
-    ensures { Gives (λ x. (x.0, x.1.now)) result (chosen_at rows.now numbers.now lead.entry.rex lead.entry.opcode lead.entry.rest.now) }
-{
-    match choose(rows, numbers, lead.rex, lead.rest) {
-        Some(form) => read_behind(form, lead.rex, lead.opcode, lead.rest),
-        None => Err(Miss::Differs),
-    }
-}
-
-#[inline(always)]
-fn read_mapped<'a>(
-    rows: &[Form],
+fn row_mapped<'r>(
+    rows: &'r [Form],
     map: &[u8],
     picks: &[[u8; 5]],
-    lead: Lead<'a>,
-) -> Result<(Instr, &'a [u8]), Miss>
-    ensures { Gives (λ x. (x.0, x.1.now)) result (chosen_at rows.now (mapped map.now picks.now lead.entry.opcode) lead.entry.rex lead.entry.opcode lead.entry.rest.now) }
+    lead: &Lead<'_>,
+) -> Option<&'r Form>
+    ensures { option_copied result ≡ chosen rows.now (mapped map.now picks.now lead.now.opcode) lead.now.rex lead.now.rest.now }
 {
     let Some(value) = map.get(usize::from(lead.opcode)) else {
-        return read_chosen(rows, &[], lead);
+        return choose(rows, &[], lead.rex, lead.rest);
     };
     match picks.get(usize::from(*value)) {
-        Some(numbers) => read_chosen(rows, numbers, lead),
-        None => read_chosen(rows, &[], lead),
+        Some(numbers) => choose(rows, numbers, lead.rex, lead.rest),
+        None => choose(rows, &[], lead.rex, lead.rest),
     }
 }
 
+/// The row that takes what stands behind REX and 0f, by the map of its opcode.
 #[inline(always)]
-fn read_lead<'a>(lead: Lead<'a>) -> Result<(Instr, &'a [u8]), Miss>
-    ensures { Gives (λ x. (x.0, x.1.now)) result (chosen_at FORMS (mapped_by lead.entry.escaped ONE_BYTE TWO_BYTE PICKS lead.entry.opcode) lead.entry.rex lead.entry.opcode lead.entry.rest.now) }
+pub fn row_of<'r>(rows: &'r [Form], lead: &Lead<'_>) -> Option<&'r Form>
+    ensures { option_copied result ≡ chosen rows.now (mapped_by lead.now.escaped ONE_BYTE TWO_BYTE PICKS lead.now.opcode) lead.now.rex lead.now.rest.now }
 {
     if lead.escaped {
-        read_mapped(&FORMS, &TWO_BYTE, &PICKS, lead)
+        row_mapped(rows, &TWO_BYTE, &PICKS, lead)
     } else {
-        read_mapped(&FORMS, &ONE_BYTE, &PICKS, lead)
+        row_mapped(rows, &ONE_BYTE, &PICKS, lead)
     }
 }
 
@@ -138,21 +129,11 @@ fn read_by_key(key: u16, bytes: &[u8]) -> Result<(Instr, &[u8]), Miss>
 }
 
 /// An instruction by the table, where other bytes than REX and 0f may stand before the opcode.
-fn read_prefixed(bytes: &[u8]) -> Result<(Instr, &[u8]), Miss>
+pub fn read_prefixed(bytes: &[u8]) -> Result<(Instr, &[u8]), Miss>
     ensures { Gives (λ x. (x.0, x.1.now)) result (any_at forms bytes.now) }
 {
     match key_of(bytes) {
         Some(key) => read_by_key(key, bytes),
         None => read_listed(bytes),
-    }
-}
-
-/// An instruction by the table, whose rows are found by the opcode, or by what stands before it.
-pub fn read_indexed(bytes: &[u8]) -> Result<(Instr, &[u8]), Miss>
-    ensures { Gives (λ x. (x.0, x.1.now)) result (any_at forms bytes.now) }
-{
-    match lead_of(bytes) {
-        Some(lead) => read_lead(lead),
-        None => read_prefixed(bytes),
     }
 }

@@ -2,9 +2,10 @@
 
 ghost use Rattle.std.specs.Prelude.{◌≡◌, map};
 ghost use Rattle.cet_isa.specs.Forms.{forms};
+ghost use Rattle.cet_isa.specs.Meaning.{instr_of};
 ghost use Rattle.cet_isa.specs.Spells.{has, allows, rex_pattern, places, imm_len};
 ghost use Rattle.cet_isa.specs.Reading.{byte_at, cells_at, bytes_at, operand_at, read_at, form_at, row_at, any_at};
-ghost use Rattle.cet_decode.specs.Views.{pattern_view, place_view, wide_view, rex_view, imm_view, form_view, Gives};
+ghost use Rattle.cet_decode.specs.Views.{pattern_view, place_view, wide_view, rex_view, imm_view, kind_view, form_view, fields_view, Gives};
 ghost use Rattle.cet_decode.specs.Lead.{rex_at, operand_behind, row_behind, takes_modrm, takes};
 
 use crate::addressing::{disp_count, operand, sib_count};
@@ -169,16 +170,17 @@ fn read_allowed<'a>(form: &Form, rex: Rex, bytes: &'a [u8]) -> Result<(Instr, &'
     }
 }
 
-/// An instruction by a row, from the byte behind its opcode on; REX is 0 where there is none.
+/// The fields and the immediate by a row, from the byte behind its opcode on, and the bytes behind them; REX is 0
+/// where there is none.
 #[inline(always)]
 #[tactic(auto, unfolding(crate::specs::Lead::row_behind))]
-pub fn read_behind<'a>(
+pub fn fields_behind<'a>(
     form: &Form,
     rex: u8,
     opcode: u8,
     bytes: &'a [u8],
-) -> Result<(Instr, &'a [u8]), Miss>
-    ensures { Gives (λ x. (x.0, x.1.now)) result (row_behind (form_view form.now) rex opcode bytes.now) }
+) -> Result<(Parts, &'a [u8], &'a [u8]), Miss>
+    ensures { Gives (λ x. (instr_of (kind_view form.now.kind) (fields_view x.0 x.1.now), x.2.now)) result (row_behind (form_view form.now) rex opcode bytes.now) }
 {
     let (modrm, rest) = byte_of(form.modrm, bytes)?;
     let (rm, rest) = operand_behind(rex, modrm, rest)?;
@@ -189,7 +191,7 @@ pub fn read_behind<'a>(
         modrm,
         rm,
     };
-    Ok((instr(&form.kind, &parts, imm), rest))
+    Ok((parts, imm, rest))
 }
 
 fn rex_of(rex: u8) -> Rex

@@ -1,7 +1,0 @@
-use Rattle.cet_decode.proofs.index.read_lead.Goals as goal
-
-pub returns-then-lead : goal.returns-then-lead
-returns-then-lead c = rw c.if-lead.true c.read_mapped.ensures
-
-pub returns-else-lead : goal.returns-else-lead
-returns-else-lead c = rw c.if-lead.false c.read_mapped-else-lead.ensures
