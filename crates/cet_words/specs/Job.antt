@@ -2,7 +2,7 @@
 use Rattle.std.specs.Prelude.{◌≡◌, ℕ, ◌+◌, ◌-◌, ◌/◌, ◌<◌, ◌≤◌, Bool, false, ◌&&◌, nat_lt, nat_le, List, length, All, AllPairs, Any, IsTrue, ◌⊎◌}
 use Rattle.cet_words.specs.declared.images.Segment.{Segment}
 use Rattle.cet_words.specs.declared.images.Signal.{Signal}
-use Rattle.cet_words.specs.Layout.{image_start, image_end}
+use Rattle.cet_words.specs.Layout.{image_start, image_end, thread_limit}
 
 -- the first and the last page number of a segment that has pages, counted from address 0
 abbrev pub first_page : Segment → ℕ
@@ -50,7 +50,7 @@ pub record JobData : Type 0 where
   pub signals : List Signal
 
 pub record IsSignal (s : Signal) : Type 0 where
-  pub thread : s.thread < 32
+  pub thread : s.thread < thread_limit
   pub low : 1 ≤ s.number
   pub high : s.number ≤ 31
 

@@ -42,6 +42,20 @@ first_region_start = 0x200001000
 abbrev pub first_region_end : ℕ
 first_region_end = 0x200009000
 
+-- the size of a thread's first shadow stack: eight pages
+abbrev pub thread_region_size : ℕ
+thread_region_size = 32768
+
+-- where the last shadow stack ends: the last page of the shadow area is in none
+abbrev pub last_region_end : ℕ
+last_region_end = 0x2003ff000
+
+-- ---- threads
+
+-- how many threads there are at most
+abbrev pub thread_limit : ℕ
+thread_limit = 32
+
 -- ---- pages by their numbers: the image's are those from 0 on
 
 abbrev pub first_stack_page : ℕ
@@ -125,9 +139,13 @@ draw_shadow_word = 1605634
 abbrev pub pend_word : (thread : ℕ) → ℕ
 pend_word thread = 1605664 + thread
 
+-- the first word of the actions of signals
+abbrev pub first_action_word : ℕ
+first_action_word = 1605696
+
 -- the action of a signal: its handler, and in the three words after it flags, restorer and mask
 abbrev pub action_word : (signal : ℕ) → ℕ
-action_word signal = 1605696 + 4 * signal
+action_word signal = first_action_word + 4 * signal
 
 -- ---- supervisor stack k, which is kernel page 2k + 2
 

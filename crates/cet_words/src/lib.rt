@@ -25,8 +25,8 @@ pub use places::{
     FIRST_MMAP_PAGE, FIRST_REGION_END, FIRST_REGION_START, FIRST_SHADOW_PAGE, FIRST_SHADOW_WORD,
     FIRST_STACK_PAGE, FIRST_STACK_WORD, IMAGE_END, IMAGE_START, KERNEL_END, KERNEL_RETURN,
     KERNEL_START, MMAP_END, MMAP_START, NEXT_THREAD_WORD, PAGE_COUNT, SHADOW_END, SHADOW_START,
-    STACK_END, STACK_START, WORD_COUNT, action_word, page_of, page_up, pend_word, token,
-    token_page, token_word, word_of,
+    STACK_END, STACK_START, THREAD_LIMIT, THREAD_REGION_SIZE, WORD_COUNT, action_word, page_of,
+    page_up, pend_word, token, token_page, token_word, word_of,
 };
 
 #[cfg(test)]

@@ -39,6 +39,12 @@ pub const FIRST_REGION_START: u64 = 0x2_0000_1000;
 /// The address past thread 0's shadow stack.
 pub const FIRST_REGION_END: u64 = 0x2_0000_9000;
 
+/// The size of a thread's first shadow stack, in bytes: eight pages.
+pub const THREAD_REGION_SIZE: u64 = 0x8000;
+
+/// How many threads there are at most.
+pub const THREAD_LIMIT: u64 = 32;
+
 /// The number of the main stack's first page. The image's pages are those before it.
 pub const FIRST_STACK_PAGE: u32 = 1024;
 
@@ -77,6 +83,9 @@ pub const NEXT_THREAD_WORD: u32 = 1_605_633;
 
 /// The kernel's word DRAW_SHADOW: how many pages of the shadow area have been drawn.
 pub const DRAW_SHADOW_WORD: u32 = 1_605_634;
+
+/// The first of the kernel's words of the actions of signals.
+const FIRST_ACTION_WORD: u32 = 1_605_696;
 
 /// What the kernel's entry leaves below a held token: a return address in the kernel's half, as a call there
 /// would leave it. No page of the machine has it, so it is no token and no address of a program.
@@ -132,7 +141,7 @@ pub fn pend_word(thread: u8) -> u32
 pub fn action_word(signal: u8) -> u32
     ensures { result ≡ action_word signal }
 {
-    1_605_696 + 4 * u32::from(signal)
+    FIRST_ACTION_WORD + 4 * u32::from(signal)
 }
 
 /// The address of the token of supervisor stack k, which is the token itself when free.
