@@ -16,7 +16,7 @@ use Rattle.cet_isa.proofs.ReadingLaws.{filled_places}
 abbrev pub clash : Pattern → Pattern → Bool
 clash p q = not (eqb (bit_and p.value q.mask) (bit_and q.value p.mask)) || (nat_le q.below p.value || nat_le p.below q.value)
 
-has_parts : (p : Pattern) (b : ℕ) → has p b ≡ true → (bit_and b p.mask ≡ p.value) × (b < p.below)
+pub has_parts : (p : Pattern) (b : ℕ) → has p b ≡ true → (bit_and b p.mask ≡ p.value) × (b < p.below)
 has_parts p b h = let a = and_parts (eqb (bit_and b p.mask) p.value) (ltb b p.below) h in (eqb-true _ _ a.0, ltb-true _ _ a.1)
 
 -- no byte is in both

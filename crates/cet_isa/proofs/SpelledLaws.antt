@@ -1,6 +1,6 @@
 -- An instruction that has a spelling passes the test of its operands. Source: own.
 use Rattle.std.proofs.Common.{◌≡◌, ℕ, zero, suc, ◌+◌, ◌*◌, ◌/◌, ◌%◌, ◌^◌, ◌<◌, ◌≤◌, Bool, true, false, not, ◌&&◌, ◌||◌, cond, List, [], ◌∷◌, ◌++◌, length, Option, Some, None, refl, ap, subst, ◌∙◌, inl, inr, arith, ℤ}
-use Rattle.std.specs.Prelude.{bit_and, slice_index, slice_index_or, nat_lt, nat_le, ◌==◌, Contains}
+use Rattle.std.specs.Prelude.{slice_index, slice_index_or, nat_lt, nat_le, ◌==◌, Contains}
 use Rattle.std.proofs.lemmas.Bool.{and_parts, and_from, or_cases, eqb-true, ltb-true, leb-true, agree_below, agree_below_at}
 use Rattle.std.proofs.lemmas.Nat.{and_le_l}
 use Rattle.cet_isa.specs.declared.instructions.Reg.{Reg}
@@ -21,6 +21,7 @@ use Rattle.cet_isa.specs.Reader.{IsBytes}
 use Rattle.cet_isa.proofs.ReaderLaws.{IsBytes-left}
 use Rattle.cet_isa.proofs.ReadingLaws.{CellFits, cell_fits}
 use Rattle.cet_isa.specs.Spelled.{index_ok, scale_ok, address_ok, mem_ok, place_ok, is_cmp, is_qword, alu_ok, mov_ok, push_ok, has_spelling}
+use Rattle.cet_isa.proofs.Apart.{has_parts}
 
 -- ---- memory that is read
 
@@ -144,9 +145,6 @@ rows_pass (f ∷ fs) = row_test f.kind f && rows_pass fs
 
 table_passes : rows_pass forms ≡ true
 table_passes = refl
-
-has_parts : (p : Pattern) (b : ℕ) → has p b ≡ true → (bit_and b p.mask ≡ p.value) × (b < p.below)
-has_parts p b h = let a = and_parts (bit_and b p.mask == p.value) (nat_lt b p.below) h in (eqb-true _ _ a.0, ltb-true _ _ a.1)
 
 register_above : (o : Option Pattern) (b : ℕ) → register_only o ≡ true → CellFits o b → 192 ≤ b
 register_above None b r f = absurd cc

@@ -4,7 +4,7 @@ use Rattle.cet_syntax.specs.declared.classes.Class.{Class}
 use Rattle.cet_syntax.specs.declared.classes.Class.TheVariants.{Letter}
 use Rattle.cet_syntax.specs.Tokens.{Word, is_blank, is_sign, in_class, front, behind, begins_word, sign_token, onto_word, tokens}
 
-letter_is : (b : ℕ) → in_class Letter b ≡ true → (is_sign b ≡ false) × (is_blank b ≡ false)
+pub letter_is : (b : ℕ) → in_class Letter b ≡ true → (is_sign b ≡ false) × (is_blank b ≡ false)
 letter_is b h = go (is_sign b) (is_blank b) h
   where
     go : (t u : Bool) → not (t || u) ≡ true → (t ≡ false) × (u ≡ false)

@@ -3,7 +3,8 @@ use Rattle.std.proofs.Common.{◌≡◌, ℕ, ◌<◌, Bool, true, false, not, �
 use Rattle.std.specs.List.{list_all}
 use Rattle.std.proofs.lemmas.Bool.{and_parts, agree_below, agree_below_at}
 use Rattle.cet_syntax.specs.declared.classes.Class.TheVariants.{Solid, Letter, BeforeComment}
-use Rattle.cet_syntax.specs.Tokens.{Token, Word, is_blank, is_sign, is_name_byte, in_class, begins_word, sign_token, onto_word, tokens}
+use Rattle.cet_syntax.specs.Tokens.{Token, Word, is_sign, is_name_byte, in_class, begins_word, sign_token, onto_word, tokens}
+use Rattle.cet_syntax.proofs.TokenLaws.{letter_is}
 use Rattle.cet_encode.specs.Text as text
 
 -- ---- bytes
@@ -88,14 +89,6 @@ IsPlain [] = Unit {0}
 IsPlain (text.Word w ∷ ps) = (is_word w ≡ true) × (begins ps ≡ false) × IsPlain ps
 IsPlain (text.Sign b ∷ ps) = (is_sign b ≡ true) × IsPlain ps
 IsPlain (text.Space ∷ ps) = IsPlain ps
-
-letter_is : (b : ℕ) → in_class Letter b ≡ true → (is_sign b ≡ false) × (is_blank b ≡ false)
-letter_is b h = go (is_sign b) (is_blank b) h
-  where
-    go : (t u : Bool) → not (t || u) ≡ true → (t ≡ false) × (u ≡ false)
-    go false false e = (refl, refl)
-    go false true e = absurd cc
-    go true u e = absurd cc
 
 sign_is : (b : ℕ) → is_sign b ≡ true → in_class Letter b ≡ false
 sign_is b h = rw h refl
