@@ -32,3 +32,4 @@ pub mod Blanks
 pub mod PageTable
 pub mod Lookups
 pub mod Readable
+pub mod Latest
