@@ -24,7 +24,7 @@ pub mod Lists
 pub mod Setting
 pub mod InView
 pub mod Rights
-pub mod Rounds
+pub mod Turns
 pub mod Seeds
 pub mod Shows
 pub mod EventSteps
