@@ -8,7 +8,7 @@ use Rattle.cet_book.specs.declared.entries.Holder.{Holder}
 use Rattle.cet_book.specs.declared.entries.Holder.TheVariants.{Maker, Current, Parked, Left, Lost}
 use Rattle.cet_book.specs.Book.{Book, region}
 use Rattle.cet_book.specs.View.{Span, no_span, IsKept, in_view}
-use Rattle.cet_book.specs.Marks.{place, is_unseen, Found, marked, top_marked, followed, currents, token_from, park_if, park, parks, words_by, follow_region, follow, follow_all, found_all}
+use Rattle.cet_book.specs.Marks.{place, is_unseen, Found, marked, top_marked, followed, currents, token_from, park, parks, follow_region, follow, follow_all, found_all}
 use Rattle.cet_book.specs.declared.regions.Shown.{Shown}
 use Rattle.cet_book.specs.declared.regions.Shown.TheVariants as shown
 use Rattle.cet_book.specs.declared.marks.Mark.{Mark}

@@ -1,5 +1,5 @@
 -- A thread comes to a stack by taking it or by its birth alone, so the list of latest stacks is kept. Source: own.
-use Rattle.std.proofs.Common.{◌≡◌, ◌≢◌, ℕ, zero, suc, ◌<◌, ◌≤◌, inl, inr, Bool, true, false, ◌&&◌, List, length, get_or, set, replicate, Option, Some, None, Result, Ok, Err, refl, sym, ◌∙◌, ap, subst, arith, ◌++◌, take, drop, get_or-set_same, get_or-set_other}
+use Rattle.std.proofs.Common.{◌≡◌, ℕ, zero, suc, ◌<◌, ◌≤◌, inl, inr, Bool, true, false, ◌&&◌, List, length, get_or, set, replicate, Option, Some, Result, Ok, Err, refl, sym, ◌∙◌, ap, subst, arith, ◌++◌, take, drop, get_or-set_same, get_or-set_other}
 use Rattle.std.specs.Prelude.{nat_lt, nat_le}
 use Rattle.std.specs.List.{position_or_len}
 use Rattle.std.proofs.lemmas.Bool.{false≢true}
@@ -10,7 +10,7 @@ use Rattle.cet_words.specs.Change as change
 use Rattle.cet_book.specs.declared.entries.Entry.{Entry}
 use Rattle.cet_book.specs.declared.entries.Entry.TheVariants.{Blank}
 use Rattle.cet_book.specs.declared.entries.Holder.{Holder}
-use Rattle.cet_book.specs.declared.entries.Holder.TheVariants.{Maker, Current, Parked, Left, Lost}
+use Rattle.cet_book.specs.declared.entries.Holder.TheVariants.{Current, Parked, Left, Lost}
 use Rattle.cet_book.specs.declared.events.Event.{Event}
 use Rattle.cet_book.specs.declared.events.Event.TheVariants as ev
 use Rattle.cet_book.specs.declared.events.BookFault.{BookFault}

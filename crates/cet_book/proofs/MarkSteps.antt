@@ -4,7 +4,7 @@ use Rattle.std.specs.Prelude.{nat_lt, ◌==◌}
 use Rattle.std.proofs.lemmas.Bool.Decides.{nat_tests}
 use Rattle.std.proofs.lemmas.List.Sums.{position_or_len_is}
 use Rattle.cet_book.specs.View.{Span, no_span}
-use Rattle.cet_book.specs.Marks.{has, place, Found, is_unseen, marked, top_marked, followed, currents, token_from, parks, park, park_if, words_by, follow_region, follow, follow_all, reports, report_by}
+use Rattle.cet_book.specs.Marks.{has, place, Found, is_unseen, marked, top_marked, followed, currents, token_from, parks, park, park_if, words_by, follow, follow_all, reports, report_by}
 use Rattle.cet_book.specs.declared.regions.Shown.{Shown}
 use Rattle.cet_book.specs.declared.regions.Shown.TheVariants as shown
 use Rattle.cet_book.specs.declared.regions.StackReport.{StackReport}

@@ -12,7 +12,6 @@ use Rattle.cet_book.specs.View.{Span, span_of, Has, IsKept, shown_of, in_view, r
 use Rattle.cet_book.specs.Facts.{IsParkedAt}
 use Rattle.cet_book.specs.Marks.{from_of, Found, marked, currents, token_from, park_if, park, parks}
 use Rattle.cet_book.specs.declared.regions.Shown.TheVariants as shown
-use Rattle.cet_book.specs.declared.marks.Mark.{Mark}
 use Rattle.cet_book.specs.declared.marks.Mark.TheVariants.{Unseen}
 use Rattle.cet_book.proofs.MarkSteps.{park_some, park_none}
 use Rattle.cet_book.proofs.Lists.{counted, counted_none, words_length, words_at}

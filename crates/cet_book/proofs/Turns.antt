@@ -1,5 +1,5 @@
 -- Regions that were found are followed one after another, and none is left in the end. Source: own.
-use Rattle.std.proofs.Common.{◌≡◌, ℕ, zero, suc, ◌<◌, ◌≤◌, inl, inr, Bool, true, false, List, [], length, get_or, drop, map, refl, sym, ◌∙◌, ap, subst, arith}
+use Rattle.std.proofs.Common.{◌≡◌, ℕ, zero, suc, ◌<◌, inl, inr, true, List, [], length, get_or, drop, map, refl, sym, ◌∙◌, ap, subst, arith}
 use Rattle.std.specs.Prelude.{nat_lt, ◌==◌}
 use Rattle.std.proofs.lemmas.Bool.{false≢true, cases_lt}
 use Rattle.std.proofs.lemmas.Bool.Decides.{eqb_tells, nat_tests}
@@ -10,8 +10,7 @@ use Rattle.cet_book.specs.Book.{Book, top}
 use Rattle.cet_book.specs.Facts.{is_left, one}
 use Rattle.cet_book.specs.Stack.{tops, words_of}
 use Rattle.cet_book.specs.View.{Span, no_span, span_of, region_words}
-use Rattle.cet_book.specs.Marks.{Found, followed, words_by, follow_region, follow, follow_all}
-use Rattle.cet_book.specs.declared.regions.Shown.{Shown}
+use Rattle.cet_book.specs.Marks.{Found, followed, words_by, follow, follow_all}
 use Rattle.cet_book.specs.declared.marks.Mark.{Mark}
 use Rattle.cet_book.specs.declared.marks.Mark.TheVariants.{Unseen, InView}
 use Rattle.cet_book.proofs.Lists.{counted, counted_le}

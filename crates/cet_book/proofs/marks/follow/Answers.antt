@@ -1,7 +1,5 @@
-use Rattle.std.proofs.Common.{◌≡◌, ◌<◌, ◌≤◌, sym, ◌∙◌, ap, length, get_or, arith}
+use Rattle.std.proofs.Common.{◌<◌, ◌≤◌, ap, length, arith}
 use Rattle.cet_book.specs.Marks.{Found}
-use Rattle.cet_book.specs.declared.marks.Mark.{Mark}
-use Rattle.cet_book.specs.declared.marks.Mark.TheVariants.{Unseen}
 use Rattle.std.proofs.lemmas.Result.{IfOk-weaker}
 use Rattle.cet_book.proofs.MarkSteps.{order_inside, follow_here, follow_past}
 use Rattle.cet_book.proofs.marks.follow.Goals as goal
