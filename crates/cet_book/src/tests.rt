@@ -1,11 +1,9 @@
 //! Each case of the book's step with its refusals, and the report of words that no run leaves.
 
-ghost use Rattle.std.specs.Prelude.{◌≤◌, ◌<◌};
-
 use super::*;
 use cet_words::{
-    Access, Bytes, FIRST_SHADOW_WORD, Image, NoMemory, Perform, Plain, SHADOW_START, Segment,
-    Segments,
+    Access, Bytes, FIRST_SHADOW_WORD, Image, NoMemory, Perform, Plain, SHADOW_END, SHADOW_START,
+    Segment, Segments,
 };
 use std::alloc::Global;
 use std::process::Abort;
@@ -329,27 +327,23 @@ fn cases(rt: HostRuntime) -> Result<(), Fail> {
     expect_gates(&rt, alloc)
 }
 
-/// Stores a word at an address of the shadow area.
-fn put(words: &mut Plain, addr: u64, value: u64)
-    requires low { 0x200000000 ≤ addr }
-    requires high { addr < 0x200400000 }
-{
-    words.perform(Access::Store(
-        FIRST_SHADOW_WORD + ((addr - SHADOW_START) / 8) as u32,
-        value,
-    ));
+/// Stores words at addresses of the shadow area.
+fn put(words: &mut Plain, values: &[(u64, u64)]) {
+    for (addr, value) in values {
+        if SHADOW_START <= *addr && *addr < SHADOW_END {
+            words.perform(Access::Store(
+                FIRST_SHADOW_WORD + ((*addr - SHADOW_START) / 8) as u32,
+                *value,
+            ));
+        }
+    }
 }
 
-/// Each region's start, how it is shown, and the number of its words.
+/// How each region is shown, and the number of its words.
 fn sketch_report(alloc: Global, reports: &StackReports) -> Result<String, Fail> {
     let mut text = String::new(alloc);
     for report in reports.as_slice() {
-        let line = format!(in alloc;
-            "{:x} {:?} {}; ",
-            report.region.start,
-            report.shown,
-            report.words.len()
-        )?;
+        let line = format!(in alloc; "{:?} {}; ", report.shown, report.words.len())?;
         text.push_str(&line)?;
     }
     Ok(text)
@@ -374,19 +368,18 @@ fn image(alloc: Global) -> Result<Image, NoMemory> {
     })
 }
 
-#[test]
-fn odd_words(rt: HostRuntime) -> Result<(), Fail> {
-    let alloc = rt.alloc();
-    let mut words = Plain::new(alloc, &image(alloc)?)?;
-    // thread 0's stack leads to the second, and that one to it, to itself, between two stacks and into the fourth
-    put(&mut words, 0x2_0000_1ff8, 0x2_0000_3fd8 + 3);
-    put(&mut words, 0x2_0000_3fd8, 0x2_0000_1ff8 + 3);
-    put(&mut words, 0x2_0000_3fe0, 0x2_0000_3fe0 + 3);
-    put(&mut words, 0x2_0000_3fe8, 0x2_0000_2ff8 + 3);
-    put(&mut words, 0x2_0000_3ff0, 0x2_0000_7800 + 3);
-    // the third is full, with its token below it; the sixth has no page, and a token
-    put(&mut words, 0x2_0000_4ff8, 0x2_0000_5001);
-    put(&mut words, 0x2_0000_aff8, 0x2_0000_b001);
+/// Words at their addresses, and the report of them.
+type Words<'a> = (&'a [(u64, u64)], &'a str);
+
+/// Reports stacks that have these words and no others. Threads are on the first, at the end of the fifth and at the start of
+/// the seventh; the sixth has no page.
+fn expect_report(
+    rt: &impl Abort,
+    alloc: Global,
+    words: &mut Plain,
+    case: &Words,
+) -> Result<(), Fail> {
+    let (values, want) = *case;
     let regions = [
         Region {
             start: 0x2_0000_1000,
@@ -421,13 +414,103 @@ fn odd_words(rt: HostRuntime) -> Result<(), Fail> {
             end: 0x2_0001_1000,
         },
     ];
-    // thread 1 is at its stack's end, and thread 2 at its start
     let ssps = [(0, 0x2_0000_1ff8), (1, 0x2_0000_a000), (2, 0x2_0000_d000)];
-    let reports = report_of_words(alloc, &mut words, &regions, &ssps)?;
+    put(words, values);
+    let reports = report_of_words(alloc, words, &regions, &ssps)?;
     let text = sketch_report(alloc, &reports)?;
-    let want =
-        "200001000 Current(0) 1; 200003000 Left 5; 200005000 Parked 512; 200007000 Left 256; \
-        200009000 Current(1) 0; 20000b000 Parked 0; 20000d000 Current(2) 512; 200010000 Lost 0; ";
     assert_eq!(rt; text.as_str(), want);
+    Ok(())
+}
+
+#[test]
+fn odd_words(rt: HostRuntime) -> Result<(), Fail> {
+    let alloc = rt.alloc();
+    let cases: [Words; 13] = [
+        // none, one that leads to its own stack, one between two stacks
+        (
+            &[],
+            "Current(0) 1; Lost 0; Lost 0; Lost 0; Current(1) 0; Lost 0; Current(2) 512; Lost 0; ",
+        ),
+        (
+            &[(0x2_0000_1ff8, 0x2_0000_1ffb)],
+            "Current(0) 1; Lost 0; Lost 0; Lost 0; Current(1) 0; Lost 0; Current(2) 512; Lost 0; ",
+        ),
+        (
+            &[(0x2_0000_1ff8, 0x2_0000_2ffb)],
+            "Current(0) 1; Lost 0; Lost 0; Lost 0; Current(1) 0; Lost 0; Current(2) 512; Lost 0; ",
+        ),
+        // a circle to which a thread's stack leads, and one to which nothing leads
+        (
+            &[
+                (0x2_0000_1ff8, 0x2_0000_3ffb),
+                (0x2_0000_3ff8, 0x2_0000_1ffb),
+            ],
+            "Current(0) 1; Left 1; Lost 0; Lost 0; Current(1) 0; Lost 0; Current(2) 512; Lost 0; ",
+        ),
+        (
+            &[
+                (0x2_0000_3ff8, 0x2_0000_5ffb),
+                (0x2_0000_5ff8, 0x2_0000_3ffb),
+            ],
+            "Current(0) 1; Lost 0; Lost 0; Lost 0; Current(1) 0; Lost 0; Current(2) 512; Lost 0; ",
+        ),
+        // into the middle of a stack, to its start, to its end, and to one of no page
+        (
+            &[(0x2_0000_1ff8, 0x2_0000_7803)],
+            "Current(0) 1; Lost 0; Lost 0; Left 256; Current(1) 0; Lost 0; Current(2) 512; Lost 0; ",
+        ),
+        (
+            &[(0x2_0000_1ff8, 0x2_0000_7003)],
+            "Current(0) 1; Lost 0; Lost 0; Left 512; Current(1) 0; Lost 0; Current(2) 512; Lost 0; ",
+        ),
+        (
+            &[(0x2_0000_1ff8, 0x2_0000_8003)],
+            "Current(0) 1; Lost 0; Lost 0; Left 0; Current(1) 0; Lost 0; Current(2) 512; Lost 0; ",
+        ),
+        (
+            &[(0x2_0000_1ff8, 0x2_0000_b003)],
+            "Current(0) 1; Lost 0; Lost 0; Lost 0; Current(1) 0; Left 0; Current(2) 512; Lost 0; ",
+        ),
+        // restore tokens of an empty stack, of a full one and of one of no page
+        (
+            &[
+                (0x2_0000_3ff8, 0x2_0000_4001),
+                (0x2_0000_4ff8, 0x2_0000_5001),
+                (0x2_0000_aff8, 0x2_0000_b001),
+            ],
+            "Current(0) 1; Parked 0; Parked 512; Lost 0; Current(1) 0; Parked 0; Current(2) 512; Lost 0; ",
+        ),
+        // two in one stack, and one in a thread's stack
+        (
+            &[
+                (0x2_0000_3000, 0x2_0000_3009),
+                (0x2_0000_3ff8, 0x2_0000_4001),
+                (0x2_0000_1ff0, 0x2_0000_1ff9),
+            ],
+            "Current(0) 1; Parked 511; Lost 0; Lost 0; Current(1) 0; Lost 0; Current(2) 512; Lost 0; ",
+        ),
+        // two words that lead to one stack
+        (
+            &[
+                (0x2_0000_d008, 0x2_0000_3ffb),
+                (0x2_0000_d010, 0x2_0000_3ff3),
+            ],
+            "Current(0) 1; Left 1; Lost 0; Lost 0; Current(1) 0; Lost 0; Current(2) 512; Lost 0; ",
+        ),
+        // each stack leads to the one before it
+        (
+            &[
+                (0x2_0000_1ff8, 0x2_0001_0ffb),
+                (0x2_0001_0ff8, 0x2_0000_7ffb),
+                (0x2_0000_7ff8, 0x2_0000_5ffb),
+                (0x2_0000_5ff8, 0x2_0000_3ffb),
+            ],
+            "Current(0) 1; Left 1; Left 1; Left 1; Current(1) 0; Lost 0; Current(2) 512; Left 1; ",
+        ),
+    ];
+    for case in &cases {
+        let mut words = Plain::new(alloc, &image(alloc)?)?;
+        expect_report(&rt, alloc, &mut words, case)?;
+    }
     Ok(())
 }
