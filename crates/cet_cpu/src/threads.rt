@@ -217,9 +217,11 @@ impl Cpu {
         ensures child { option_map (λ (child : CpuData). child.core) result ≡ (taken job.now self.now.core answer).child }
         ensures born { IfSome result (IsCpu job.now) }
     {
-        let mut child = self.unborn(job, answer)?;
-        child.wait(job);
-        Some(child)
+        let mut child = self.unborn(job, answer);
+        if let Some(cpu) = &mut child {
+            cpu.wait(job);
+        }
+        child
     }
 
     /// The same before it waits.
