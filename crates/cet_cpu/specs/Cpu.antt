@@ -10,11 +10,10 @@ use Rattle.cet_page.specs.Within.{IsCore}
 use Rattle.cet_page.specs.declared.cursors.Mark.{Mark}
 use Rattle.cet_page.specs.declared.cursors.Stop.{Stop}
 use Rattle.cet_page.specs.declared.finishes.Finish.{Finish}
-use Rattle.cet_page.specs.declared.finishes.Finish.TheVariants as finish
+use Rattle.cet_cpu.specs.Changes.{finish_with, Stays}
 use Rattle.cet_cpu.specs.Code.{IsCode}
 use Rattle.cet_cpu.specs.declared.fetches.Code.{Code}
 use Rattle.cet_cpu.specs.declared.gate.Completed.{Completed}
-use Rattle.cet_cpu.specs.declared.gate.Completed.TheVariants as completed
 
 -- the thread, the access that it waits for with its mark, and the code at RIP, once its row has read that
 pub record CpuData : Type 0 where
@@ -46,15 +45,10 @@ pub record IsNext (job : JobData) (core : Core) (next : Access × Mark) : Type 0
   pub waits : next_access job core ≡ Some next.0
   pub wanted : IsWanted job core next
 
--- The state after a row that was changed in its place, where the row is over: it keeps its number and what it holds; where
--- the process has ended, nothing has changed.
-abbrev pub Entered : (before after : Arch) → Completed → Came Finish → Type 0
-Entered before after completed.Stopped came = (after ≡ before) × ((left : ℕ) × (values : List ℕ) × (came ≡ Over finish.Stopped left values))
-Entered before after (completed.Noted noted) came = (next : Arch) × (left : ℕ) × (values : List ℕ) × (after ≡ kept_by before before.held next) × (came ≡ Over (finish.Noted next noted) left values)
-Entered before after completed.Posted came = (next : Arch) × (left : ℕ) × (values : List ℕ) × (after ≡ kept_by before before.held next) × (came ≡ Over (finish.Posted next) left values)
-Entered before after (completed.Exited noted status) came = (next : Arch) × (left : ℕ) × (values : List ℕ) × (after ≡ kept_by before before.held next) × (came ≡ Over (finish.Exited next noted status) left values)
-
--- what a row has come to, as a function returns it that changes the state in its place
+-- What a row has come to, as a function returns it that changes the state in its place: where the row is over, the thread
+-- keeps its number and what it holds.
 abbrev pub CameTo : Came Finish → (before after : Arch) → Result Completed Stop → Type 0
-CameTo came before after (Ok done) = Entered before after done came
+CameTo came before after (Ok done) =
+    (next : Arch) × (left : ℕ) × (values : List ℕ) × (after ≡ kept_by before before.held next)
+    × (came ≡ Over (finish_with next done) left values) × Stays before after (Ok done)
 CameTo came before after (Err stop) = (after ≡ before) × Stopped came stop

@@ -63,7 +63,9 @@ play_each_wants word (value ∷ rest) (suc n) values l =
     play_each_wants (word + 1) rest n values (omega arith) ∙ ap (λ k. wants_store k (slice_index rest n)) w
 
 -- a look that comes to something without changes comes to the same with changes that its mark needn't tell
-look_in_changes : (changes : ℕ → List Change) (at : Option ℕ) (k : Kind) (w : Who) (addr : ℕ) (n : ℕ) (values : List ℕ) (result : Result ℕ Stop) (left : ℕ) (rest : List ℕ) → Marks marks.Plain changes → Comes (play (look_in_as silent at k w addr) n values) result left rest → Comes (play (look_in_as changes at k w addr) n values) result left rest
+look_in_changes : (changes : ℕ → List Change) (at : Option ℕ) (k : Kind) (w : Who) (addr : ℕ) (n : ℕ) (values : List ℕ) (result : Result ℕ Stop) (left : ℕ) (rest : List ℕ)
+    → Marks marks.Plain changes → Comes (play (look_in_as silent at k w addr) n values) result left rest
+    → Comes (play (look_in_as changes at k w addr) n values) result left rest
 unfolding look_in_as
 look_in_changes changes None k w addr n values result left rest m h = h
 look_in_changes changes (Some page) k w addr zero values (Ok x) left rest m h = cc
@@ -74,6 +76,8 @@ look_in_changes changes (Some page) k w addr (suc n) [] (Err (stop.Access a mark
 look_in_changes changes (Some page) k w addr (suc n) [] (Err (stop.Fault e)) left rest m h = cc
 look_in_changes changes (Some page) k w addr (suc n) (value ∷ values) result left rest m h = h
 
-pub look_changes : (changes : ℕ → List Change) (w : Who) (k : Kind) (addr : ℕ) (n : ℕ) (values : List ℕ) (result : Result ℕ Stop) (left : ℕ) (rest : List ℕ) → Marks marks.Plain changes → Comes (play (look w k addr) n values) result left rest → Comes (play (look_as changes w k addr) n values) result left rest
+pub look_changes : (changes : ℕ → List Change) (w : Who) (k : Kind) (addr : ℕ) (n : ℕ) (values : List ℕ) (result : Result ℕ Stop) (left : ℕ) (rest : List ℕ)
+    → Marks marks.Plain changes → Comes (play (look w k addr) n values) result left rest
+    → Comes (play (look_as changes w k addr) n values) result left rest
 unfolding look_as
 look_changes changes w k addr n values result left rest m h = look_in_changes changes (page_at addr) k w addr n values result left rest m h
