@@ -8,6 +8,8 @@ pub mod Kept
 pub mod Own
 pub mod Still
 pub mod Counters
+pub mod Drawn
+pub mod TellingRows
 pub mod Covered
 pub mod Owed
 pub mod ClassLaws
