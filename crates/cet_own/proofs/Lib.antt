@@ -8,6 +8,7 @@ pub mod Kept
 pub mod Own
 pub mod Still
 pub mod Counters
+pub mod Views
 pub mod Drawn
 pub mod TellingRows
 pub mod Covered
