@@ -1,7 +1,6 @@
 -- What a row has drawn, and that its record tells of it: of the stack that the row has claimed, and always where that stack
 -- was parked or got a thread. A row owes this whatever its accesses answer. Source: own.
-use Rattle.std.proofs.Common.{◌≡◌, ℕ, zero, suc, ◌+◌, ◌*◌, Bool, true, false, cond, List, [], ◌∷◌, Option, Some, None, refl}
-use Rattle.std.specs.Prelude.{All}
+use Rattle.std.proofs.Common.{◌≡◌, ◌⊎◌, ℕ, zero, suc, ◌+◌, ◌*◌, List, [], ◌∷◌}
 use Rattle.cet_words.specs.Change.{Change, Claimed, Seeded, Born}
 use Rattle.cet_words.specs.declared.accesses.Access.{Access}
 use Rattle.cet_words.specs.declared.accesses.Access.TheVariants as access
@@ -45,7 +44,7 @@ drawn (x ∷ past) = draws x.changes (drawn past)
 -- its record tells of nothing, and nothing was kept; or it tells of the stack that was claimed, and no other was kept
 pub data TellsOf (d : Drawn) (spans : List Span) : Type 0 where
   tells_nothing : spans ≡ [] → d.kept ≡ [] → TellsOf d spans
-  tells_stack : (s : Span) → spans ≡ s ∷ [] → d.claimed ≡ s ∷ [] → All (λ start. start ≡ s.start) d.kept → TellsOf d spans
+  tells_stack : (s : Span) → spans ≡ s ∷ [] → d.claimed ≡ s ∷ [] → (d.kept ≡ []) ⊎ (d.kept ≡ s.start ∷ []) → TellsOf d spans
 
 abbrev pub EndTells : Drawn → Finish → Type 0
 EndTells d (Noted next r) = TellsOf d (told r r.what)

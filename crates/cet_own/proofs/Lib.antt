@@ -11,6 +11,8 @@ pub mod Counters
 pub mod Views
 pub mod Drawn
 pub mod TellingRows
+pub mod Drawing
+pub mod Recorded
 pub mod Covered
 pub mod Owed
 pub mod ClassLaws
