@@ -27,9 +27,9 @@ use Rattle.cet_book.specs.View.{Span, IsKept}
 use Rattle.cet_book.proofs.Changes.{same_book}
 use Rattle.cet_book.proofs.Comes.{Lasts, changes_last}
 use Rattle.cet_page.specs.Core.{Core, unheld, come, changes_of, next_changes, next_access, access_of, wanted, answered, taken, child_core, child_of, born}
-use Rattle.cet_page.specs.Machine.{Thread, Machine, traced, thread_after, with_child, act}
+use Rattle.cet_page.specs.Machine.{Thread, Machine, thread_after, with_child, accessed, act, step_by, step}
 use Rattle.cet_page.specs.Row.{row}
-use Rattle.cet_page.specs.Script.{Script, done, fault, ask, tell, Came, Over, Faulted, Wants, play, held_after}
+use Rattle.cet_page.specs.Script.{Script, done, fault, ask, tell, Came, Over, Faulted, Wants, play, birth, held_after}
 use Rattle.cet_page.specs.Seen.{Seen, keeps, kept_after, seen_after}
 use Rattle.cet_page.specs.Trail.{Visit, visit, trail, row_trail, trail_of}
 use Rattle.cet_page.specs.Within.{Waits, CoreAt, IsCore}
@@ -39,7 +39,7 @@ use Rattle.cet_page.proofs.ChildLaws.{child_taken}
 use Rattle.cet_page.proofs.Walk.{Walks, Spent, acted}
 use Rattle.cet_page.proofs.WalkRows.{Ends, walk_row}
 use Rattle.cet_page.proofs.WithinLaws.{spent}
-use Rattle.cet_own.specs.Event.{access_changes}
+use Rattle.cet_own.specs.Event.{access_changes, thread_changes, turn_changes}
 use Rattle.cet_own.specs.Told.{told, told_in, first_span}
 use Rattle.cet_own.proofs.Drawing.{times, occurs, times-append, times_found, sum_found, HasSpan, HasStart, span_starts, span_lasts, Drawing, drawing_all}
 use Rattle.cet_own.proofs.Drawn.{Drawn, nothing_drawn, draws, drawn, TellsOf, tells_nothing, tells_stack, EndTells, CameTells, came_tells}
@@ -278,3 +278,34 @@ module _ (job : JobData) (m : Machine) (t : ℕ) (b next : Book) (thread : Threa
               let now = onward_shown x rest way (omega arith) in
               omega arith);
         }
+
+-- ---- a turn
+
+module _ (job : JobData) (m : Machine) (t : ℕ) (b next : Book) (book : IsBook b) (h : Recorded job b m.threads) where
+  recorded_access : (thread : Thread) → slice_get m.threads t ≡ Some thread → Waits job thread.core → (a : Access) (own : ℕ → List Change) → come job thread.core.arch thread.core.seen ≡ Wants a own → books_after t b (next_changes job thread.core (answer m.words a)) ≡ Some next → Recorded job next (accessed job m t thread a).threads
+  recorded_access thread found waits a own w is =
+      let v = answer m.words a in
+      let changes = next_changes job thread.core v in
+      let moved = thread_after thread (taken job thread.core v) in
+      subst (λ c. Recorded job next (with_child (slice_set m.threads t moved) c)) (sym (child_taken job thread.core v a own w))
+      (recorded_after job m t b next thread book h found changes moved thread.core.arch (birth changes) is (onward job thread a own v waits w))
+
+  recorded_core : (thread : Thread) (over : Option End) → slice_get m.threads t ≡ Some thread → thread.core.over ≡ over → CoreAt job thread.core over → books_after t b (access_changes job m thread (next_access job thread.core)) ≡ Some next → Recorded job next (act job m t thread (next_access job thread.core)).threads
+  unfolding next_access
+  recorded_core thread (Some e) found over waits is =
+      let none : next_access job thread.core ≡ None = ap (access_of job thread.core) over in
+      let same : b ≡ next = same_book t b next [] refl (subst (λ o. books_after t b (access_changes job m thread o) ≡ Some next) none is) in
+      subst (λ o. Recorded job next (act job m t thread o).threads) (sym none) (subst (λ n. Recorded job n m.threads) same h)
+  recorded_core thread None found over waits is =
+      let w = waits.waits in
+      let some : next_access job thread.core ≡ Some w.0 = ap (access_of job thread.core) over ∙ ap wanted w.2 in
+      subst (λ o. Recorded job next (act job m t thread o).threads) (sym some)
+      (recorded_access thread found waits w.0 w.1 w.2 (subst (λ o. books_after t b (access_changes job m thread o) ≡ Some next) some is))
+
+  recorded_by : (o : Option Thread) → slice_get m.threads t ≡ o → ((thread : Thread) → slice_get m.threads t ≡ Some thread → IsCore job thread.core) → books_after t b (thread_changes job m o) ≡ Some next → Recorded job next (step_by job m t o).threads
+  recorded_by None found waits is = subst (λ n. Recorded job n m.threads) (same_book t b next [] refl is) h
+  recorded_by (Some thread) found waits is = recorded_core thread thread.core.over found refl (waits thread found) is
+
+  pub recorded_turn : ((thread : Thread) → slice_get m.threads t ≡ Some thread → IsCore job thread.core) → books_after t b (turn_changes job m t) ≡ Some next → Recorded job next (step job m t).threads
+  unfolding turn_changes step
+  recorded_turn waits is = recorded_by (slice_get m.threads t) refl waits is
