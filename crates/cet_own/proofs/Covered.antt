@@ -19,13 +19,14 @@ pub record Covered (job : JobData) (m : Machine) (b : Book) : Type 0 where
   pub readable : IsReadable (told_spans m.threads) (kept_pointers m.threads)
   pub covers : Covers b (told_numbers b m.threads) (told_spans m.threads) (kept_pointers m.threads)
   pub few : length m.threads ≤ 32
+  -- each thread has the number of its place
+  pub numbers : (t : ℕ) (thread : Thread) → slice_get m.threads t ≡ Some thread → thread.core.arch.number ≡ t
 
 -- every thread has ended
 abbrev pub AllEnded : List Thread → Type 0
 AllEnded threads = (t : ℕ) (thread : Thread) → slice_get threads t ≡ Some thread → (e : End) × (thread.core.over ≡ Some e)
 
--- The last book of a run in which every thread has ended, and that it is covered. CoveredRun.antt has, as last_covered:
--- IsJob job → Starts job start → AllEnded (run job start turns).threads → LastCovered job start turns
+-- the last book of a run in which every thread has ended, and that it is covered
 pub record LastCovered (job : JobData) (start : Machine) (turns : List ℕ) : Type 0 where
   pub book : Book
   pub last : book_of job start turns ≡ Some book

@@ -61,7 +61,7 @@ sum_found P f (x ∷ xs) l a =
     ]
 
 -- the start is there
-once_here : (x y : ℕ) → y ≡ x → one (y == x) ≡ 1
+pub once_here : (x y : ℕ) → y ≡ x → one (y == x) ≡ 1
 once_here x y e = let same : (y == x) ≡ true = grind (arith, nat_tests) in ap one same
 
 -- ---- regions

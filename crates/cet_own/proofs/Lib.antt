@@ -13,7 +13,9 @@ pub mod Drawn
 pub mod TellingRows
 pub mod Drawing
 pub mod Recorded
+pub mod ToldLaws
 pub mod Covered
+pub mod CoveredRun
 pub mod Owed
 pub mod ClassLaws
 pub mod Classes
