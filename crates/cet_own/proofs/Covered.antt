@@ -1,11 +1,11 @@
 -- What a report of a finished run shows is covered by what its records tell: the words are in step with the book, and the
 -- stacks told are the book's regions, with all that are kept. Source: own.
-use Rattle.std.specs.Prelude.{◌≡◌, ℕ, ◌≤◌, List, map, length, Option, Some, slice_get}
-use Rattle.cet_words.specs.Job.{JobData, IsJob}
+use Rattle.std.specs.Prelude.{◌≡◌, ℕ, ◌≤◌, List, map, length, Some, slice_get}
+use Rattle.cet_words.specs.Job.{JobData}
 use Rattle.cet_isa.specs.declared.threads.End.{End}
 use Rattle.cet_book.specs.Book.{Book, starting_at}
 use Rattle.cet_book.specs.View.{Span, IsReadable, InStep, Covers}
-use Rattle.cet_page.specs.Machine.{Machine, Thread, run, Starts}
+use Rattle.cet_page.specs.Machine.{Machine, Thread, run}
 use Rattle.cet_own.specs.Event.{book_of}
 use Rattle.cet_own.specs.Told.{told_spans, kept_pointers}
 

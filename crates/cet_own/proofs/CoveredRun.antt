@@ -1,23 +1,22 @@
 -- The report of a finished run is covered: words and book are in step, the stacks told are the book's regions with all that are
 -- kept, and the pointers are the tops of those that are current. Source: own.
-use Rattle.std.proofs.Common.{◌≡◌, ℕ, ◌+◌, ◌-◌, ◌*◌, ◌/◌, ◌%◌, ◌<◌, ◌≤◌, ◌⊎◌, inl, inr, List, [], ◌∷◌, ◌++◌, length, map, get_or, Option, Some, None, refl, sym, ◌∙◌, ap, subst, arith}
+use Rattle.std.proofs.Common.{◌≡◌, ℕ, ◌+◌, ◌%◌, ◌<◌, ◌≤◌, inl, inr, List, [], ◌∷◌, ◌++◌, length, get_or, Option, Some, None, refl, sym, ◌∙◌, ap, subst, arith}
 use Rattle.std.specs.Prelude.{◌==◌, All, option_and_then, slice_get, slice_index, sum_by}
 use Rattle.std.specs.List.{flat_map}
 use Rattle.std.proofs.lemmas.Bool.{cases_lt}
 use Rattle.std.proofs.lemmas.Bool.Decides.{eqb_tells}
 use Rattle.std.proofs.lemmas.List.{get_or-map, length-map}
 use Rattle.std.proofs.lemmas.List.Elements.{All-nil, All-cons}
-use Rattle.std.proofs.lemmas.List.Sums.{sum_by-cons}
 use Rattle.std.proofs.lemmas.Option.{slice_get-get_or}
 use Rattle.cet_words.specs.Job.{JobData, IsJob}
-use Rattle.cet_words.specs.Layout.{first_region_end, first_region_start}
+use Rattle.cet_words.specs.Layout.{first_region_start}
 use Rattle.cet_words.specs.Change.{Change}
 use Rattle.cet_isa.specs.declared.threads.End.{End}
 use Rattle.cet_isa.specs.declared.threads.End.TheVariants as ending
 use Rattle.cet_book.specs.declared.entries.Holder.TheVariants.{Current}
 use Rattle.cet_book.specs.Book.{Book, region, top, current_of, starting_at, book_after, books_after, first_book}
-use Rattle.cet_book.specs.Facts.{Place, IsParkedAt, one}
-use Rattle.cet_book.specs.View.{Span, IsKept, IsReadable, IsSpan, InStep, Covers, Given, Has, Points, no_span, span_of}
+use Rattle.cet_book.specs.Facts.{one}
+use Rattle.cet_book.specs.View.{Span, IsKept, IsReadable, IsSpan, InStep, Covers, Has, no_span, span_of}
 use Rattle.cet_book.proofs.Edits.{current_holds}
 use Rattle.cet_book.proofs.Ways.{starting_at_is}
 use Rattle.cet_page.specs.Core.{Core, first_core}
@@ -34,7 +33,7 @@ use Rattle.cet_own.proofs.Recorded.{Recorded, ThreadSpans, row_drawn, used, show
 use Rattle.cet_own.proofs.Run.{turn, first_stands}
 use Rattle.cet_own.proofs.StandsAt.{stands_at, token_found}
 use Rattle.cet_own.proofs.Threads.{CoreStands, ThreadStands}
-use Rattle.cet_own.proofs.ToldLaws.{StandsAt, order_times, order_all, flat_times, flat_all, flat_has, same_sums, times_place, one_place, map_back}
+use Rattle.cet_own.proofs.ToldLaws.{order_times, order_all, flat_times, flat_all, flat_has, same_sums, times_place, one_place, map_back}
 use Rattle.cet_own.proofs.Turns.{Invariant, safe_at}
 use Rattle.cet_own.proofs.Views.{kept_there}
 

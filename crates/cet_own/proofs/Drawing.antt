@@ -1,33 +1,22 @@
 -- What a row draws, change by change: each stack that is claimed is a region, no two that are told or claimed have one start, and
 -- what is kept is told or drawn. It holds of any number of regions. Source: own.
-use Rattle.std.proofs.Common.{◌≡◌, ◌≢◌, ℕ, zero, suc, ◌+◌, ◌-◌, ◌*◌, ◌<◌, ◌≤◌, ◌⊎◌, inl, inr, Bool, true, false, cond, List, [], ◌∷◌, ◌++◌, length, Option, Some, None, refl, sym, ◌∙◌, ap, subst, arith, add-one, length-append}
-use Rattle.std.specs.Prelude.{◌==◌, All, option_and_then, slice_get, slice_set, sum_by}
-use Rattle.std.specs.List.{flat_map}
+use Rattle.std.proofs.Common.{◌≡◌, ℕ, ◌+◌, ◌*◌, ◌<◌, ◌≤◌, inl, inr, Bool, true, List, [], ◌∷◌, ◌++◌, length, Some, refl, sym, ◌∙◌, ap, subst, arith}
+use Rattle.std.specs.Prelude.{◌==◌, All, option_and_then, sum_by}
 use Rattle.std.proofs.lemmas.Bool.{cases_lt}
 use Rattle.std.proofs.lemmas.Bool.Decides.{eqb_tells, nat_tests}
-use Rattle.std.proofs.lemmas.Grind.{flat_map-append}
-use Rattle.std.proofs.lemmas.List.{append-nil}
-use Rattle.std.proofs.lemmas.List.Elements.{All-nil, All-cons, All-head, All-tail, All-append, All-set}
-use Rattle.std.proofs.lemmas.List.Sums.{sum_by-cons, sum_by-append}
-use Rattle.std.proofs.lemmas.Option.{slice_get_within}
-use Rattle.cet_words.specs.Access.{answer, after}
+use Rattle.std.proofs.lemmas.List.Elements.{All-cons, All-head, All-tail}
+use Rattle.std.proofs.lemmas.List.Sums.{sum_by-cons}
 use Rattle.cet_words.specs.Change.{Change, Claimed, Seeded, Born}
-use Rattle.cet_words.specs.Job.{JobData}
-use Rattle.cet_words.specs.Layout.{first_region_start}
-use Rattle.cet_words.specs.declared.accesses.Access.{Access}
-use Rattle.cet_isa.specs.declared.threads.Arch.{Arch}
-use Rattle.cet_isa.specs.declared.threads.Record.{Record}
 use Rattle.cet_book.specs.Book.{Region, Book, region, claim, can_claim, book_after, books_after}
 use Rattle.cet_book.specs.Facts.{one}
 use Rattle.cet_book.specs.Shape.{IsBook}
 use Rattle.cet_book.specs.View.{Span, IsKept}
-use Rattle.cet_book.proofs.Append.{Appends, append, append_length, append_new, append_old}
+use Rattle.cet_book.proofs.Append.{Appends, append, append_length, append_new}
 use Rattle.cet_book.proofs.Cases.{if_some}
 use Rattle.cet_book.proofs.Changes.{same_book, then_by}
 use Rattle.cet_book.proofs.Comes.{Lasts, changes_last}
 use Rattle.cet_book.proofs.Kept.{book_kept, claims}
-use Rattle.cet_own.specs.Told.{told, told_in, first_span}
-use Rattle.cet_own.proofs.Drawn.{Drawn, nothing_drawn, claimed_span, draw, draws, TellsOf, tells_nothing, tells_stack}
+use Rattle.cet_own.proofs.Drawn.{Drawn, claimed_span, draw, draws}
 use Rattle.cet_own.proofs.Views.{Keeps, was_kept, kept_there}
 
 -- ---- how often a start occurs
@@ -161,12 +150,12 @@ module _ {b next : Book} {rest shown : ℕ → ℕ} {d : Drawn} (t : ℕ) (book 
       let at : (region next (length b.regions)).start ≡ start = ap (λ (x : Region). x.start) new in
       let to : (region next (length b.regions)).end ≡ start + 4096 * pages = ap (λ (x : Region). x.end) new in
       let fresh : HasStart b start → ⊥ = λ s.
-          let inside = s.inside in
-          let first = s.first in
-          let same = lasts.start s.number inside in
-          let apart = sound.shape.apart s.number (length b.regions) inside (omega arith) in
-          let full = (sound.shape.bounds s.number (omega arith)).full in
-          omega arith in
+      let inside = s.inside in
+      let first = s.first in
+      let same = lasts.start s.number inside in
+      let apart = sound.shape.apart s.number (length b.regions) inside (omega arith) in
+      let full = (sound.shape.bounds s.number (omega arith)).full in
+      omega arith in
       record {
         there = λ x l. start_lasts lasts (h.there x l);
         claimed = All-cons (HasSpan next) (claimed_span start pages) d.claimed (record { number = length b.regions; inside = omega arith; first = at; last = to }) (spans_last lasts d.claimed h.claimed);

@@ -2,10 +2,8 @@
 -- was parked or got a thread. A row owes this whatever its accesses answer. Source: own.
 use Rattle.std.proofs.Common.{◌≡◌, ◌⊎◌, ℕ, zero, suc, ◌+◌, ◌*◌, List, [], ◌∷◌}
 use Rattle.cet_words.specs.Change.{Change, Claimed, Seeded, Born}
-use Rattle.cet_words.specs.declared.accesses.Access.{Access}
 use Rattle.cet_words.specs.declared.accesses.Access.TheVariants as access
 use Rattle.cet_isa.specs.declared.threads.Arch.{Arch}
-use Rattle.cet_isa.specs.declared.threads.Fault.{Fault}
 use Rattle.cet_isa.specs.declared.threads.Record.{Record}
 use Rattle.cet_book.specs.View.{Span}
 use Rattle.cet_page.specs.Script.{Script, done, fault, ask, tell, Came, Over, Faulted, Wants, play}

@@ -1,17 +1,16 @@
 -- What the records of threads and their present rows tell of the book, kept by every turn: each stack that is told or claimed is
 -- a region, no two have one start, and every region that is kept is told, or is one that a present row made so. It holds of any
 -- number of threads and regions. Source: own.
-use Rattle.std.proofs.Common.{◌≡◌, ℕ, zero, suc, ◌+◌, ◌-◌, ◌<◌, ◌≤◌, ◌⊎◌, inl, inr, Bool, true, false, cond, List, [], ◌∷◌, ◌++◌, length, Option, Some, None, refl, sym, ◌∙◌, ap, subst, arith, add-one}
+use Rattle.std.proofs.Common.{◌≡◌, ℕ, zero, suc, ◌+◌, ◌-◌, ◌≤◌, inl, inr, Bool, true, false, cond, List, [], ◌∷◌, ◌++◌, Option, Some, None, refl, sym, ◌∙◌, ap, subst, arith, add-one}
 use Rattle.std.specs.Prelude.{◌==◌, All, slice_get, slice_set, sum_by}
-use Rattle.std.specs.List.{flat_map}
 use Rattle.std.proofs.lemmas.Bool.{cases_lt}
 use Rattle.std.proofs.lemmas.Bool.Decides.{eqb_tells}
 use Rattle.std.proofs.lemmas.Grind.{flat_map-append}
 use Rattle.std.proofs.lemmas.List.{append-nil}
-use Rattle.std.proofs.lemmas.List.Elements.{All-nil, All-cons, All-head, All-tail, All-append, All-set, All-get_or}
+use Rattle.std.proofs.lemmas.List.Elements.{All-nil, All-cons, All-append, All-set, All-get_or}
 use Rattle.std.proofs.lemmas.List.Sums.{sum_by-cons, sum_by-append}
 use Rattle.std.proofs.lemmas.Option.{slice_get_within, get_or_from_slice_get}
-use Rattle.cet_words.specs.Access.{answer, after}
+use Rattle.cet_words.specs.Access.{answer}
 use Rattle.cet_words.specs.Change.{Change}
 use Rattle.cet_words.specs.Job.{JobData}
 use Rattle.cet_words.specs.Layout.{first_region_start}
@@ -25,7 +24,7 @@ use Rattle.cet_book.specs.Facts.{one}
 use Rattle.cet_book.specs.Shape.{IsBook}
 use Rattle.cet_book.specs.View.{Span, IsKept}
 use Rattle.cet_book.proofs.Changes.{same_book}
-use Rattle.cet_book.proofs.Comes.{Lasts, changes_last}
+use Rattle.cet_book.proofs.Comes.{changes_last}
 use Rattle.cet_page.specs.Core.{Core, unheld, come, changes_of, next_changes, next_access, access_of, wanted, answered, taken, child_core, child_of, born}
 use Rattle.cet_page.specs.Machine.{Thread, Machine, thread_after, with_child, accessed, act, step_by, step}
 use Rattle.cet_page.specs.Row.{row}
@@ -127,7 +126,7 @@ onward job thread a own v h w =
     let came = came_tells EndTells [] (row job (unheld core.arch)) seen.count seen.kept (row_tells job (unheld core.arch)) in
     let d = draws (own v) (row_drawn job thread) in
     let here : Onward job d thread (thread_after thread (answered job core v (Wants a own))) =
-        onward_came job thread (held_after (own v) core.arch.held) seen d (child_of core.arch (own v)) (come job core.arch seen) more (subst (λ x. CameTells EndTells x (come job core.arch seen)) more came) in
+    onward_came job thread (held_after (own v) core.arch.held) seen d (child_of core.arch (own v)) (come job core.arch seen) more (subst (λ x. CameTells EndTells x (come job core.arch seen)) more came) in
     subst (λ c. Onward job (draws (changes_of c v) (row_drawn job thread)) thread (thread_after thread (answered job core v c))) (sym w) here
 
 module _ {job : JobData} {d : Drawn} {thread next : Thread} where

@@ -1,5 +1,5 @@
 -- No row draws a stack yet, and no record tells of one: each row pays what it owes. Source: own.
-use Rattle.std.proofs.Common.{◌≡◌, ℕ, zero, suc, ◌+◌, ◌%◌, Bool, true, false, cond, List, [], ◌∷◌, Option, Some, None, refl, subst, sym}
+use Rattle.std.proofs.Common.{◌≡◌, ℕ, zero, suc, ◌+◌, ◌%◌, Bool, true, false, cond, List, [], Option, Some, None, refl, subst, sym}
 use Rattle.std.specs.Prelude.{◌==◌}
 use Rattle.std.specs.Int.{cast_unsigned}
 use Rattle.cet_words.specs.Layout.{page_at}
@@ -35,11 +35,10 @@ use Rattle.cet_page.specs.declared.checks.Kind.{Kind}
 use Rattle.cet_page.specs.declared.checks.Who.{Who}
 use Rattle.cet_page.specs.declared.families.Family.{Family}
 use Rattle.cet_page.specs.declared.families.Family.TheVariants as families
-use Rattle.cet_page.specs.declared.finishes.Finish.{Finish}
 use Rattle.cet_page.specs.declared.finishes.Leaving.{Leaving}
 use Rattle.cet_page.specs.declared.finishes.Leaving.TheVariants as leaving
 use Rattle.cet_page.specs.declared.flags.Computed.{Computed}
-use Rattle.cet_own.proofs.Drawn.{Drawn, nothing_drawn, draws, TellsOf, tells_nothing, EndTells, RowTells, Telling}
+use Rattle.cet_own.proofs.Drawn.{Drawn, nothing_drawn, draws, tells_nothing, EndTells, RowTells, Telling}
 
 -- ---- one lemma for each part, with what follows it; changes that draw nothing
 

@@ -1,10 +1,10 @@
 -- What a change leaves of regions that are kept, that is current, parked or left: each was kept before, or the change names its
 -- start. Source: own.
-use Rattle.std.proofs.Common.{◌≡◌, ℕ, ◌<◌, ◌⊎◌, inl, inr, List, length, Some, refl, sym, ◌∙◌, ap, subst}
-use Rattle.cet_words.specs.Change.{Change, Called, Returned, Raised, Acquired, Released, Claimed, Seeded, Born, Pushed, Popped, Ended, Busied, Freed}
+use Rattle.std.proofs.Common.{◌≡◌, ℕ, ◌<◌, ◌⊎◌, inl, inr, List, length, Some, sym, subst}
+use Rattle.cet_words.specs.Change.{Change, Seeded, Born}
 use Rattle.cet_book.specs.declared.entries.Entry.{Entry}
 use Rattle.cet_book.specs.declared.entries.Holder.{Holder}
-use Rattle.cet_book.specs.declared.entries.Holder.TheVariants.{Maker, Current, Parked, Left, Lost}
+use Rattle.cet_book.specs.declared.entries.Holder.TheVariants.{Lost}
 use Rattle.cet_book.specs.Book.{Region, Book, region, relist, unlink, acquire, book_after}
 use Rattle.cet_book.specs.Shape.{IsBook}
 use Rattle.cet_book.specs.View.{IsKept}
