@@ -3,6 +3,7 @@
 use Rattle.std.proofs.Common.{◌≡◌, ℕ, ◌+◌, ◌%◌, ◌<◌, ◌≤◌, inl, inr, List, [], ◌∷◌, ◌++◌, length, get_or, Option, Some, None, refl, sym, ◌∙◌, ap, subst, arith}
 use Rattle.std.specs.Prelude.{◌==◌, All, option_and_then, slice_get, slice_index, sum_by}
 use Rattle.std.specs.List.{flat_map}
+use Rattle.std.specs.Option.{option_map_or}
 use Rattle.std.proofs.lemmas.Bool.{cases_lt}
 use Rattle.std.proofs.lemmas.Bool.Decides.{eqb_tells}
 use Rattle.std.proofs.lemmas.List.{get_or-map, length-map}
@@ -17,12 +18,14 @@ use Rattle.cet_book.specs.declared.entries.Holder.TheVariants.{Current}
 use Rattle.cet_book.specs.Book.{Book, region, top, current_of, starting_at, book_after, books_after, first_book}
 use Rattle.cet_book.specs.Facts.{one}
 use Rattle.cet_book.specs.View.{Span, IsKept, IsReadable, IsSpan, InStep, Covers, Has, no_span, span_of}
+use Rattle.cet_book.specs.declared.events.Event.{Event}
+use Rattle.cet_book.proofs.Changes.{same_book, then_by}
 use Rattle.cet_book.proofs.Edits.{current_holds}
 use Rattle.cet_book.proofs.Ways.{starting_at_is}
 use Rattle.cet_page.specs.Core.{Core, first_core}
 use Rattle.cet_page.specs.Machine.{Machine, Thread, step, run, Starts}
 use Rattle.cet_page.specs.Trail.{row_trail, trail_of}
-use Rattle.cet_own.specs.Event.{Event, events_by, turn_changes, events, book_by}
+use Rattle.cet_own.specs.Event.{events_by, turn_changes, events_from, book_by}
 use Rattle.cet_own.specs.Safe.{KeepsStack}
 use Rattle.cet_own.specs.Told.{told_in, told_spans, first_span, kept_pointer, kept_pointers}
 use Rattle.cet_own.proofs.Covered.{Covered, told_numbers, AllEnded, LastCovered}
@@ -298,19 +301,17 @@ first_recorded job start s =
           subst (λ n. 1 ≤ one (first_region_start == (region first_book n).start) + sum_by (shown job (region first_book n).start) (record { core = first_core job; trace = [] } ∷ [])) zero (omega arith));
     })
 
--- the changes of one turn, and what follows them
-book_then : (t : ℕ) (c : Change) (cs : List Change) (rest : List Event) (o : Option Book) → ((n : Book) → book_by n (events_by t cs ++ rest) ≡ option_and_then (λ x. book_by x rest) (books_after t n cs)) → option_and_then (λ n. book_by n (events_by t cs ++ rest)) o ≡ option_and_then (λ x. book_by x rest) (option_and_then (λ n. books_after t n cs) o)
-book_then t c cs rest None h = refl
-book_then t c cs rest (Some n) h = h n
-
-book_turn : (t : ℕ) (cs : List Change) (rest : List Event) (b : Book) → book_by b (events_by t cs ++ rest) ≡ option_and_then (λ x. book_by x rest) (books_after t b cs)
-book_turn t [] rest b = refl
-book_turn t (c ∷ cs) rest b = book_then t c cs rest (book_after t b c) (λ n. book_turn t cs rest n)
+-- the events of one turn, and what follows them
+book_turn : (t : ℕ) (cs : List Change) (rest : List Event) (b next : Book) → books_after t b cs ≡ Some next → book_by b (events_by t b cs ++ rest) ≡ book_by next rest
+book_turn t [] rest b next e = ap (λ n. book_by n rest) (same_book t b next [] refl e)
+book_turn t (c ∷ cs) rest b next e =
+    let s = then_by t (book_after t b c) next cs e in
+    ap (λ o. option_and_then (λ n. book_by n (option_map_or (λ x. events_by t x cs) o [] ++ rest)) o) s.1 ∙ book_turn t cs rest s.0 next s.2
 
 -- what a run leads to
 record Ran (job : JobData) (m : Machine) (s : State) (turns : List ℕ) : Type 0 where
   next : State
-  is : book_by s.book (events job m turns) ≡ Some next.book
+  is : book_by s.book (events_from job m (Some s.book) turns) ≡ Some next.book
   stands : Invariant job (run job m turns) next
   told : Recorded job next.book (run job m turns).threads
 
@@ -322,7 +323,10 @@ ran job j (t ∷ ts) m s st told =
     let r = ran job j ts (step job m t) d.next d.stands next in
     record {
       next = r.next;
-      is = book_turn t (turn_changes job m t) (events job (step job m t) ts) s.book ∙ ap (option_and_then (λ x. book_by x (events job (step job m t) ts))) d.is ∙ r.is;
+      is =
+          book_turn t (turn_changes job m t) (events_from job (step job m t) (books_after t s.book (turn_changes job m t)) ts) s.book d.next.book d.is
+          ∙ ap (λ o. book_by d.next.book (events_from job (step job m t) o ts)) d.is
+          ∙ r.is;
       stands = r.stands;
       told = r.told;
     }
