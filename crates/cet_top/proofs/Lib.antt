@@ -14,8 +14,6 @@ mod Known
 mod InputReads
 mod Steps
 mod LiveThreads
-mod WordsFrom
-mod QuietTraces
 mod ScheduleLaws
 mod Finished
 mod Serving

@@ -1,11 +1,9 @@
 //! What the program prints, where no run of today shows it.
 
 use crate::Status;
-use crate::outcomes::{
-    Outcome, ProcessEnd, Records, Region, Shown, StackReport, StackReports, Style, ThreadOut,
-    ThreadOuts,
-};
+use crate::outcomes::{Outcome, ProcessEnd, Records, Style, ThreadOut, ThreadOuts};
 use crate::reports::report;
+use cet_book::{Region, Shown, StackReport, StackReports};
 use cet_isa::{End, FaultName, Record, What};
 use cet_words::{NoMemory, Words};
 use std::alloc::Global;

@@ -49,6 +49,20 @@ impl TracedThread {
         self.cpu.end()
     }
 
+    /// The thread's number.
+    pub fn number(&self) -> u8
+        ensures { result ≡ self.now.cpu.core.arch.number }
+    {
+        self.cpu.arch().number
+    }
+
+    /// The thread's records so far.
+    pub fn records(&self) -> &Records
+        ensures { result.now ≡ self.now.trace }
+    {
+        &self.records
+    }
+
     /// The thread's shadow stack pointer.
     pub fn ssp(&self) -> u64
         ensures { result ≡ self.now.cpu.core.arch.ssp }
