@@ -8,6 +8,7 @@ pub mod Kept
 pub mod Own
 pub mod Still
 pub mod Counters
+pub mod Covered
 pub mod Owed
 pub mod ClassLaws
 pub mod Classes
