@@ -14,6 +14,8 @@ mod Known
 mod InputReads
 mod Steps
 mod LiveThreads
+mod InOrder
+mod ToldStacks
 mod ScheduleLaws
 mod Finished
 mod Serving

@@ -55,6 +55,13 @@ impl Records {
     {
         self.records.get(at).copied()
     }
+
+    /// All records.
+    pub fn as_slice(&self) -> &[Record]
+        ensures { result.now ≡ self.now }
+    {
+        self.records.as_slice()
+    }
 }
 
 /// A thread of an outcome: its records, and how it ended.

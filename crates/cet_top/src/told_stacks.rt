@@ -2,10 +2,9 @@
 
 ghost use Rattle.std.specs.Prelude.{◌≡◌, ◌++◌, All, OnOk, IfOk};
 ghost use Rattle.cet_book.specs.View.{IsSpan};
-ghost use Rattle.cet_own.specs.Told.{told, told_in, told_spans, kept_pointers};
+ghost use Rattle.cet_own.specs.Told.{in_order, told, told_in, told_spans, kept_pointers};
 ghost use Rattle.cet_top.specs.TracedThreads.{threads_of};
 
-use crate::outcomes::Records;
 use crate::traced_threads::TracedThread;
 use cet_book::Region;
 use cet_isa::{End, Record, What};
@@ -13,7 +12,7 @@ use cet_words::{FIRST_REGION_END, FIRST_REGION_START, NoMemory, page_up};
 use std::alloc::Global;
 
 /// The place of thread 0's first shadow stack.
-const FIRST_STACK: Region = Region {
+pub(crate) const FIRST_STACK: Region = Region {
     start: FIRST_REGION_START,
     end: FIRST_REGION_END,
 };
@@ -54,13 +53,21 @@ fn push_told(spans: &mut Vec<Region>, noted: Record) -> Result<(), NoMemory>
 }
 
 /// Appends the shadow stacks that records tell of.
-fn push_all_told(spans: &mut Vec<Region>, records: &Records) -> Result<(), NoMemory>
+pub(crate) fn push_all_told(spans: &mut Vec<Region>, records: &[Record]) -> Result<(), NoMemory>
     requires { All IsSpan (told_in records.now) }
     ensures { OnOk result (spans.new.items ≡ spans.old.items ++ told_in records.now) }
 {
-    for at in 0..records.len() {
-        push_told(spans, records.get(at).unwrap())?;
+    for noted in records {
+        push_told(spans, *noted)?;
     }
+    Ok(())
+}
+
+/// Sorts shadow stacks by their starts.
+pub(crate) fn put_in_order(spans: &mut Vec<Region>) -> Result<(), NoMemory>
+    ensures { OnOk result (spans.new.items ≡ in_order spans.old.items) }
+{
+    spans.sort_by_key(|span| span.start)?;
     Ok(())
 }
 
@@ -77,7 +84,7 @@ pub(crate) fn told_spans(
     for traced in all_traced {
         push_all_told(&mut spans, traced.records())?;
     }
-    spans.sort_by_key(|span| span.start)?;
+    put_in_order(&mut spans)?;
     Ok(spans)
 }
 
