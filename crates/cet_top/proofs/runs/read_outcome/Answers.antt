@@ -23,6 +23,6 @@ returns g c image b tells =
     let step = subst (λ words. InStep image words b) (sym c.perform-exit.ensures.words) tells.in_step in
     let numbers = map (λ (s : Span). starting_at s.start b) (told_spans threads) in
     let covers = subst (λ l. Covers b numbers l c.deref-4.result.now) (sym spans) (subst (Covers b numbers (told_spans threads)) (sym pointers) tells.covers) in
-    outcome_read _ threads b _ _ _ c.perform-exit.result c.perform-exit.ensures.answer c.in_ok-threads.ensures
+    outcome_read (g.P.Perform.words c.args.words.now) threads b _ _ _ c.perform-exit.result c.perform-exit.ensures.answer c.in_ok-threads.ensures
     (c.in_ok-stacks.ensures.shown image b numbers step covers)
     (c.process_end-process.ensures ∙ ap (process_end c.perform-exit.result) c.as_slice.ensures)
