@@ -101,11 +101,11 @@ edit_sole t c b next h (acquires m p q e k is) one =
 edit_sole t c b next h (appends r a is) one =
     let more : length next.regions ≡ length b.regions + 1 = subst (λ (n : Book). length n.regions ≡ length b.regions + 1) is (append_length a) in
     absurd (let e = h.only in omega arith)
-edit_sole t c b next h (seeds_region s n m is) one =
+edit_sole t c b next h (seeds_region s n start e at m is) one =
     let at = sole_at s h (made_there m) in
     let making : (region b 0).holder ≡ Maker t = ap (λ i. (region b i).holder) at ∙ m.maker in
     absurd (elim h.holder [ inl e ↦ cc | inr e ↦ cc ])
-edit_sole t c b next h (bears_child s child start e m few is) one =
+edit_sole t c b next h (bears_child s child start e at m few is) one =
     let at = sole_at s h (made_there m) in
     let making : (region b 0).holder ≡ Maker t = ap (λ i. (region b i).holder) at ∙ m.maker in
     absurd (elim h.holder [ inl e ↦ cc | inr e ↦ cc ])

@@ -8,7 +8,14 @@ pub mod Kept
 pub mod Own
 pub mod Still
 pub mod Counters
+pub mod Views
+pub mod Drawn
+pub mod TellingRows
+pub mod Drawing
+pub mod Recorded
+pub mod ToldLaws
 pub mod Covered
+pub mod CoveredRun
 pub mod Owed
 pub mod ClassLaws
 pub mod Classes
