@@ -39,4 +39,3 @@ pub mod First
 pub mod Turns
 pub mod StandsAt
 pub mod Run
-pub mod LastBook

@@ -71,7 +71,7 @@ pub record Owed (image : ImageData) (t k : ℕ) (past : List Visit) (b : Book) (
   pub restorers : (words : List ℕ) → v ≡ answer words a → Holds image words b → KeepsRestorers words (after words a)
   -- counters grow once in a row, and births come with theirs alone
   pub counts : (words : List ℕ) → v ≡ answer words a → Holds image words b → CountsBy t past b a v changes
-  -- No row changes them yet. This law alone is of today's rows: it goes with LastBook, which stands on it.
+  -- No row changes them yet. This law alone is of today's rows: it goes with the first that draws pages.
   pub uncounted : (words : List ℕ) → v ≡ answer words a → Holds image words b → LeavesCounters a
 
 -- the supervisor stack of the processor of thread t

@@ -1,4 +1,4 @@
-//! What the program prints, where no run of today shows it.
+//! What the program prints, and what it reads off records, where no run of today shows it.
 
 ghost use Rattle.std.specs.Prelude.{◌≡◌};
 

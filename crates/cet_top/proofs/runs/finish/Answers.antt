@@ -3,6 +3,7 @@ use Rattle.std.proofs.lemmas.List.{length-map}
 use Rattle.std.proofs.lemmas.Result.{IfOk-weaker}
 use Rattle.cet_words.specs.Job.{JobData, IsJob}
 use Rattle.cet_page.specs.Machine.{Machine, Starts}
+use Rattle.cet_own.proofs.CoveredRun.{last_covered}
 use Rattle.cet_own.proofs.Run.{exit_run, safe_run, stands_run}
 use Rattle.cet_top.specs.TracedThreads.{thread_of}
 use Rattle.cet_top.proofs.Finished.{Laws, ended_covered, ended_exit, ended_ran}
@@ -12,7 +13,7 @@ laws : (job : JobData) (start : Machine) → IsJob job → Starts job start → 
 laws job start is starts = record {
   is_job = is;
   starts = starts;
-  last = λ turns ended. ?;
+  last = λ turns ended. last_covered job start turns is starts ended;
   safe = λ turns. safe_run job start turns is starts;
   stands = λ turns. stands_run job start turns is starts;
   exit = λ turns. exit_run job start turns is starts;
