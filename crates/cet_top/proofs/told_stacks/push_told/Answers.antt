@@ -1,5 +1,4 @@
-use Rattle.std.proofs.Common.{◌+◌, ◌≤◌, arith}
-use Rattle.cet_words.specs.Layout.{page_up}
+use Rattle.std.proofs.Common.{arith}
 use Rattle.cet_top.proofs.ToldStacks.{claim_ends}
 use Rattle.cet_top.proofs.told_stacks.push_told.Goals as goal
 
