@@ -181,7 +181,7 @@ pub record Lasts (b next : Book) : Type 0 where
   pub start : (i : ℕ) → i < length b.regions → (region next i).start ≡ (region b i).start
   pub end : (i : ℕ) → i < length b.regions → (region next i).end ≡ (region b i).end
 
-change_lasts : (t : ℕ) (c : Change) (b next : Book) → IsBook b → book_after t b c ≡ Some next → Lasts b next
+pub change_lasts : (t : ℕ) (c : Change) (b next : Book) → IsBook b → book_after t b c ≡ Some next → Lasts b next
 change_lasts t c b next h e =
     let others = change_comes t (t + child_of c + 1) c b next h e (bystander t c) (inl (λ z. omega arith)) in
     record { grows = others.grows; start = others.start; end = others.end }

@@ -35,7 +35,7 @@ use Rattle.cet_own.proofs.Owed.{State}
 use Rattle.cet_own.proofs.Recorded.{Recorded, ThreadSpans, row_drawn, used, shown, recorded_turn}
 use Rattle.cet_own.proofs.Run.{turn, first_stands}
 use Rattle.cet_own.proofs.StandsAt.{stands_at, token_found}
-use Rattle.cet_own.proofs.Threads.{CoreStands, ThreadStands}
+use Rattle.cet_own.proofs.Threads.{Ended, CoreStands, ThreadStands}
 use Rattle.cet_own.proofs.ToldLaws.{order_times, order_all, flat_times, flat_all, flat_has, same_sums, times_place, one_place, map_back}
 use Rattle.cet_own.proofs.Turns.{Invariant, safe_at}
 use Rattle.cet_own.proofs.Views.{kept_there}
@@ -61,25 +61,21 @@ core_number job t s core (Some (ending.Exit status)) h = h.2
 core_number job t s core (Some ending.Group) h = h.3
 core_number job t s core (Some ending.Limit) h = h.3
 
+ended_top : (job : JobData) (t : ℕ) (s : State) (core : Core) → Ended job t s core → All (IsTop s.book) ((core.arch.number, core.arch.ssp) ∷ [])
+ended_top job t s core h =
+    let stack = h.0.stacked in
+    All-cons (IsTop s.book) (core.arch.number, core.arch.ssp) [] (record {
+      number = current_of t s.book;
+      inside = stack.top.has;
+      current = current_holds t s.book stack.top.has ∙ ap Current (sym h.3);
+      at = stack.top.at;
+    }) (All-nil (IsTop s.book))
+
 core_tops : (job : JobData) (t : ℕ) (s : State) (core : Core) (over : Option End) (e : End) → over ≡ Some e → CoreStands job t s core over → All (IsTop s.book) (kept_pointer over core.arch.number core.arch.ssp)
 core_tops job t s core None e is h = cc
 core_tops job t s core (Some (ending.Exit status)) e is h = All-nil (IsTop s.book)
-core_tops job t s core (Some ending.Group) e is h =
-    let stack = h.0.stacked in
-    All-cons (IsTop s.book) (core.arch.number, core.arch.ssp) [] (record {
-      number = current_of t s.book;
-      inside = stack.top.has;
-      current = current_holds t s.book stack.top.has ∙ ap Current (sym h.3);
-      at = stack.top.at;
-    }) (All-nil (IsTop s.book))
-core_tops job t s core (Some ending.Limit) e is h =
-    let stack = h.0.stacked in
-    All-cons (IsTop s.book) (core.arch.number, core.arch.ssp) [] (record {
-      number = current_of t s.book;
-      inside = stack.top.has;
-      current = current_holds t s.book stack.top.has ∙ ap Current (sym h.3);
-      at = stack.top.at;
-    }) (All-nil (IsTop s.book))
+core_tops job t s core (Some ending.Group) e is h = ended_top job t s core h
+core_tops job t s core (Some ending.Limit) e is h = ended_top job t s core h
 
 kept_one : (over : Option End) (e : End) (number ssp : ℕ) → over ≡ Some e → KeepsStack over → kept_pointer over number ssp ≡ (number, ssp) ∷ []
 kept_one None e number ssp is k = cc

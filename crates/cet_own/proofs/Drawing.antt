@@ -1,7 +1,7 @@
 -- What a row draws, change by change: each stack that is claimed is a region, no two that are told or claimed have one start, and
 -- what is kept is told or drawn. It holds of any number of regions. Source: own.
 use Rattle.std.proofs.Common.{◌≡◌, ℕ, ◌+◌, ◌*◌, ◌<◌, ◌≤◌, inl, inr, Bool, true, List, [], ◌∷◌, ◌++◌, length, Some, refl, sym, ◌∙◌, ap, subst, arith}
-use Rattle.std.specs.Prelude.{◌==◌, All, option_and_then, sum_by}
+use Rattle.std.specs.Prelude.{◌==◌, All, sum_by}
 use Rattle.std.proofs.lemmas.Bool.{cases_lt}
 use Rattle.std.proofs.lemmas.Bool.Decides.{eqb_tells, nat_tests}
 use Rattle.std.proofs.lemmas.List.Elements.{All-cons, All-head, All-tail}
@@ -14,7 +14,7 @@ use Rattle.cet_book.specs.View.{Span, IsKept}
 use Rattle.cet_book.proofs.Append.{Appends, append, append_length, append_new}
 use Rattle.cet_book.proofs.Cases.{if_some}
 use Rattle.cet_book.proofs.Changes.{same_book, then_by}
-use Rattle.cet_book.proofs.Comes.{Lasts, changes_last}
+use Rattle.cet_book.proofs.Comes.{Lasts, change_lasts}
 use Rattle.cet_book.proofs.Kept.{book_kept, claims}
 use Rattle.cet_own.proofs.Drawn.{Drawn, claimed_span, draw, draws}
 use Rattle.cet_own.proofs.Views.{Keeps, was_kept, kept_there}
@@ -110,18 +110,15 @@ keeps_occurs x (Born child start) d k = let e = once_here x start k in omega ari
 keeps_occurs x c d k = absurd k
 
 module _ {b next : Book} {rest shown : ℕ → ℕ} {d : Drawn} (t : ℕ) (book : IsBook b) (h : Drawing b rest shown d) where
-  change_lasts : (c : Change) → book_after t b c ≡ Some next → Lasts b next
-  change_lasts c e = changes_last t (c ∷ []) b next book (ap (option_and_then (λ n. Some n)) e)
-
   all_kept : (c : Change) → book_after t b c ≡ Some next → (i : ℕ) → IsKept (region next i).holder → 1 ≤ shown (region next i).start + occurs (region next i).start (draw c d).kept
   all_kept c e i k = elim (was_kept t c b next book e i k) [
     | inl was ↦
-        let same = (change_lasts c e).start i (kept_there b i was) in
+        let same = (change_lasts t c b next book e).start i (kept_there b i was) in
         let old = h.all i was in
         let more = occurs_more (region b i).start c d in
         subst (λ x. 1 ≤ shown x + occurs x (draw c d).kept) (sym same) (omega arith)
     | inr names ↦
-        let same = (change_lasts c e).start i names.0 in
+        let same = (change_lasts t c b next book e).start i names.0 in
         let here = keeps_occurs (region b i).start c d names.1 in
         subst (λ x. 1 ≤ shown x + occurs x (draw c d).kept) (sym same) (omega arith)
   ]
@@ -129,7 +126,7 @@ module _ {b next : Book} {rest shown : ℕ → ℕ} {d : Drawn} (t : ℕ) (book 
   -- a change that claims nothing
   drawing_same : (c : Change) → (draw c d).claimed ≡ d.claimed → book_after t b c ≡ Some next → Drawing next rest shown (draw c d)
   drawing_same c same e =
-      let lasts = change_lasts c e in
+      let lasts = change_lasts t c b next book e in
       record {
         there = λ x l. start_lasts lasts (h.there x l);
         claimed = subst (All (HasSpan next)) (sym same) (spans_last lasts d.claimed h.claimed);
@@ -140,7 +137,7 @@ module _ {b next : Book} {rest shown : ℕ → ℕ} {d : Drawn} (t : ℕ) (book 
   -- a claim's region lies above all others
   drawing_claimed : (start pages : ℕ) (maker : Bool) → IsBook next → book_after t b (Claimed start pages maker) ≡ Some next → Drawing next rest shown (draw (Claimed start pages maker) d)
   drawing_claimed start pages maker sound e =
-      let lasts = change_lasts (Claimed start pages maker) e in
+      let lasts = change_lasts t (Claimed start pages maker) b next book e in
       let r = claim t start pages maker in
       let test = if_some (can_claim start pages b) (Some (append r b)) next e in
       let a : Appends r b = claims t start pages maker b book.shape in

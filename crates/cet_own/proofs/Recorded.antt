@@ -1,7 +1,7 @@
 -- What the records of threads and their present rows tell of the book, kept by every turn: each stack that is told or claimed is
 -- a region, no two have one start, and every region that is kept is told, or is one that a present row made so. It holds of any
 -- number of threads and regions. Source: own.
-use Rattle.std.proofs.Common.{◌≡◌, ℕ, zero, suc, ◌+◌, ◌-◌, ◌≤◌, inl, inr, Bool, true, false, cond, List, [], ◌∷◌, ◌++◌, Option, Some, None, refl, sym, ◌∙◌, ap, subst, arith, add-one}
+use Rattle.std.proofs.Common.{◌≡◌, ℕ, zero, suc, ◌+◌, ◌-◌, ◌≤◌, inl, inr, Bool, true, false, List, [], ◌∷◌, ◌++◌, Option, Some, None, refl, sym, ◌∙◌, ap, subst, arith, add-one}
 use Rattle.std.specs.Prelude.{◌==◌, All, slice_get, slice_set, sum_by}
 use Rattle.std.proofs.lemmas.Bool.{cases_lt}
 use Rattle.std.proofs.lemmas.Bool.Decides.{eqb_tells}
@@ -42,6 +42,7 @@ use Rattle.cet_own.specs.Event.{access_changes, thread_changes, turn_changes}
 use Rattle.cet_own.specs.Told.{told, told_in, first_span}
 use Rattle.cet_own.proofs.Drawing.{times, occurs, times-append, times_found, sum_found, HasSpan, HasStart, span_starts, span_lasts, Drawing, drawing_all}
 use Rattle.cet_own.proofs.Drawn.{Drawn, nothing_drawn, draws, drawn, TellsOf, tells_nothing, tells_stack, EndTells, CameTells, came_tells}
+use Rattle.cet_own.proofs.Frame.{kept_cons}
 use Rattle.cet_own.proofs.Paid.{sum_moved}
 use Rattle.cet_own.proofs.TellingRows.{row_tells}
 use Rattle.cet_own.proofs.Threads.{left_by}
@@ -68,9 +69,6 @@ pub record Recorded (job : JobData) (b : Book) (threads : List Thread) : Type 0 
   pub all : (i : ℕ) → IsKept (region b i).holder → 1 ≤ one (first_region_start == (region b i).start) + sum_by (shown job (region b i).start) threads
 
 -- ---- an access draws what its changes say
-
-kept_cons : (x : ℕ) (vs : List ℕ) (a : Access) (v : ℕ) → x ∷ kept_after vs a v ≡ kept_after (x ∷ vs) a v
-kept_cons x vs a v = elim (keeps a) as (λ c. x ∷ cond c (vs ++ v ∷ []) vs ≡ cond c ((x ∷ vs) ++ v ∷ []) (x ∷ vs)) [ true ↦ refl | false ↦ refl ]
 
 drawn_more : {A : Type 0} (P : A → Type 0) (wrote : Bool) (s : Script A) (n k i : ℕ) (vs : List ℕ) (past : List Visit) (a : Access) (own : ℕ → List Change) (v : ℕ) → Walks n k wrote P s → Spent s i vs → play s i vs ≡ Wants a own → drawn (trail (suc i) s (kept_after vs a v) past) ≡ draws (own v) (drawn (trail i s vs past))
 drawn_more P wrote (done x) n k i vs past a own v f h w = cc
