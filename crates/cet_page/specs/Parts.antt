@@ -1,7 +1,7 @@
 -- The parts that scripts are made of. Source: own; the faults are those of the Intel SDM (volume 3A, the chapter on
 -- interrupts and exceptions), but a stack address that isn't canonical is #GP too, and every data access is aligned.
 use Rattle.std.proofs.Common.{zero, suc}
-use Rattle.std.specs.Prelude.{ℕ, ◌+◌, ◌%◌, List, [], Option, Some, None, ◌==◌, if◌then◌else◌}
+use Rattle.std.specs.Prelude.{ℕ, ◌+◌, ◌%◌, List, [], ◌∷◌, Option, Some, None, ◌==◌, if◌then◌else◌}
 use Rattle.cet_words.specs.Layout.{page_at}
 use Rattle.cet_words.specs.declared.accesses.Access.TheVariants as access
 use Rattle.cet_isa.specs.Address.{canonical}
