@@ -1,4 +1,4 @@
-use Rattle.std.proofs.Common.{arith, rules}
+use Rattle.std.proofs.Common.{◌∙◌, arith, rules}
 use Rattle.std.proofs.lemmas.Result.{err_from_is_err_and}
 use Rattle.std.proofs.lemmas.List.{length-drop, take_rest}
 use Rattle.cet_top.proofs.Known.{Appends-more, AppendsSome-more}
@@ -17,7 +17,7 @@ writes-preserved g c =
     let so_far = c.writes.invariant in
     record {
       within = search rules;
-      later = omega (arith, so_far.later, c.in_ok-at.ensures.cause.later);
+      steady = c.in_ok-at.ensures.steady ∙ so_far.steady;
       unused = λ z. absurd (let t = c.writes-test.true in let some = c.in_ok-at.ensures.bytes.some (let n = length-drop c.writes.at c.args.bytes.now in omega arith) in omega arith);
       written = Appends-more _ _ _ c.writes.at c.in_ok-at.field-0 c.args.bytes.now so_far.written (rw (take_rest c.args.bytes.now c.writes.at) at writes.appended);
     }
