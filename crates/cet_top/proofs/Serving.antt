@@ -1,11 +1,10 @@
 -- What follows of a command that was served.
-use Rattle.std.proofs.Common.{◌≡◌, ℕ, ◌+◌, ◌<◌, ◌≤◌, arith, Bool, true, false, List, [], ◌∷◌, length, Option, Some, None, refl, sym, ap, ◌∙◌, subst, inl, inr, ◌⊎◌}
+use Rattle.std.proofs.Common.{◌≡◌, ℕ, ◌<◌, ◌≤◌, arith, Bool, true, false, List, [], ◌∷◌, length, Option, Some, None, refl, sym, ap, subst, inl, inr, ◌⊎◌}
 use Rattle.std.specs.Io.KnownBytes.{Appends}
-use Rattle.cet_top.specs.Answer.{Answers, Runs, reads, status_of}
-use Rattle.cet_top.specs.Serves.{Answering, Answered, Completes, CountsTooMuch, Cut, GaveTooMuch, IsUntouched, LostTooMuch, Serves, SinkState, Takes, Wrote}
-use Rattle.cet_io.specs.Stream.{Rose, Tally}
-use Rattle.cet_top.specs.Reading.{ReadToEnd, ReadTooMuch, ReadUntilFault, SourceState, TakesAll, TalliesBy}
-use Rattle.cet_top.specs.Schedule.{ByRobin}
+use Rattle.cet_top.specs.Answer.{Answers, reads, status_of}
+use Rattle.cet_top.specs.Serves.{Answering, Answered, Completes, CountsTooMuch, Cut, GaveTooMuch, IsAnswered, LostTooMuch, Read, Serves, SinkState, Takes, Wrote}
+use Rattle.cet_io.specs.Stream.{AppendsSome, Rose, Tally}
+use Rattle.cet_top.specs.Reading.{ReadSome, ReadToEnd, ReadTooMuch, ReadUntilFault, SourceState, TakesAll, TalliesBy}
 use Rattle.cet_top.specs.Words.{Means}
 use Rattle.cet_top.specs.declared.outcomes.ProcessEnd.{ProcessEnd}
 use Rattle.cet_top.specs.declared.outcomes.ProcessEnd.TheVariants as process
@@ -45,6 +44,88 @@ served_no_usage c src src' sink sink' s n h e =
     let g : Serves (reads c) (Answers c) src src' sink sink' (status.Usage n) = subst (Serves (reads c) (Answers c) src src' sink sink') e h in
     let a = g.answered tt in
     no_usage c a.read.bytes a.output n a.read.answer
+
+-- an answer is none of the failures
+run_answered : (end : ProcessEnd) → IsAnswered (status_of end)
+run_answered (process.Exit s) = tt
+run_answered (process.Killed s) = tt
+run_answered (process.Limit t) = tt
+
+pub answer_is_answered : (c : Command) (bytes output : List ℕ) (s : Status) → Answers c bytes s output → IsAnswered s
+answer_is_answered (command.Run settings) bytes output s a = elim a [
+  | inl r ↦ subst IsAnswered (sym r.refused) tt
+  | inr r ↦ subst IsAnswered (sym r.reported.told.ends) (run_answered r.reported.outcome.process)
+]
+answer_is_answered command.Dis bytes output s a = elim a [
+  | inl r ↦ subst IsAnswered (sym r.refused) tt
+  | inr r ↦ subst IsAnswered (sym r.done) tt
+]
+answer_is_answered command.Asm bytes output s a = elim a [
+  | inl r ↦ subst IsAnswered (sym r.refused) tt
+  | inr r ↦ subst IsAnswered (sym r.done) tt
+]
+answer_is_answered command.Check bytes output s a = elim a [
+  | inl r ↦ subst IsAnswered (sym r.refused) tt
+  | inr r ↦ subst IsAnswered (sym r.done) tt
+]
+
+-- each way in which a command that reads ends, with its cause
+module _ (Answer : Answering) (src src' : SourceState) (sink : SinkState) where
+  pub serves_no_memory : ReadSome src src' → src.faults ≤ src'.faults → Serves true Answer src src' sink sink status.NoMemory
+  serves_no_memory some later = record {
+    answered = λ a. absurd a;
+    write_fault = λ e. absurd (let no : ⊥ = cc in no);
+    read_fault = λ e. absurd (let no : ⊥ = cc in no);
+    too_long = λ e. absurd (let no : ⊥ = cc in no);
+    no_memory = λ e. (some, refl);
+    src_later = later;
+    sink_later = omega arith;
+  }
+
+  pub serves_read_fault : ReadUntilFault src src' → src.faults ≤ src'.faults → Serves true Answer src src' sink sink status.ReadFault
+  serves_read_fault fault later = record {
+    answered = λ a. absurd a;
+    write_fault = λ e. absurd (let no : ⊥ = cc in no);
+    read_fault = λ e. (refl, fault, refl);
+    too_long = λ e. absurd (let no : ⊥ = cc in no);
+    no_memory = λ e. absurd (let no : ⊥ = cc in no);
+    src_later = later;
+    sink_later = omega arith;
+  }
+
+  pub serves_too_long : ReadTooMuch src src' → src.faults ≤ src'.faults → Serves true Answer src src' sink sink status.TooLong
+  serves_too_long much later = record {
+    answered = λ a. absurd a;
+    write_fault = λ e. absurd (let no : ⊥ = cc in no);
+    read_fault = λ e. absurd (let no : ⊥ = cc in no);
+    too_long = λ e. (refl, much, refl);
+    no_memory = λ e. absurd (let no : ⊥ = cc in no);
+    src_later = later;
+    sink_later = omega arith;
+  }
+
+module _ (Answer : Answering) (src src' : SourceState) (sink sink' : SinkState) (bytes output : List ℕ) (s : Status) where
+  pub serves_written : IsAnswered s → ReadToEnd src src' bytes → Answer bytes s output → Wrote sink sink' output → src.faults ≤ src'.faults → sink.faults ≤ sink'.faults → Serves true Answer src src' sink sink' s
+  serves_written is whole answer wrote src_later sink_later = record {
+    answered = λ a. record { output = output; read = record { bytes = bytes; whole = whole; answer = answer }; written = wrote };
+    write_fault = λ e. absurd (subst IsAnswered e is);
+    read_fault = λ e. absurd (subst IsAnswered e is);
+    too_long = λ e. absurd (subst IsAnswered e is);
+    no_memory = λ e. absurd (subst IsAnswered e is);
+    src_later = src_later;
+    sink_later = sink_later;
+  }
+
+  pub serves_cut : ReadToEnd src src' bytes → Answer bytes s output → 0 < length output → AppendsSome sink.written sink'.written output → Rose sink.faults sink'.faults → src.faults ≤ src'.faults → sink.faults ≤ sink'.faults → Serves true Answer src src' sink sink' status.WriteFault
+  serves_cut whole answer some part cause src_later sink_later = record {
+    answered = λ a. absurd a;
+    write_fault = λ e. record { status = s; output = output; read = record { bytes = bytes; whole = whole; answer = answer }; some = some; written = part; cause = cause };
+    read_fault = λ e. absurd (let no : ⊥ = cc in no);
+    too_long = λ e. absurd (let no : ⊥ = cc in no);
+    no_memory = λ e. absurd (let no : ⊥ = cc in no);
+    src_later = src_later;
+    sink_later = sink_later;
+  }
 
 -- each command reads
 pub reads_all : (c : Command) → reads c ≡ true
