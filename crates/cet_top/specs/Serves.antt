@@ -41,7 +41,7 @@ abbrev pub TakesSome : (reads : Bool) → SourceState → SourceState → Type 0
 TakesSome true src src' = ReadSome src src'
 TakesSome false src src' = src' ≡ src
 
--- the output was appended, and no write failed; where there is none, the sink wasn't used
+-- the output was appended, and the count of faults is as it was; where there is none, the sink wasn't used
 abbrev pub Wrote : SinkState → SinkState → (output : List ℕ) → Type 0
 Wrote sink sink' [] = sink' ≡ sink
 Wrote sink sink' (b ∷ bs) = Appends sink.written sink'.written (b ∷ bs) × (sink'.faults ≡ sink.faults)
