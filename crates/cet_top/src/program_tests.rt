@@ -97,15 +97,15 @@ fn each_read_that_fails_is_a_read_fault(rt: HostRuntime) -> Result<(), Fail> {
     reads(&rt, rt.alloc(), 4110, Status::Done, EXIT_SEVEN)
 }
 
-/// A source of one byte more than the most, one read of which fails. Each gives one byte, so the last
-/// of them is the one that is too many.
+/// A source of one byte more than the most, one read of which fails. Each gives 1 to 4,096 bytes,
+/// whatever it asks for: so 2,048 reads give none too many, and 8,388,609 give all.
 #[test]
 fn the_first_of_fault_and_length_decides(rt: HostRuntime) -> Result<(), Fail> {
     let alloc = rt.alloc();
     let mut bytes = Vec::new(alloc);
     bytes.resize(8_388_609, 0_u8)?;
-    for (failing, status) in [(8_388_609, Status::ReadFault), (8_388_610, Status::TooLong)] {
-        let mut src = MemSource::new(alloc, &bytes, 1, &[failing])?;
+    for (failing, status) in [(2049, Status::ReadFault), (8_388_610, Status::TooLong)] {
+        let mut src = MemSource::new(alloc, &bytes, 4096, &[failing])?;
         let mut sink = MemSink::new(alloc, ROOM, ROOM, &[1])?;
         assert_eq!(rt; run(alloc, &mut src, &mut sink)?, status);
         assert_eq!(rt; sink.faults(), 0);
