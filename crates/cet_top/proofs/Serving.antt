@@ -116,7 +116,8 @@ module _ (Answer : Answering) (src src' : SourceState) (sink sink' : SinkState) 
     sink_later = sink_later;
   }
 
-  pub serves_cut : ReadToEnd src src' bytes → Answer bytes s output → 0 < length output → AppendsSome sink.written sink'.written output → Rose sink.faults sink'.faults → src.faults ≤ src'.faults → sink.faults ≤ sink'.faults → Serves true Answer src src' sink sink' status.WriteFault
+  pub serves_cut : ReadToEnd src src' bytes → Answer bytes s output → 0 < length output → AppendsSome sink.written sink'.written output →
+      Rose sink.faults sink'.faults → src.faults ≤ src'.faults → sink.faults ≤ sink'.faults → Serves true Answer src src' sink sink' status.WriteFault
   serves_cut whole answer some part cause src_later sink_later = record {
     answered = λ a. absurd a;
     write_fault = λ e. record { status = s; output = output; read = record { bytes = bytes; whole = whole; answer = answer }; some = some; written = part; cause = cause };
