@@ -7,6 +7,7 @@ mod WordSteps
 mod LineReads
 mod Faulty
 mod FaultyLines
+mod StopLaws
 mod CommandWords
 mod EveryOption
 mod Listed

@@ -24,7 +24,7 @@ mod transfers;
 mod turns;
 mod words;
 
-pub use laws::{answers_are_one, schedules_are_complete, schedules_are_one};
+pub use laws::{answers_are_one, schedules_are_complete, schedules_are_one, tables_are_read};
 pub use outcomes::{
     Outcome, ProcessEnd, Records, Region, Shown, StackReport, StackReports, Style, ThreadOut,
     ThreadOuts,

@@ -1,9 +1,10 @@
 //! The options of a command, and the settings that they make.
 
-ghost use Rattle.std.specs.Prelude.{◌≡◌};
-ghost use Rattle.cet_top.specs.Words.{defaults, with_option};
+ghost use Rattle.std.specs.Prelude.{◌≡◌, option_map};
+ghost use Rattle.cet_top.specs.Table.{places_view};
+ghost use Rattle.cet_top.specs.Words.{part_of, settings_of, value_of};
 
-use crate::grammar::{MOST_RECORDS, number_within};
+use crate::grammar::{MOST_RECORDS, OptionRow, number_within};
 use std::marker::Model;
 
 /// An option, by its name.
@@ -11,6 +12,34 @@ use std::marker::Model;
 pub(crate) enum OptionName {
     /// `--limit`: the most records of each thread, 1 to 100,000.
     Limit,
+}
+
+impl OptionName {
+    /// Its part of a line, 0 to 7. A line has at most one option of each part.
+    pub(crate) fn part(self) -> usize
+        ensures { result ≡ part_of self }
+    {
+        match self {
+            OptionName::Limit => 0,
+        }
+    }
+}
+
+/// An option that is given, and its value, which is empty where the option has none.
+#[derive(Clone, Copy, Debug)]
+pub(crate) struct Given<'w> {
+    pub option: OptionRow,
+    pub value: &'w str,
+}
+
+/// The value of an option, where the option is given.
+fn value_of<'w>(places: &[Option<Given<'w>>; 8], option: OptionName) -> Option<&'w str>
+    ensures { option_map (λ v. v.now) result ≡ value_of option (places_view places.now) }
+{
+    match places.get(option.part()) {
+        Some(Some(given)) => Some(given.value),
+        _ => None,
+    }
 }
 
 /// The settings of a run.
@@ -33,23 +62,14 @@ impl Model for Settings {
 }
 
 impl Settings {
-    /// The settings where no option is given.
-    pub(crate) fn defaults() -> Settings
-        ensures { result ≡ defaults }
+    /// The settings that the options make, each at the place of its part.
+    pub(crate) fn of(places: &[Option<Given>; 8]) -> Settings
+        ensures { result ≡ settings_of (places_view places.now) }
     {
+        let limit = value_of(places, OptionName::Limit)
+            .and_then(|text| number_within(text, 1, MOST_RECORDS.into()));
         Settings {
-            limit: MOST_RECORDS,
-        }
-    }
-
-    /// The settings with one option's value. A value that the option can't have changes nothing.
-    pub(crate) fn with(self, option: OptionName, value: &str) -> Settings
-        ensures { result ≡ with_option self option value.now }
-    {
-        match option {
-            OptionName::Limit => Settings {
-                limit: number_within(value, 1, MOST_RECORDS).unwrap_or(self.limit),
-            },
+            limit: limit.map_or(MOST_RECORDS, |limit| limit as u32),
         }
     }
 }

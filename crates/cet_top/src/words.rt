@@ -2,11 +2,11 @@
 
 ghost use Rattle.std.specs.Prelude.{◌≡◌, ◌∷◌, map, string_bytes, MatchResult};
 ghost use Rattle.cet_top.specs.Grammar.{FaultyWord, IsAmong};
-ghost use Rattle.cet_top.specs.Table.{command_view};
+ghost use Rattle.cet_top.specs.Table.{command_view, places_view};
 ghost use Rattle.cet_top.specs.Words.{IsCommand, Means, command_of, commands};
 
 use crate::grammar::{CommandRow, find_command};
-use crate::options::Settings;
+use crate::options::{Given, Settings};
 use crate::reader::Reader;
 
 /// A command with its options.
@@ -31,13 +31,20 @@ pub(crate) enum CommandName {
     Check,
 }
 
-impl CommandName {
-    /// The command of this name with these settings.
-    pub(crate) fn with(self, settings: Settings) -> Command
-        ensures { result ≡ command_of self settings }
+/// A line that was read: its command, its words without a name, and its options, each at the place of its part.
+pub(crate) struct Line<'w> {
+    pub name: CommandName,
+    pub operands: &'w [String],
+    pub places: [Option<Given<'w>>; 8],
+}
+
+impl Line<'_> {
+    /// What the line means.
+    fn command(&self) -> Command
+        ensures { result ≡ command_of self.now.name (map string_bytes self.now.operands.now) (places_view self.now.places) }
     {
-        match self {
-            CommandName::Run => Command::Run(settings),
+        match self.name {
+            CommandName::Run => Command::Run(Settings::of(&self.places)),
             CommandName::Dis => Command::Dis,
             CommandName::Asm => Command::Asm,
             CommandName::Check => Command::Check,
@@ -45,10 +52,11 @@ impl CommandName {
     }
 }
 
-/// Reads the words behind a command's own. The error is the number of the first faulty word of all.
-fn read_line(row: CommandRow, words: &[String]) -> Result<Command, u32>
+/// Reads the words behind a command's own. The error is the number of the first faulty word of all. It takes no memory.
+fn read_line<'w>(row: CommandRow, words: &'w [String]) -> Result<Line<'w>, u32>
     requires { IsAmong (command_view row) commands }
-    ensures { MatchResult result (Means (row.word.now ∷ map string_bytes words.now))
+    ensures { MatchResult result (λ line. Means (row.word.now ∷ map string_bytes words.now)
+            (command_of line.name (map string_bytes line.operands.now) (places_view line.places)))
         (FaultyWord IsCommand (row.word.now ∷ map string_bytes words.now)) }
 {
     let mut reader = Reader::new(row);
@@ -59,13 +67,18 @@ fn read_line(row: CommandRow, words: &[String]) -> Result<Command, u32>
         }
     }
     if reader.may_end() {
-        Ok(reader.command())
+        Ok(Line {
+            name: row.name,
+            operands: &words[..row.operands.len()],
+            places: reader.places,
+        })
     } else {
         Err(words.len() as u32 + 2)
     }
 }
 
-/// Reads the words of a command. The error is the number of the first faulty word. It takes no memory.
+/// Reads the words of a command. The error is the number of the first faulty word. Only once there is none, the settings
+/// are made of the values, of which none needs memory yet.
 pub(crate) fn read_words(words: &[String]) -> Result<Command, u32>
     ensures { MatchResult result (Means (map string_bytes words.now))
         (FaultyWord IsCommand (map string_bytes words.now)) }
@@ -76,5 +89,5 @@ pub(crate) fn read_words(words: &[String]) -> Result<Command, u32>
     let Some(row) = find_command(first.as_str()) else {
         return Err(1);
     };
-    read_line(row, rest)
+    Ok(read_line(row, rest)?.command())
 }
