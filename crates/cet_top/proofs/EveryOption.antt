@@ -1,12 +1,12 @@
 -- The table of all planned commands is a good one, and its reader stops as stated.
-use Rattle.std.proofs.Common.{◌≡◌, true, refl}
+use Rattle.std.proofs.Common.{◌≡◌, true, refl, lit<}
+use Rattle.cet_base.proofs.NumberLaws.{number_of-decimal}
 use Rattle.cet_base.specs.Numbers.{number_of}
-use Rattle.cet_top.specs.EveryCommand.{MeansLists, StopsByForm, StopsByValue, every_command}
+use Rattle.cet_top.specs.EveryCommand.{MeansTexts, StopsByForm, StopsByValue, every_command}
 use Rattle.cet_top.specs.GoodTable.{good_table}
 
 pub every_good : good_table every_command ≡ true
-unfolding number_of
-every_good = refl
+every_good = rw (number_of-decimal 0 (lit< tt), number_of-decimal 1 (lit< tt), number_of-decimal 2 (lit< tt)) refl
 
 pub stops_by_form : StopsByForm
 unfolding number_of
@@ -16,6 +16,6 @@ pub stops_by_value : StopsByValue
 unfolding number_of
 stops_by_value = (refl, refl, refl, refl, refl, refl, refl, refl, refl, refl, refl, refl, refl)
 
-pub means_lists : MeansLists
+pub means_texts : MeansTexts
 unfolding number_of
-means_lists = (refl, refl, refl, refl)
+means_texts = (refl, refl, refl, refl, refl)

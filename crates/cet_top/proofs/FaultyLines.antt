@@ -1,12 +1,12 @@
 -- The first faulty word of what is no line of a table, where its reader stops.
-use Rattle.std.proofs.Common.{ℕ, ◌+◌, ◌<◌, ◌≤◌, ◌≡◌, Bool, true, false, List, [], ◌∷◌, ◌++◌, length, take, Option, Some, None, refl, sym, ap, ◌∙◌, subst, inl, inr, arith, append_assoc, append-nil, length-append}
+use Rattle.std.proofs.Common.{ℕ, ◌+◌, ◌≡◌, true, false, List, [], ◌∷◌, ◌++◌, length, take, Some, None, refl, sym, ap, ◌∙◌, subst, arith, append_assoc, length-append}
 use Rattle.std.specs.Prelude.{option_and_then}
 use Rattle.std.proofs.lemmas.List.{take_at}
 use Rattle.cet_top.specs.Grammar.{Begins, CommandRow, FaultyWord, Given, IsAmong, IsIn, IsLine}
 use Rattle.cet_top.specs.Reader.{Reader, find_command, may_end, start, step}
 use Rattle.cet_top.proofs.ReaderSteps.{steps}
-use Rattle.cet_top.proofs.Faulty.{accepted_begins, faulty_after, faulty_here}
-use Rattle.cet_top.proofs.LineReads.{Led, Line, goes_on, line_read, read_line}
+use Rattle.cet_top.proofs.Faulty.{faulty_after, faulty_here}
+use Rattle.cet_top.proofs.LineReads.{Line, goes_on, line_read, read_line}
 use Rattle.cet_top.specs.GoodTable.{good_table}
 use Rattle.cet_top.proofs.Tables.{command_found, first_row, good_among}
 use Rattle.cet_top.proofs.WordSteps.{Valid, steps_append, then_parts, valid_start, valid_steps}

@@ -8,6 +8,7 @@ mod LineReads
 mod Faulty
 mod FaultyLines
 mod StopLaws
+mod Kept
 mod CommandWords
 mod EveryOption
 mod Listed

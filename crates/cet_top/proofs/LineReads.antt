@@ -1,16 +1,16 @@
 -- Every line of a command is read to its end, what is read to its end is a line, and from everywhere a line goes on.
-use Rattle.std.proofs.Common.{ℕ, ◌≡◌, Bool, true, false, cond, List, [], ◌∷◌, ◌++◌, codes, Option, Some, None, refl, sym, ap, ◌∙◌, subst, inl, inr, append_assoc}
-use Rattle.std.specs.Prelude.{option_and_then, slice_set, fold, map, nat_lt, ◌⊎◌}
+use Rattle.std.proofs.Common.{ℕ, ◌≡◌, Bool, true, List, [], ◌∷◌, ◌++◌, codes, Option, Some, None, refl, sym, ap, ◌∙◌, subst, inl, inr, append_assoc}
+use Rattle.std.specs.Prelude.{option_and_then, slice_set, fold, map}
 use Rattle.std.specs.List.{list_all}
 use Rattle.std.proofs.lemmas.Bool.{and_parts}
-use Rattle.cet_top.specs.Grammar.{AreApart, AreOptions, AreTaken, AreValues, CommandRow, Given, HasAll, IsAmong, IsLine, IsSpelled, NoneOf, OptionRow}
+use Rattle.cet_top.specs.Grammar.{AreApart, AreOptions, AreTaken, AreValues, CommandRow, Given, IsAmong, IsLine, IsSpelled, OptionRow}
 use Rattle.cet_top.specs.GoodTable.{good_values, has_example}
-use Rattle.cet_top.specs.Reader.{Reader, back, ends_by, filled_by, find_option, front, is_filled, is_open, may_end, none_filled, start, step}
+use Rattle.cet_top.specs.Reader.{Reader, ends_by, filled_by, is_filled, is_open, may_end, none_filled, start, step}
 use Rattle.cet_top.specs.Values.{Value, example, fits}
 use Rattle.cet_top.proofs.ReaderSteps.{steps}
 use Rattle.cet_top.proofs.Filled.{AllOpen, HasEach, Room, fill, fill_all, filled_here, filled_still, has_all, has_more, has_now, open_before, open_first, room_more, still_open}
 use Rattle.cet_top.proofs.Signs.{back_joined, back_none, front_joined, front_whole}
-use Rattle.cet_top.proofs.Tables.{GoodOption, GoodRow}
+use Rattle.cet_top.proofs.Tables.{GoodRow}
 use Rattle.cet_top.proofs.WordSteps.{Stepped, Valid, WantsRight, alone, begins, joined, operand, stepped, steps_append, then_parts, valid_step, valued}
 
 no_operands : (ws : List (List ℕ)) → AreValues [] ws → ws ≡ []

@@ -22,22 +22,20 @@ ends_by_none : (b : Bool) (n : ℕ) → cond b None (Some n) ≡ None → b ≡ 
 ends_by_none true n e = refl
 ends_by_none false n e = cc
 
-module _ {C O : Type 0} where
-  abbrev nothing : Unit {0} → Given O → Unit {0}
-  nothing kept g = kept
+abbrev nothing : {O : Type 0} → Unit {0} → Given O → Unit {0}
+nothing kept g = kept
 
-  abbrev Reading : Type 0
-  Reading = Reader C O (Unit {0})
+module _ {C O : Type 0} where
 
   -- ---- where it doesn't stop it reads all
 
-  abbrev AllRead : Reading → List (List ℕ) → Type 0
-  AllRead r ws = (last : Reading) × (steps nothing r ws ≡ Some last) × (may_end last ≡ true)
+  abbrev AllRead : Reader C O (Unit {0}) → List (List ℕ) → Type 0
+  AllRead r ws = (last : Reader C O (Unit {0})) × (steps nothing r ws ≡ Some last) × (may_end last ≡ true)
 
-  all_read : (ws : List (List ℕ)) (r : Reading) (n : ℕ) → stop_from (Some r) ws n ≡ None → AllRead r ws
+  all_read : (ws : List (List ℕ)) (r : Reader C O (Unit {0})) (n : ℕ) → stop_from (Some r) ws n ≡ None → AllRead r ws
   all_read [] r n e = (r, refl, ends_by_none (may_end r) (n + 1) e)
   all_read (w ∷ ws) r n e =
-      (elim (step nothing r w) as (λ o. stop_from o ws (n + 1) ≡ None → (last : Reading) × (option_and_then (λ s. steps nothing s ws) o ≡ Some last) × (may_end last ≡ true)) [
+      (elim (step nothing r w) as (λ o. stop_from o ws (n + 1) ≡ None → (last : Reader C O (Unit {0})) × (option_and_then (λ s. steps nothing s ws) o ≡ Some last) × (may_end last ≡ true)) [
         | None ↦ λ f. cc
         | Some s ↦ λ f. all_read ws s (n + 1) f
       ]) e
@@ -45,7 +43,7 @@ module _ {C O : Type 0} where
   -- ---- where it stops
 
   module _ (table : List (CommandRow C O)) (good : good_table table ≡ true) where
-    stop_is : (row : CommandRow C O) → IsAmong row table → (ws done : List (List ℕ)) (r : Reading) (k : ℕ) → steps nothing (start row tt) done ≡ Some r → stop_from (Some r) ws (length done + 1) ≡ Some k → FaultyWord (IsIn table) (row.word ∷ (done ++ ws)) k
+    stop_is : (row : CommandRow C O) → IsAmong row table → (ws done : List (List ℕ)) (r : Reader C O (Unit {0})) (k : ℕ) → steps nothing (start row tt) done ≡ Some r → stop_from (Some r) ws (length done + 1) ≡ Some k → FaultyWord (IsIn table) (row.word ∷ (done ++ ws)) k
     stop_is row m [] done r k read e =
         let h = may_end_by (may_end r) (length done + 1 + 1) k e in
         let place : length done + 2 ≡ k = (let same = h.1 in omega arith) in

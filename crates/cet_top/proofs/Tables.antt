@@ -1,6 +1,6 @@
 -- What the test of a table tells of its rows.
-use Rattle.std.proofs.Common.{ℕ, ◌+◌, ◌≡◌, Bool, true, false, ◌&&◌, ◌||◌, cond, List, [], ◌∷◌, length, Option, Some, None, refl, sym, ap, ◌∙◌, subst, inl, inr}
-use Rattle.std.specs.Prelude.{not, ◌==◌, ◌⊎◌, find, slice_get, unwrap_or, nat_lt, map}
+use Rattle.std.proofs.Common.{ℕ, ◌≡◌, Bool, true, false, ◌&&◌, ◌||◌, cond, List, [], ◌∷◌, Some, refl, sym, ap, ◌∙◌, subst, inl, inr}
+use Rattle.std.specs.Prelude.{not, ◌==◌, find, nat_lt}
 use Rattle.std.specs.List.{list_all, list_any}
 use Rattle.std.specs.Str.{bytes_eq}
 use Rattle.std.proofs.lemmas.Bool.{and_parts}
@@ -8,7 +8,7 @@ use Rattle.std.proofs.lemmas.Bool.Decides.{eqb_tells}
 use Rattle.std.proofs.lemmas.Slice.Eq.{bytes_eq-Decides}
 use Rattle.cet_top.specs.Grammar.{CommandRow, IsAmong, OptionRow}
 use Rattle.cet_top.specs.GoodTable.{differs, distinct, good_option, good_row, good_table, good_values, has_example, has_no_sign, has_rows}
-use Rattle.cet_top.specs.Reader.{find_command, find_option, is_open, none_filled}
+use Rattle.cet_top.specs.Reader.{find_command, find_option}
 use Rattle.cet_top.proofs.Signs.{not_true}
 
 -- ---- rows by their words

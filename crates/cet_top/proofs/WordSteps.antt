@@ -1,11 +1,11 @@
 -- What a word does to a reader.
-use Rattle.std.proofs.Common.{ℕ, ◌+◌, ◌*◌, ◌<◌, ◌≤◌, ◌≡◌, Bool, true, false, cond, List, [], ◌∷◌, ◌++◌, length, codes, Option, Some, None, refl, sym, ap, ◌∙◌, subst, inl, inr, arith, append_assoc}
-use Rattle.std.specs.Prelude.{option_and_then, slice_set, ◌⊎◌, nat_lt}
+use Rattle.std.proofs.Common.{ℕ, ◌+◌, ◌*◌, ◌<◌, ◌≡◌, Bool, true, false, cond, List, [], ◌∷◌, ◌++◌, length, codes, Option, Some, None, refl, sym, ap, ◌∙◌, subst, arith, append_assoc}
+use Rattle.std.specs.Prelude.{option_and_then}
 use Rattle.std.proofs.lemmas.Bool.{and_parts}
 use Rattle.std.proofs.lemmas.Option.{cond_some}
 use Rattle.cet_top.specs.GoodTable.{good_values}
 use Rattle.cet_top.specs.Grammar.{CommandRow, Given, IsAmong, OptionRow}
-use Rattle.cet_top.specs.Reader.{Reader, back, filled_by, find_option, front, is_open, none_filled, operand_step, option_begins, option_by, start, step, step_by, value_step}
+use Rattle.cet_top.specs.Reader.{Reader, back, filled_by, find_option, front, is_open, option_begins, option_by, start, step, step_by, value_step}
 use Rattle.cet_top.specs.Values.{Value, example, fits}
 use Rattle.cet_top.proofs.ReaderSteps.{steps}
 use Rattle.cet_top.proofs.Filled.{Room, opens, opens_less, room_first, room_more}
@@ -52,7 +52,7 @@ module _ {C O S : Type 0} (keep : S → Given O → S) where
   value_taken r next o None w e = cc
   value_taken r next o (Some v) w e = let c = cond_some (fits v w) (filled_by keep r o w) next e in (v, refl, c.0, sym c.1)
 
-  if_taken : (b : Bool) (x : Option (Reader C O S)) (next : Reader C O S) → cond b x None ≡ Some next → (b ≡ true) × (x ≡ Some next)
+  pub if_taken : (b : Bool) (x : Option (Reader C O S)) (next : Reader C O S) → cond b x None ≡ Some next → (b ≡ true) × (x ≡ Some next)
   if_taken true x next e = (refl, e)
   if_taken false x next e = cc
 

@@ -3,7 +3,7 @@
 use Rattle.std.specs.Prelude.{ℕ, ◌≡◌, List, [], ◌∷◌, ◌++◌, codes, Option, Some, None}
 use Rattle.cet_top.specs.Grammar.{CommandRow, OptionRow}
 use Rattle.cet_top.specs.Reader.{stop}
-use Rattle.cet_top.specs.Values.{Number, OneOf, Signals, Turns, Value, items, schedule_of, signals_of}
+use Rattle.cet_top.specs.Values.{Number, OneOf, Signals, Turns, Value, items, place_among, schedule_of, signals_of}
 
 -- ---- options
 
@@ -62,8 +62,8 @@ StopsByValue =
     × Stops (codes "replay --schedule 0*47,32") (Some 3) × Stops (codes "replay --schedule 0*0") (Some 3)
     × Stops (codes "replay --schedule=0*1000000,1") (Some 2) × Stops (codes "replay --schedule 0*999999,1 --procs 1") None
 
--- what lists mean
-abbrev pub MeansLists : Type 0
-MeansLists =
-    (signals_of [] ≡ Some []) × (schedule_of [] ≡ Some []) × (schedule_of (codes "0*3,1") ≡ Some (0 ∷ 0 ∷ 0 ∷ 1 ∷ []))
+-- what texts mean
+abbrev pub MeansTexts : Type 0
+MeansTexts =
+    (place_among (codes "full" ∷ codes "last" ∷ []) (codes "last") ≡ Some 1) × (signals_of [] ≡ Some []) × (schedule_of [] ≡ Some []) × (schedule_of (codes "0*3,1") ≡ Some (0 ∷ 0 ∷ 0 ∷ 1 ∷ []))
     × (signals_of (codes "0:6:10,31:0x10:1") ≡ Some (record { thread = 0; count = 6; number = 10 } ∷ record { thread = 31; count = 16; number = 1 } ∷ []))

@@ -1,5 +1,5 @@
 -- Grammars of words, as tables of commands and options, and the first faulty word of a list. Source: own.
-use Rattle.std.specs.Prelude.{ℕ, ◌+◌, ◌<◌, ◌≤◌, ◌≡◌, ◌≢◌, ◌⊎◌, true, List, [], ◌∷◌, ◌++◌, length, take, replicate, fold, slice_set, codes, Option, Some, None}
+use Rattle.std.specs.Prelude.{ℕ, ◌+◌, ◌<◌, ◌≤◌, ◌≡◌, ◌≢◌, ◌⊎◌, true, List, [], ◌∷◌, ◌++◌, length, take, codes, Option, Some, None}
 use Rattle.cet_top.specs.Values.{Value, fits}
 
 -- An option: its name, its word, its value, where it has one, and its part. A line has at most one option of each part: an option
@@ -22,16 +22,6 @@ pub record CommandRow (C O : Type 0) : Type 0 where
 pub record Given (O : Type 0) : Type 0 where
   pub option : OptionRow O
   pub value : List ℕ
-
--- The options that are given, each at the place of its part. There are eight places.
-abbrev pub no_places : {O : Type 0} → List (Option (Given O))
-no_places = replicate 8 None
-
-abbrev pub placed : {O : Type 0} → List (Option (Given O)) → Given O → List (Option (Given O))
-placed places g = slice_set places g.option.part (Some g)
-
-abbrev pub places_of : {O : Type 0} → List (Given O) → List (Option (Given O))
-places_of given = fold placed no_places given
 
 -- it is one of the rows
 abbrev pub IsAmong : {A : Type 0} → A → List A → Type 0

@@ -85,13 +85,36 @@ module _ {C O S : Type 0} (keep : S → Given O → S) where
   abbrev pub step : Reader C O S → (word : List ℕ) → Option (Reader C O S)
   step r word = step_by r r.wants r.operands word
 
+-- nothing is kept
+abbrev pub forget : {O : Type 0} → Unit {0} → Given O → Unit {0}
+forget kept g = kept
+
+-- ---- the option whose words end with a word, where it is one
+
+abbrev pub option_ends : {O : Type 0} → OptionRow O → Option Value → Option (List ℕ) → Option (Given O)
+option_ends o None text = Some (record { option = o; value = [] })
+option_ends o (Some v) None = None
+option_ends o (Some v) (Some text) = Some (record { option = o; value = text })
+
+abbrev pub found_ends : {O : Type 0} → Option (OptionRow O) → Option (List ℕ) → Option (Given O)
+found_ends None text = None
+found_ends (Some o) text = option_ends o o.value text
+
+abbrev pub ends_in : {C O S : Type 0} → Reader C O S → Option (OptionRow O) → List Value → (word : List ℕ) → Option (Given O)
+ends_in r (Some o) vs word = Some (record { option = o; value = word })
+ends_in r None (v ∷ vs) word = None
+ends_in r None [] word = found_ends (find_option r.row.options (front word)) (back word)
+
+abbrev pub given_by : {C O S : Type 0} → Reader C O S → (word : List ℕ) → Option (Given O)
+given_by r word = ends_in r r.wants r.operands word
+
 -- ---- lists of words
 
 -- the number of the word at which the reader stops, or of a word that is missing, where the list isn't read to its end
 abbrev pub stop_from : {C O : Type 0} → Option (Reader C O (Unit {0})) → (words : List (List ℕ)) → (number : ℕ) → Option ℕ
 stop_from None words number = Some number
 stop_from (Some r) [] number = cond (may_end r) None (Some (number + 1))
-stop_from (Some r) (w ∷ ws) number = stop_from (step (λ kept g. kept) r w) ws (number + 1)
+stop_from (Some r) (w ∷ ws) number = stop_from (step forget r w) ws (number + 1)
 
 abbrev pub stop_of : {C O : Type 0} → Option (CommandRow C O) → (words : List (List ℕ)) → Option ℕ
 stop_of None words = Some 1

@@ -1,8 +1,8 @@
 -- The values of options, and of words without a name: which texts are one, and what a text means. Source: own; the number that a text
 -- writes is `number_of`.
-use Rattle.std.specs.Prelude.{ℕ, ◌+◌, ◌*◌, ◌==◌, ◌&&◌, nat_le, if◌then◌else◌, replicate, Bool, List, [], ◌∷◌, ◌++◌, length, codes, Option, Some, None, is_some, option_map, option_and_then}
+use Rattle.std.specs.Prelude.{ℕ, ◌+◌, ◌==◌, ◌&&◌, nat_le, if◌then◌else◌, replicate, Bool, List, [], ◌∷◌, ◌++◌, length, Option, Some, None, is_some, option_map, option_and_then}
 use Rattle.std.specs.Fmt.{decimal}
-use Rattle.std.specs.List.{list_any, slice_split}
+use Rattle.std.specs.List.{slice_split}
 use Rattle.std.specs.Str.{bytes_eq}
 use Rattle.cet_base.specs.Numbers.{number_of}
 use Rattle.cet_words.specs.declared.images.Signal.{Signal}
@@ -17,6 +17,11 @@ pub data Value : Type 0 where
 -- the number that a text writes, where it is one from low to high
 abbrev pub number_within : (low high : ℕ) → List ℕ → Option ℕ
 number_within low high text = option_and_then (λ n. if nat_le low n && nat_le n high then Some n else None) (number_of text)
+
+-- the place of a text among some words, counted from 0
+abbrev pub place_among : List (List ℕ) → List ℕ → Option ℕ
+place_among [] text = None
+place_among (w ∷ ws) text = if bytes_eq text w then Some 0 else option_map (λ n. n + 1) (place_among ws text)
 
 -- ---- lists
 
@@ -36,7 +41,10 @@ listed most read text = if nat_le (length (items 44 text)) most then each_of rea
 
 -- `thread:count:number`
 abbrev pub signal_by : List (List ℕ) → Option Signal
-signal_by (t ∷ c ∷ n ∷ []) = option_and_then (λ thread. option_and_then (λ count. option_map (λ number. record { thread = thread; count = count; number = number }) (number_within 1 31 n)) (number_within 0 100000 c)) (number_within 0 31 t)
+signal_by (t ∷ c ∷ n ∷ []) =
+    option_and_then (λ thread. option_and_then (λ count. option_map (λ number.
+      record { thread = thread; count = count; number = number })
+    (number_within 1 31 n)) (number_within 0 100000 c)) (number_within 0 31 t)
 signal_by parts = None
 
 abbrev pub signal_of : List ℕ → Option Signal
@@ -54,7 +62,8 @@ pub record Stretch : Type 0 where
 -- `t`, or `t*n`
 abbrev pub stretch_by : List (List ℕ) → Option Stretch
 stretch_by (t ∷ []) = option_map (λ thread. record { thread = thread; turns = 1 }) (number_within 0 31 t)
-stretch_by (t ∷ n ∷ []) = option_and_then (λ thread. option_map (λ turns. record { thread = thread; turns = turns }) (number_within 1 1000000 n)) (number_within 0 31 t)
+stretch_by (t ∷ n ∷ []) =
+    option_and_then (λ thread. option_map (λ turns. record { thread = thread; turns = turns }) (number_within 1 1000000 n)) (number_within 0 31 t)
 stretch_by parts = None
 
 abbrev pub stretch_of : List ℕ → Option Stretch
@@ -82,7 +91,7 @@ schedule_of text = option_map threads_of (stretches_of text)
 -- The text is such a value. It is a list of turns where it has stretches, which are fewer than their turns.
 abbrev pub fits : Value → List ℕ → Bool
 fits (Number low high) text = is_some (number_within low high text)
-fits (OneOf first others) text = list_any (bytes_eq text) (first ∷ others)
+fits (OneOf first others) text = is_some (place_among (first ∷ others) text)
 fits Signals text = is_some (signals_of text)
 fits Turns text = is_some (stretches_of text)
 

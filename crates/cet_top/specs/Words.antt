@@ -1,6 +1,6 @@
 -- The words that are commands, and what they mean. Source: own.
-use Rattle.std.specs.Prelude.{ℕ, ◌≡◌, List, [], ◌∷◌, codes, slice_get, Option, Some, None, unwrap_or, option_map, option_and_then}
-use Rattle.cet_top.specs.Grammar.{CommandRow, Given, IsAmong, IsLine, OptionRow, places_of}
+use Rattle.std.specs.Prelude.{ℕ, ◌≡◌, List, [], ◌∷◌, fold, codes, Option, Some, None, unwrap_or}
+use Rattle.cet_top.specs.Grammar.{CommandRow, Given, IsAmong, IsLine, OptionRow}
 use Rattle.cet_top.specs.Values.{Number, number_within}
 use Rattle.cet_top.specs.Settings.{SettingsData}
 use Rattle.cet_top.specs.declared.options.OptionName.{OptionName}
@@ -12,12 +12,8 @@ use Rattle.cet_top.specs.declared.words.CommandName.TheVariants as name
 
 -- ---- the options
 
--- the part of each; options that exclude each other have one part
-abbrev pub part_of : OptionName → ℕ
-part_of option.Limit = 0
-
 abbrev pub limit : OptionRow OptionName
-limit = record { name = option.Limit; word = codes "--limit"; value = Some (Number 1 100000); part = part_of option.Limit }
+limit = record { name = option.Limit; word = codes "--limit"; value = Some (Number 1 100000); part = 0 }
 
 -- those of every run
 abbrev pub common : List (OptionRow OptionName)
@@ -33,20 +29,30 @@ commands = plain_row name.Run (codes "run") common ∷ plain_row name.Dis (codes
 
 -- ---- what they mean
 
--- the text of an option's value, where the option is given
-abbrev pub value_of : OptionName → (places : List (Option (Given OptionName))) → Option (List ℕ)
-value_of name places = option_map (λ g. g.value) (option_and_then (λ place. place) (slice_get places (part_of name)))
+-- the settings where no option is given
+abbrev pub defaults : SettingsData
+defaults = record { limit = 100000 }
 
--- each setting is what the value of its option means, or has its default
-abbrev pub settings_of : (places : List (Option (Given OptionName))) → SettingsData
-settings_of places = record { limit = unwrap_or (option_and_then (number_within 1 100000) (value_of option.Limit places)) 100000 }
+-- an option sets its setting to what its value means
+abbrev pub with_option : SettingsData → OptionName → (value : List ℕ) → SettingsData
+with_option settings option.Limit value = record settings { limit = unwrap_or (number_within 1 100000 value) settings.limit }
 
--- the command of this name with these words without a name, which none has yet, and these options
-abbrev pub command_of : CommandName → (operands : List (List ℕ)) → (places : List (Option (Given OptionName))) → Command
-command_of name.Run operands places = command.Run (settings_of places)
-command_of name.Dis operands places = command.Dis
-command_of name.Asm operands places = command.Asm
-command_of name.Check operands places = command.Check
+abbrev pub with_given : SettingsData → Given OptionName → SettingsData
+with_given settings g = with_option settings g.option.name g.value
+
+abbrev pub with_any : SettingsData → Option (Given OptionName) → SettingsData
+with_any settings None = settings
+with_any settings (Some g) = with_given settings g
+
+abbrev pub settings_of : List (Given OptionName) → SettingsData
+settings_of given = fold with_given defaults given
+
+-- the command of this name with these words without a name, of which no command has one yet, and these settings
+abbrev pub command_of : CommandName → (operands : List (List ℕ)) → SettingsData → Command
+command_of name.Run operands settings = command.Run settings
+command_of name.Dis operands settings = command.Dis
+command_of name.Asm operands settings = command.Asm
+command_of name.Check operands settings = command.Check
 
 -- the words, each as its bytes, are this command
 pub record Means (words : List (List ℕ)) (command : Command) : Type 0 where
@@ -55,7 +61,7 @@ pub record Means (words : List (List ℕ)) (command : Command) : Type 0 where
   pub operands : List (List ℕ)
   pub given : List (Given OptionName)
   pub line : IsLine row operands given words
-  pub is : command ≡ command_of row.name operands (places_of given)
+  pub is : command ≡ command_of row.name operands (settings_of given)
 
 -- the words are some command
 abbrev pub IsCommand : List (List ℕ) → Type 0

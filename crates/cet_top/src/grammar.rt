@@ -27,6 +27,15 @@ pub(crate) struct OptionRow {
     pub word: &'static str,
     /// Its value, where it has one.
     pub value: Option<Value>,
+    /// Its part of a line, 0 to 7. A line has at most one option of each part.
+    pub part: usize,
+}
+
+/// An option that is given, and its value, which is empty where the option has none.
+#[derive(Clone, Copy, Debug)]
+pub(crate) struct Given<'w> {
+    pub option: OptionRow,
+    pub value: &'w str,
 }
 
 /// A command.
@@ -49,6 +58,7 @@ const COMMON: [OptionRow; 1] = [OptionRow {
         low: 1,
         high: MOST_RECORDS as u64,
     }),
+    part: 0,
 }];
 
 const COMMANDS: [CommandRow; 4] = [

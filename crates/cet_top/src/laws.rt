@@ -4,7 +4,7 @@ ghost use Rattle.std.specs.Prelude.{ℕ, ◌≡◌, true, List, None};
 ghost use Rattle.cet_words.specs.Job.{JobData};
 ghost use Rattle.cet_page.specs.Machine.{Machine, run};
 ghost use Rattle.cet_top.specs.Answer.{Answers};
-ghost use Rattle.cet_top.specs.EveryCommand.{MeansLists, StopsByForm, StopsByValue, every_command};
+ghost use Rattle.cet_top.specs.EveryCommand.{MeansTexts, StopsByForm, StopsByValue, every_command};
 ghost use Rattle.cet_top.specs.GoodTable.{good_table};
 ghost use Rattle.cet_top.specs.Grammar.{CommandRow};
 ghost use Rattle.cet_top.specs.Reader.{IsReadBy};
@@ -47,5 +47,5 @@ pub fn tables_are_read()
     ensures planned { IsReadBy every_command }
     ensures by_form { StopsByForm }
     ensures by_value { StopsByValue }
-    ensures lists { MeansLists }
+    ensures texts { MeansTexts }
 {}

@@ -1,10 +1,11 @@
 //! The options of a command, and the settings that they make.
 
 ghost use Rattle.std.specs.Prelude.{◌≡◌, option_map};
-ghost use Rattle.cet_top.specs.Table.{places_view};
-ghost use Rattle.cet_top.specs.Words.{part_of, settings_of, value_of};
+ghost use Rattle.cet_top.specs.Table.{given_view};
+ghost use Rattle.cet_top.specs.Values.{number_within};
+ghost use Rattle.cet_top.specs.Words.{defaults, with_any, with_option};
 
-use crate::grammar::{MOST_RECORDS, OptionRow, number_within};
+use crate::grammar::{Given, MOST_RECORDS, number_within};
 use std::marker::Model;
 
 /// An option, by its name.
@@ -12,34 +13,6 @@ use std::marker::Model;
 pub(crate) enum OptionName {
     /// `--limit`: the most records of each thread, 1 to 100,000.
     Limit,
-}
-
-impl OptionName {
-    /// Its part of a line, 0 to 7. A line has at most one option of each part.
-    pub(crate) fn part(self) -> usize
-        ensures { result ≡ part_of self }
-    {
-        match self {
-            OptionName::Limit => 0,
-        }
-    }
-}
-
-/// An option that is given, and its value, which is empty where the option has none.
-#[derive(Clone, Copy, Debug)]
-pub(crate) struct Given<'w> {
-    pub option: OptionRow,
-    pub value: &'w str,
-}
-
-/// The value of an option, where the option is given.
-fn value_of<'w>(places: &[Option<Given<'w>>; 8], option: OptionName) -> Option<&'w str>
-    ensures { option_map (λ v. v.now) result ≡ value_of option (places_view places.now) }
-{
-    match places.get(option.part()) {
-        Some(Some(given)) => Some(given.value),
-        _ => None,
-    }
 }
 
 /// The settings of a run.
@@ -61,15 +34,42 @@ impl Model for Settings {
     ghost inverse = { λ d. record { limit = d.limit } };
 }
 
+/// The limit that a text is.
+fn limit_of(text: &str) -> Option<u32>
+    ensures { result ≡ number_within 1 100000 text.now }
+{
+    let limit = number_within(text, 1, MOST_RECORDS.into())?;
+    Some(limit as u32)
+}
+
 impl Settings {
-    /// The settings that the options make, each at the place of its part.
-    pub(crate) fn of(places: &[Option<Given>; 8]) -> Settings
-        ensures { result ≡ settings_of (places_view places.now) }
+    /// The settings where no option is given.
+    pub(crate) fn defaults() -> Settings
+        ensures { result ≡ defaults }
     {
-        let limit = value_of(places, OptionName::Limit)
-            .and_then(|text| number_within(text, 1, MOST_RECORDS.into()));
         Settings {
-            limit: limit.map_or(MOST_RECORDS, |limit| limit as u32),
+            limit: MOST_RECORDS,
+        }
+    }
+
+    /// The settings with an option's value. A value that the option can't have changes nothing.
+    fn with(self, option: OptionName, value: &str) -> Settings
+        ensures { result ≡ with_option self option value.now }
+    {
+        match option {
+            OptionName::Limit => Settings {
+                limit: limit_of(value).unwrap_or(self.limit),
+            },
+        }
+    }
+
+    /// The settings with an option, where one is given.
+    pub(crate) fn with_given(self, given: Option<Given>) -> Settings
+        ensures { result ≡ with_any self (option_map given_view given.entry) }
+    {
+        match given {
+            Some(given) => self.with(given.option.name, given.value),
+            None => self,
         }
     }
 }

@@ -1,24 +1,22 @@
 //! How a line is read, one word after another.
 
-ghost use Rattle.std.specs.Prelude.{◌≡◌, Some, is_some, map, option_map, slice_set};
+ghost use Rattle.std.specs.Prelude.{◌≡◌, true, [], option_map, slice_set};
 ghost use Rattle.std.specs.List.{list_all};
-ghost use Rattle.cet_top.specs.Grammar.{no_places, placed};
-ghost use Rattle.cet_top.specs.Reader.{back, filled_by, front, is_filled, is_open, may_end, option_begins, start, step, value_step};
-ghost use Rattle.cet_top.specs.Table.{command_view, given_view, option_view, places_view, reader_view, value_view};
+ghost use Rattle.cet_top.specs.Reader.{back, filled_by, forget, front, given_by, is_filled, is_open, may_end, option_begins, option_ends, start, step, value_step};
+ghost use Rattle.cet_top.specs.Table.{command_view, given_view, option_view, reader_view, value_view};
 
-use crate::grammar::{CommandRow, OptionRow, Value, find_option};
-use crate::options::Given;
+use crate::grammar::{CommandRow, Given, OptionRow, Value, find_option};
 
-/// What was read of a line, and what may still come. It lends the values from the words.
+/// What was read of a line, and what may still come.
 #[derive(Drop)]
-pub(crate) struct Reader<'w> {
+pub(crate) struct Reader {
     row: CommandRow,
     /// The words without a name that are still to come.
     operands: &'static [Value],
     /// The option whose value is still to come.
     wants: Option<OptionRow>,
-    /// The options that are given, each at the place of its part.
-    pub places: [Option<Given<'w>>; 8],
+    /// For each part of a line, whether there is an option of it.
+    filled: [bool; 8],
 }
 
 /// A word up to its first `=`, and what stands behind that.
@@ -32,75 +30,79 @@ fn parted(word: &str) -> (&str, Option<&str>)
     }
 }
 
-/// The options with one more at its place.
-fn with_place<'w>(mut places: [Option<Given<'w>>; 8], given: Given<'w>) -> [Option<Given<'w>>; 8]
-    ensures { result ≡ slice_set places (option_view given.option).part (Some given) }
+/// The parts with one more that has an option.
+fn with_part(mut filled: [bool; 8], part: usize) -> [bool; 8]
+    ensures { result ≡ slice_set filled part true }
 {
-    let part = given.option.name.part();
-    if part < places.len() {
-        places[part] = Some(given);
+    if part < filled.len() {
+        filled[part] = true;
     }
-    places
+    filled
 }
 
-impl<'w> Reader<'w> {
+/// An option by its word, and by what stands behind `=`, where its words end there.
+fn option_ends<'w>(option: OptionRow, text: Option<&'w str>) -> Option<Given<'w>>
+    ensures { option_map given_view result ≡ option_ends (option_view option) (option_map value_view option.value) (option_map (λ t. t.now) text.entry) }
+{
+    let value = match option.value {
+        None => "",
+        Some(_) => text?,
+    };
+    Some(Given { option, value })
+}
+
+impl Reader {
     /// The reader behind a command's word.
-    pub(crate) fn new(row: CommandRow) -> Reader<'w>
-        ensures { reader_view result ≡ start (command_view row) no_places }
+    pub(crate) fn new(row: CommandRow) -> Reader
+        ensures { reader_view result ≡ start (command_view row) tt }
     {
         Reader {
             row,
             operands: row.operands,
             wants: None,
-            places: [None; 8],
+            filled: [false; 8],
         }
     }
 
     /// Whether there is no option of this part yet, and may be one.
     fn is_open(&self, part: usize) -> bool
-        ensures { result ≡ is_open (map is_some self.now.places) part }
+        ensures { result ≡ is_open self.now.filled part }
     {
-        match self.places.get(part) {
-            Some(place) => place.is_none(),
-            None => false,
-        }
+        !self.filled.get(part).copied().unwrap_or(true)
     }
 
     /// Whether there is an option of this part.
     fn is_filled(&self, part: usize) -> bool
-        ensures { result ≡ is_filled (map is_some self.now.places) part }
+        ensures { result ≡ is_filled self.now.filled part }
     {
-        match self.places.get(part) {
-            Some(place) => place.is_some(),
-            None => false,
-        }
+        self.filled.get(part).copied().unwrap_or(false)
     }
 
     /// With one option more.
-    fn filled_by(mut self, option: OptionRow, value: &'w str) -> Reader<'w>
-        ensures { reader_view result ≡ filled_by placed (reader_view self) (option_view option) value.now }
+    fn filled_by(mut self, option: OptionRow) -> Reader
+        ensures { reader_view result ≡ filled_by forget (reader_view self) (option_view option) [] }
     {
         self.wants = None;
-        self.places = with_place(self.places, Given { option, value });
+        self.filled = with_part(self.filled, option.part);
         self
     }
 
     /// The value of an option.
-    fn value_step(self, option: OptionRow, value: Option<Value>, word: &'w str) -> Option<Reader<'w>>
-        ensures { option_map reader_view result ≡ value_step placed (reader_view self) (option_view option) (option_map value_view value) word.now }
+    fn value_step(self, option: OptionRow, value: Option<Value>, word: &str) -> Option<Reader>
+        ensures { option_map reader_view result ≡ value_step forget (reader_view self) (option_view option) (option_map value_view value) word.now }
     {
         match value {
-            Some(value) if value.fits(word) => Some(self.filled_by(option, word)),
+            Some(value) if value.fits(word) => Some(self.filled_by(option)),
             _ => None,
         }
     }
 
     /// An option's word, and what stands behind `=`.
-    fn option_step(mut self, option: OptionRow, text: Option<&'w str>) -> Option<Reader<'w>>
-        ensures { option_map reader_view result ≡ option_begins placed (reader_view self) (option_view option) (option_map value_view option.value) (option_map (λ t. t.now) text.entry) }
+    fn option_step(mut self, option: OptionRow, text: Option<&str>) -> Option<Reader>
+        ensures { option_map reader_view result ≡ option_begins forget (reader_view self) (option_view option) (option_map value_view option.value) (option_map (λ t. t.now) text.entry) }
     {
         match (option.value, text) {
-            (None, None) => Some(self.filled_by(option, "")),
+            (None, None) => Some(self.filled_by(option)),
             (None, Some(_)) => None,
             (Some(_), None) => {
                 self.wants = Some(option);
@@ -111,8 +113,8 @@ impl<'w> Reader<'w> {
     }
 
     /// With one word more, or none where no line goes on with it.
-    pub(crate) fn step(mut self, word: &'w str) -> Option<Reader<'w>>
-        ensures { option_map reader_view result ≡ step placed (reader_view self) word.now }
+    pub(crate) fn step(mut self, word: &str) -> Option<Reader>
+        ensures { option_map reader_view result ≡ step forget (reader_view self) word.now }
     {
         if let Some(option) = self.wants {
             return self.value_step(option, option.value, word);
@@ -123,7 +125,7 @@ impl<'w> Reader<'w> {
         }
         let (front, text) = parted(word);
         let option = find_option(self.row.options, front)?;
-        if !self.is_open(option.name.part()) {
+        if !self.is_open(option.part) {
             return None;
         }
         self.option_step(option, text)
@@ -131,7 +133,7 @@ impl<'w> Reader<'w> {
 
     /// Whether there is an option of each of these parts.
     fn has_all(&self, parts: &[usize]) -> bool
-        ensures { result ≡ list_all (is_filled (map is_some self.now.places)) parts.now }
+        ensures { result ≡ list_all (is_filled self.now.filled) parts.now }
     {
         parts.iter().all(|part| self.is_filled(*part))
     }
@@ -141,5 +143,23 @@ impl<'w> Reader<'w> {
         ensures { result ≡ may_end (reader_view self.now) }
     {
         self.wants.is_none() && self.operands.is_empty() && self.has_all(self.row.needs)
+    }
+
+    /// The option whose words end with this word, where it is one.
+    pub(crate) fn given<'w>(&self, word: &'w str) -> Option<Given<'w>>
+        ensures { option_map given_view result ≡ given_by (reader_view self.now) word.now }
+    {
+        if let Some(option) = self.wants {
+            return Some(Given {
+                option,
+                value: word,
+            });
+        }
+        if !self.operands.is_empty() {
+            return None;
+        }
+        let (front, text) = parted(word);
+        let option = find_option(self.row.options, front)?;
+        option_ends(option, text)
     }
 }

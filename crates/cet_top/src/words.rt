@@ -1,12 +1,13 @@
 //! The words of a command.
 
-ghost use Rattle.std.specs.Prelude.{◌≡◌, ◌∷◌, map, string_bytes, MatchResult};
-ghost use Rattle.cet_top.specs.Grammar.{FaultyWord, IsAmong};
-ghost use Rattle.cet_top.specs.Table.{command_view, places_view};
-ghost use Rattle.cet_top.specs.Words.{IsCommand, Means, command_of, commands};
+ghost use Rattle.std.specs.Prelude.{◌≡◌, ℕ, List, ◌∷◌, map, string_bytes, MatchResult};
+ghost use Rattle.cet_top.specs.Grammar.{FaultyWord, Given, IsAmong, IsLine};
+ghost use Rattle.cet_top.specs.Table.{command_view};
+ghost use Rattle.cet_top.specs.Words.{IsCommand, Means, command_of, commands, settings_of};
+ghost use Rattle.cet_top.specs.declared.options.OptionName.{OptionName};
 
 use crate::grammar::{CommandRow, find_command};
-use crate::options::{Given, Settings};
+use crate::options::Settings;
 use crate::reader::Reader;
 
 /// A command with its options.
@@ -31,20 +32,13 @@ pub(crate) enum CommandName {
     Check,
 }
 
-/// A line that was read: its command, its words without a name, and its options, each at the place of its part.
-pub(crate) struct Line<'w> {
-    pub name: CommandName,
-    pub operands: &'w [String],
-    pub places: [Option<Given<'w>>; 8],
-}
-
-impl Line<'_> {
-    /// What the line means.
-    fn command(&self) -> Command
-        ensures { result ≡ command_of self.now.name (map string_bytes self.now.operands.now) (places_view self.now.places) }
+impl CommandName {
+    /// The command of this name with these settings. None has words without a name yet.
+    fn with(self, settings: Settings) -> Command
+        ensures { (operands : List (List ℕ)) → result ≡ command_of self operands settings }
     {
-        match self.name {
-            CommandName::Run => Command::Run(Settings::of(&self.places)),
+        match self {
+            CommandName::Run => Command::Run(settings),
             CommandName::Dis => Command::Dis,
             CommandName::Asm => Command::Asm,
             CommandName::Check => Command::Check,
@@ -52,11 +46,10 @@ impl Line<'_> {
     }
 }
 
-/// Reads the words behind a command's own. The error is the number of the first faulty word of all. It takes no memory.
-fn read_line<'w>(row: CommandRow, words: &'w [String]) -> Result<Line<'w>, u32>
+/// Checks the words behind a command's own. The error is the number of the first faulty word of all. It takes no memory.
+fn check_line(row: CommandRow, words: &[String]) -> Result<(), u32>
     requires { IsAmong (command_view row) commands }
-    ensures { MatchResult result (λ line. Means (row.word.now ∷ map string_bytes words.now)
-            (command_of line.name (map string_bytes line.operands.now) (places_view line.places)))
+    ensures { MatchResult result (λ u. IsCommand (row.word.now ∷ map string_bytes words.now))
         (FaultyWord IsCommand (row.word.now ∷ map string_bytes words.now)) }
 {
     let mut reader = Reader::new(row);
@@ -67,18 +60,45 @@ fn read_line<'w>(row: CommandRow, words: &'w [String]) -> Result<Line<'w>, u32>
         }
     }
     if reader.may_end() {
-        Ok(Line {
-            name: row.name,
-            operands: &words[..row.operands.len()],
-            places: reader.places,
-        })
+        Ok(())
     } else {
         Err(words.len() as u32 + 2)
     }
 }
 
-/// Reads the words of a command. The error is the number of the first faulty word. Only once there is none, the settings
-/// are made of the values, of which none needs memory yet.
+/// The settings that the options of a line make.
+fn settings_of(row: CommandRow, words: &[String]) -> Settings
+    requires { IsAmong (command_view row) commands }
+    ensures { (operands : List (List ℕ)) (given : List (Given OptionName)) →
+        IsLine (command_view row) operands given (row.word.now ∷ map string_bytes words.now) →
+        result ≡ settings_of given }
+{
+    let mut reader = Reader::new(row);
+    let mut settings = Settings::defaults();
+    'words: for at in 0..words.len() {
+        let word = words[at].as_str();
+        settings = settings.with_given(reader.given(word));
+        match reader.step(word) {
+            Some(next) => reader = next,
+            // No line goes on so.
+            None => return settings,
+        }
+    }
+    settings
+}
+
+/// Reads the words behind a command's own. The error is the number of the first faulty word of all. Only where there is
+/// none, the settings are made, so that one which needs memory can't hide a faulty word. None needs memory yet.
+fn read_line(row: CommandRow, words: &[String]) -> Result<Command, u32>
+    requires { IsAmong (command_view row) commands }
+    ensures { MatchResult result (Means (row.word.now ∷ map string_bytes words.now))
+        (FaultyWord IsCommand (row.word.now ∷ map string_bytes words.now)) }
+{
+    check_line(row, words)?;
+    Ok(row.name.with(settings_of(row, words)))
+}
+
+/// Reads the words of a command. The error is the number of the first faulty word. It takes no memory.
 pub(crate) fn read_words(words: &[String]) -> Result<Command, u32>
     ensures { MatchResult result (Means (map string_bytes words.now))
         (FaultyWord IsCommand (map string_bytes words.now)) }
@@ -89,5 +109,5 @@ pub(crate) fn read_words(words: &[String]) -> Result<Command, u32>
     let Some(row) = find_command(first.as_str()) else {
         return Err(1);
     };
-    Ok(read_line(row, rest)?.command())
+    read_line(row, rest)
 }

@@ -1,7 +1,7 @@
 use Rattle.cet_top.specs.EveryCommand.{every_command}
 use Rattle.cet_top.specs.Words.{commands}
 use Rattle.cet_top.proofs.CommandWords.{good}
-use Rattle.cet_top.proofs.EveryOption.{every_good, means_lists, stops_by_form, stops_by_value}
+use Rattle.cet_top.proofs.EveryOption.{every_good, means_texts, stops_by_form, stops_by_value}
 use Rattle.cet_top.proofs.StopLaws.{read_by}
 use Rattle.cet_top.proofs.laws.tables_are_read.Goals as goal
 
@@ -20,5 +20,5 @@ returns-clause-by_form c = stops_by_form
 pub returns-clause-by_value : goal.returns-clause-by_value
 returns-clause-by_value c = stops_by_value
 
-pub returns-clause-lists : goal.returns-clause-lists
-returns-clause-lists c = means_lists
+pub returns-clause-texts : goal.returns-clause-texts
+returns-clause-texts c = means_texts
