@@ -190,14 +190,13 @@ means_one row tail c m means =
     let line : IsLine row means.operands means.given (row.word ∷ tail) = subst (λ (x : Row). IsLine x means.operands means.given (row.word ∷ tail)) same means.line in
     let l = line_read with_given row (good_among commands good row m) defaults means.operands means.given tail line in
     let many = are_as_many row.operands means.operands line.values in
-    let first : take (length row.operands) tail ≡ means.operands = ap (take (length row.operands)) rest ∙ take_at means.operands means.line.options (length row.operands) (omega arith) in
-    (
+    let first : take (length row.operands) tail ≡ means.operands = ap (take (length row.operands)) rest ∙ take_at means.operands means.line.options (length row.operands) (omega arith) in (
       l.last,
       l.read,
       means.is
-      ∙ ap (λ (x : Row). command_of x.name means.operands (settings_of means.given)) same
-      ∙ ap (λ (o : List (List ℕ)). command_of row.name o (settings_of means.given)) (sym first)
-      ∙ ap (command_of row.name (take (length row.operands) tail)) (sym l.kept_are),
+          ∙ ap (λ (x : Row). command_of x.name means.operands (settings_of means.given)) same
+          ∙ ap (λ (o : List (List ℕ)). command_of row.name o (settings_of means.given)) (sym first)
+          ∙ ap (command_of row.name (take (length row.operands) tail)) (sym l.kept_are),
     )
 
 pub means_same : (words : List (List ℕ)) (c d : Command) → Means words c → Means words d → c ≡ d

@@ -26,7 +26,6 @@ abbrev nothing : {O : Type 0} → Unit {0} → Given O → Unit {0}
 nothing kept g = kept
 
 module _ {C O : Type 0} where
-
   -- ---- where it doesn't stop it reads all
 
   abbrev AllRead : Reader C O (Unit {0}) → List (List ℕ) → Type 0

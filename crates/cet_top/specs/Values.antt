@@ -43,7 +43,7 @@ listed most read text = if nat_le (length (items 44 text)) most then each_of rea
 abbrev pub signal_by : List (List ℕ) → Option Signal
 signal_by (t ∷ c ∷ n ∷ []) =
     option_and_then (λ thread. option_and_then (λ count. option_map (λ number.
-      record { thread = thread; count = count; number = number })
+    record { thread = thread; count = count; number = number })
     (number_within 1 31 n)) (number_within 0 100000 c)) (number_within 0 31 t)
 signal_by parts = None
 
