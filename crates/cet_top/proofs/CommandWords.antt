@@ -76,7 +76,8 @@ pub record SoFar (row : Row) (words : List (List ℕ)) (r : Reading) : Type 0 wh
 pub so_far_none : (row : Row) (r : Reading) → r ≡ start row tt → SoFar row [] r
 so_far_none row r e = subst (SoFar row []) (sym e) (record { read = refl; left = (let l = left_start forget row tt in omega arith) })
 
-pub so_far_more : (row : Row) (all : List (List ℕ)) (at : ℕ) (word : List ℕ) (r next : Reading) → IsAmong row commands → slice_get all at ≡ Some word → SoFar row (take at all) r → Some next ≡ step forget r word → SoFar row (take (at + 1) all) next
+pub so_far_more : (row : Row) (all : List (List ℕ)) (at : ℕ) (word : List ℕ) (r next : Reading) → IsAmong row commands
+    → slice_get all at ≡ Some word → SoFar row (take at all) r → Some next ≡ step forget r word → SoFar row (take (at + 1) all) next
 so_far_more row all at word r next m here f e =
     let w = take_next all at word here in
     let v = valid_read forget commands good tt row (take at all) r m f.read in
@@ -92,7 +93,8 @@ so_far_more row all at word r next m here f e =
       left = omega arith;
     }
 
-pub so_far_stops : (row : Row) (all : List (List ℕ)) (at : ℕ) (word : List ℕ) (r : Reading) → IsAmong row commands → slice_get all at ≡ Some word → SoFar row (take at all) r → None ≡ step forget r word → FaultyWord IsCommand (row.word ∷ all) (at + 2)
+pub so_far_stops : (row : Row) (all : List (List ℕ)) (at : ℕ) (word : List ℕ) (r : Reading) → IsAmong row commands
+    → slice_get all at ≡ Some word → SoFar row (take at all) r → None ≡ step forget r word → FaultyWord IsCommand (row.word ∷ all) (at + 2)
 so_far_stops row all at word r m here f e =
     let w = take_next all at word here in
     let whole : take at all ++ word ∷ drop (at + 1) all ≡ all = ap (λ (l : List (List ℕ)). take at all ++ l) (sym w.1) ∙ take-append-drop at all in
@@ -121,7 +123,8 @@ any_given : (settings : SettingsData) (given : Option (Given OptionName)) → ke
 any_given settings None = refl
 any_given settings (Some g) = refl
 
-pub made_more : (row : Row) (all : List (List ℕ)) (at : ℕ) (word : List ℕ) (r next : Reading) (settings after : SettingsData) → IsAmong row commands → slice_get all at ≡ Some word → Made row (take at all) r settings → Some next ≡ step forget r word → after ≡ with_any settings (given_by r word)
+pub made_more : (row : Row) (all : List (List ℕ)) (at : ℕ) (word : List ℕ) (r next : Reading) (settings after : SettingsData) → IsAmong row commands
+    → slice_get all at ≡ Some word → Made row (take at all) r settings → Some next ≡ step forget r word → after ≡ with_any settings (given_by r word)
     → Made row (take (at + 1) all) next after
 made_more row all at word r next settings after m here f e is =
     let w = take_next all at word here in

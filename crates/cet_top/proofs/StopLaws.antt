@@ -3,8 +3,8 @@ use Rattle.std.proofs.Common.{ℕ, ◌+◌, ◌≡◌, Bool, true, false, cond, 
 use Rattle.std.specs.Prelude.{option_and_then}
 use Rattle.std.proofs.lemmas.List.{append-nil, length-append}
 use Rattle.cet_top.specs.GoodTable.{good_table}
-use Rattle.cet_top.specs.Grammar.{CommandRow, FaultyWord, Given, IsAmong, IsIn}
-use Rattle.cet_top.specs.Reader.{IsReadBy, Reader, find_command, may_end, start, step, stop, stop_from, stop_of}
+use Rattle.cet_top.specs.Grammar.{CommandRow, FaultyWord, IsAmong, IsIn}
+use Rattle.cet_top.specs.Reader.{IsReadBy, Reader, find_command, forget, may_end, start, step, stop, stop_from, stop_of}
 use Rattle.cet_top.proofs.Faulty.{faulty_same}
 use Rattle.cet_top.proofs.FaultyLines.{misses, no_command, no_word, read_accepted, stops}
 use Rattle.cet_top.proofs.ReaderSteps.{steps}
@@ -22,19 +22,16 @@ ends_by_none : (b : Bool) (n : ℕ) → cond b None (Some n) ≡ None → b ≡ 
 ends_by_none true n e = refl
 ends_by_none false n e = cc
 
-abbrev nothing : {O : Type 0} → Unit {0} → Given O → Unit {0}
-nothing kept g = kept
-
 module _ {C O : Type 0} where
   -- ---- where it doesn't stop it reads all
 
   abbrev AllRead : Reader C O (Unit {0}) → List (List ℕ) → Type 0
-  AllRead r ws = (last : Reader C O (Unit {0})) × (steps nothing r ws ≡ Some last) × (may_end last ≡ true)
+  AllRead r ws = (last : Reader C O (Unit {0})) × (steps forget r ws ≡ Some last) × (may_end last ≡ true)
 
   all_read : (ws : List (List ℕ)) (r : Reader C O (Unit {0})) (n : ℕ) → stop_from (Some r) ws n ≡ None → AllRead r ws
   all_read [] r n e = (r, refl, ends_by_none (may_end r) (n + 1) e)
   all_read (w ∷ ws) r n e =
-      (elim (step nothing r w) as (λ o. stop_from o ws (n + 1) ≡ None → (last : Reader C O (Unit {0})) × (option_and_then (λ s. steps nothing s ws) o ≡ Some last) × (may_end last ≡ true)) [
+      (elim (step forget r w) as (λ o. stop_from o ws (n + 1) ≡ None → (last : Reader C O (Unit {0})) × (option_and_then (λ s. steps forget s ws) o ≡ Some last) × (may_end last ≡ true)) [
         | None ↦ λ f. cc
         | Some s ↦ λ f. all_read ws s (n + 1) f
       ]) e
@@ -42,20 +39,21 @@ module _ {C O : Type 0} where
   -- ---- where it stops
 
   module _ (table : List (CommandRow C O)) (good : good_table table ≡ true) where
-    stop_is : (row : CommandRow C O) → IsAmong row table → (ws done : List (List ℕ)) (r : Reader C O (Unit {0})) (k : ℕ) → steps nothing (start row tt) done ≡ Some r → stop_from (Some r) ws (length done + 1) ≡ Some k → FaultyWord (IsIn table) (row.word ∷ (done ++ ws)) k
+    stop_is : (row : CommandRow C O) → IsAmong row table → (ws done : List (List ℕ)) (r : Reader C O (Unit {0})) (k : ℕ) → steps forget (start row tt) done ≡ Some r
+        → stop_from (Some r) ws (length done + 1) ≡ Some k → FaultyWord (IsIn table) (row.word ∷ (done ++ ws)) k
     stop_is row m [] done r k read e =
         let h = may_end_by (may_end r) (length done + 1 + 1) k e in
         let place : length done + 2 ≡ k = (let same = h.1 in omega arith) in
         subst (λ l. FaultyWord (IsIn table) (row.word ∷ l) k) (sym (append-nil done))
-        (subst (FaultyWord (IsIn table) (row.word ∷ done)) place (misses nothing table good tt row done r m read h.0))
+        (subst (FaultyWord (IsIn table) (row.word ∷ done)) place (misses forget table good tt row done r m read h.0))
     stop_is row m (w ∷ ws) done r k read e =
-        (elim (step nothing r w) as (λ o. step nothing r w ≡ o → stop_from o ws (length done + 1 + 1) ≡ Some k → FaultyWord (IsIn table) (row.word ∷ (done ++ w ∷ ws)) k) [
+        (elim (step forget r w) as (λ o. step forget r w ≡ o → stop_from o ws (length done + 1 + 1) ≡ Some k → FaultyWord (IsIn table) (row.word ∷ (done ++ w ∷ ws)) k) [
           | None ↦ λ q f.
               let at : length done + 1 + 1 ≡ k = cc in
-              subst (FaultyWord (IsIn table) (row.word ∷ (done ++ w ∷ ws))) (omega arith) (stops nothing table good tt row done w ws r m read q)
+              subst (FaultyWord (IsIn table) (row.word ∷ (done ++ w ∷ ws))) (omega arith) (stops forget table good tt row done w ws r m read q)
           | Some s ↦ λ q f.
-              let more : steps nothing (start row tt) (done ++ w ∷ []) ≡ Some s =
-              steps_append nothing (start row tt) done (w ∷ []) ∙ ap (option_and_then (λ x. steps nothing x (w ∷ []))) read ∙ ap (option_and_then (λ x. Some x)) q in
+              let more : steps forget (start row tt) (done ++ w ∷ []) ≡ Some s =
+              steps_append forget (start row tt) done (w ∷ []) ∙ ap (option_and_then (λ x. steps forget x (w ∷ []))) read ∙ ap (option_and_then (λ x. Some x)) q in
               let long : length (done ++ w ∷ []) ≡ length done + 1 = length-append done (w ∷ []) in
               let next : stop_from (Some s) ws (length (done ++ w ∷ []) + 1) ≡ Some k = subst (λ n. stop_from (Some s) ws (n + 1) ≡ Some k) (sym long) f in
               subst (λ l. FaultyWord (IsIn table) (row.word ∷ l) k) (append_assoc done (w ∷ []) ws) (stop_is row m ws (done ++ w ∷ []) s k more next)
@@ -64,7 +62,7 @@ module _ {C O : Type 0} where
     faulty_by : (w : List ℕ) (ws : List (List ℕ)) (k : ℕ) (o : Option (CommandRow C O)) → find_command table w ≡ o → stop_of o ws ≡ Some k → FaultyWord (IsIn table) (w ∷ ws) k
     faulty_by w ws k None q e =
         let at : 1 ≡ k = cc in
-        subst (FaultyWord (IsIn table) (w ∷ ws)) at (no_command nothing table good tt w ws q)
+        subst (FaultyWord (IsIn table) (w ∷ ws)) at (no_command forget table good tt w ws q)
     faulty_by w ws k (Some row) q e =
         let a = command_among table w row q in
         subst (λ x. FaultyWord (IsIn table) (x ∷ ws) k) a.1 (stop_is row a.0 ws [] (start row tt) k refl e)
@@ -72,7 +70,7 @@ module _ {C O : Type 0} where
     faulty_at : (words : List (List ℕ)) (k : ℕ) → stop table words ≡ Some k → FaultyWord (IsIn table) words k
     faulty_at [] k e =
         let at : 1 ≡ k = cc in
-        subst (FaultyWord (IsIn table) []) at (no_word nothing table good tt)
+        subst (FaultyWord (IsIn table) []) at (no_word forget table good tt)
     faulty_at (w ∷ ws) k e = faulty_by w ws k (find_command table w) refl e
 
     line_by : (w : List ℕ) (ws : List (List ℕ)) (o : Option (CommandRow C O)) → find_command table w ≡ o → stop_of o ws ≡ None → IsIn table (w ∷ ws)
@@ -80,7 +78,7 @@ module _ {C O : Type 0} where
     line_by w ws (Some row) q e =
         let a = command_among table w row q in
         let all = all_read ws (start row tt) 1 e in
-        subst (λ x. IsIn table (x ∷ ws)) a.1 (read_accepted nothing table good tt row ws all.0 a.0 all.1 all.2)
+        subst (λ x. IsIn table (x ∷ ws)) a.1 (read_accepted forget table good tt row ws all.0 a.0 all.1 all.2)
 
     line_at : (words : List (List ℕ)) → stop table words ≡ None → IsIn table words
     line_at [] e = cc

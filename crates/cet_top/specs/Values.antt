@@ -55,45 +55,45 @@ abbrev pub signals_of : List ℕ → Option (List Signal)
 signals_of text = listed 256 signal_of text
 
 -- some turns of one thread, one after another
-pub record Stretch : Type 0 where
+pub record Repeat : Type 0 where
   pub thread : ℕ
   pub turns : ℕ
 
 -- `t`, or `t*n`
-abbrev pub stretch_by : List (List ℕ) → Option Stretch
-stretch_by (t ∷ []) = option_map (λ thread. record { thread = thread; turns = 1 }) (number_within 0 31 t)
-stretch_by (t ∷ n ∷ []) =
+abbrev pub repeat_by : List (List ℕ) → Option Repeat
+repeat_by (t ∷ []) = option_map (λ thread. record { thread = thread; turns = 1 }) (number_within 0 31 t)
+repeat_by (t ∷ n ∷ []) =
     option_and_then (λ thread. option_map (λ turns. record { thread = thread; turns = turns }) (number_within 1 1000000 n)) (number_within 0 31 t)
-stretch_by parts = None
+repeat_by parts = None
 
-abbrev pub stretch_of : List ℕ → Option Stretch
-stretch_of item = stretch_by (items 42 item)
+abbrev pub repeat_of : List ℕ → Option Repeat
+repeat_of item = repeat_by (items 42 item)
 
 -- how many turns they are in all
-abbrev pub all_turns : List Stretch → ℕ
+abbrev pub all_turns : List Repeat → ℕ
 all_turns [] = 0
 all_turns (s ∷ ss) = s.turns + all_turns ss
 
--- up to 10,000 stretches, of up to 1,000,000 turns in all
-abbrev pub stretches_of : List ℕ → Option (List Stretch)
-stretches_of text = option_and_then (λ ss. if nat_le (all_turns ss) 1000000 then Some ss else None) (listed 10000 stretch_of text)
+-- up to 10,000 repeats, of up to 1,000,000 turns in all
+abbrev pub repeats_of : List ℕ → Option (List Repeat)
+repeats_of text = option_and_then (λ ss. if nat_le (all_turns ss) 1000000 then Some ss else None) (listed 10000 repeat_of text)
 
 -- the thread of each turn
-abbrev pub threads_of : List Stretch → List ℕ
+abbrev pub threads_of : List Repeat → List ℕ
 threads_of [] = []
 threads_of (s ∷ ss) = replicate s.turns s.thread ++ threads_of ss
 
 abbrev pub schedule_of : List ℕ → Option (List ℕ)
-schedule_of text = option_map threads_of (stretches_of text)
+schedule_of text = option_map threads_of (repeats_of text)
 
 -- ---- values
 
--- The text is such a value. It is a list of turns where it has stretches, which are fewer than their turns.
+-- The text is such a value. It is a list of turns where it has repeats, which are fewer than their turns.
 abbrev pub fits : Value → List ℕ → Bool
 fits (Number low high) text = is_some (number_within low high text)
 fits (OneOf first others) text = is_some (place_among (first ∷ others) text)
 fits Signals text = is_some (signals_of text)
-fits Turns text = is_some (stretches_of text)
+fits Turns text = is_some (repeats_of text)
 
 -- a text that is such a value, where there is one: that of the lowest number, the first word, or the empty list
 abbrev pub example : Value → List ℕ

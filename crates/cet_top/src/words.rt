@@ -66,7 +66,7 @@ fn check_line(row: CommandRow, words: &[String]) -> Result<(), u32>
     }
 }
 
-/// The settings that the options of a line make.
+/// The settings that the options of a line make, in the order in which they stand.
 fn settings_of(row: CommandRow, words: &[String]) -> Settings
     requires { IsAmong (command_view row) commands }
     ensures { (operands : List (List ℕ)) (given : List (Given OptionName)) →
@@ -80,7 +80,7 @@ fn settings_of(row: CommandRow, words: &[String]) -> Settings
         settings = settings.with_given(reader.given(word));
         match reader.step(word) {
             Some(next) => reader = next,
-            // No line goes on so.
+            // Each word of a line is taken.
             None => return settings,
         }
     }
