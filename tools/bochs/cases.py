@@ -27,7 +27,7 @@ class Case:
 
     def __init__(self, name, body, before=(), limit=2000, auxiliary=False, planted=None, ssp=None, registers=None):
         self.name, self.limit = name, limit
-        self.instructions, self.text = lay_out(list(before) + list(body))
+        self.instructions, self.text, self.end = lay_out(list(before) + list(body))
         self.planted = bool(planted or registers or ssp is not None)
         self.start = Machine(self.text, self.instructions)
         self.records = []
@@ -47,8 +47,8 @@ class Case:
 
 
 def lay_out(items):
-    """Instructions by address, and the bytes. A text among the items is a label; the number of a `call`, a `jmp` or a
-    `mov` may name one."""
+    """Instructions by address, the bytes, and the end of the items given. A text among the items is a label; the number
+    of a `call`, a `jmp` or a `mov` may name one."""
     labels, address, places = {}, TEXT, []
     for item in items:
         if isinstance(item, str):
@@ -63,11 +63,12 @@ def lay_out(items):
             item = item._replace(number=target - address - 5 if item.name in ("call", "jmp") else target)
         instructions[address] = item
         text += encode(item)
+    end = TEXT + len(text)
     while len(text) < SHORTEST:
         item = UD2 if len(text) % 2 == 0 else NOP
         instructions[TEXT + len(text)] = item
         text += encode(item)
-    return instructions, text
+    return instructions, text, end
 
 
 def region(size):
@@ -117,7 +118,8 @@ def every_stack_place():
             for depth in (0, 1):
                 for offset in (0, 8):
                     before = calls(depth)
-                    body = [do("mov_number", RBX, number="end"), load_number(RSP, address + offset), *instructions, UD2, "end", UD2]
+                    aims = [do("mov_number", RBX, number="end"), load_number(RSP, address + offset)]
+                    body = [*aims, *instructions, UD2, "end", UD2]
                     yield Case(f"{what}, rsp {where} + {offset}, depth {depth}", body, before)
 
 
@@ -170,10 +172,8 @@ def returns():
     for number in (0, 8, 16, 0x7FF8, 0xFFF8, 0xFFFF, 1):
         yield Case(f"return and {number}", [do("call", number="f"), UD2, "f", do("ret_number", number=number)])
     for words in ((0x800000000000,) * 2, (MASK,) * 2, (STACK[0],) * 2, (0x500000,) * 2, (KERNEL,) * 2, (0, 0),
-                  (0x200008F00,) * 2, (TEXT, TEXT + 1), (0x800000000000, TEXT), (TEXT, 0x800000000000), (0x401FFF, 0x401FFF)):
+                  (0x200008F00,) * 2, (TEXT, TEXT + 1), (0x800000000000, TEXT), (TEXT, 0x800000000000)):
         planted = {0x7FFFF000: words[0], 0x200008F00: words[1]}
-        if words[0] == 0x401FFF:
-            continue
         yield Case(f"return to {words[0]:x} with {words[1]:x}", [do("ret"), UD2], planted=planted, ssp=0x200008F00,
                    registers={RSP: 0x7FFFF000})
     before, (token,) = regions(4096)
@@ -199,7 +199,8 @@ def restores():
     for k in range(len(FLAGS)):
         for place in (first, second, first - 8, first + 4, 0x500000):
             for carry in ((), (do("stc"),), (do("clc"),)):
-                yield Case(f"rstorssp {place:x}, flags {k}", [*carry, *restore(place), UD2], before + flags(k), auxiliary=k & 1)
+                yield Case(f"rstorssp {place:x}, flags {k}", [*carry, *restore(place), UD2], before + flags(k),
+                           auxiliary=k & 1)
     for register in range(16):
         for displacement in (0, 8, 120, 4096, -8):
             body = [load_number(register, first - displacement), do("rstorssp", memory=at(register, displacement)), UD2]
@@ -229,7 +230,8 @@ def saves():
         name = f"saveprevssp {carry and carry[0].name}"
         yield Case(f"{name} at the end", [*carry, save, UD2], before)
         yield Case(f"{name} after a restore", [*restore(first), *carry, save, *carry, save, UD2], before)
-        yield Case(f"{name} after a restore from the lowest word", [*restore(third), *restore(first), *carry, save, UD2], before)
+        yield Case(f"{name} after a restore from the lowest word", [*restore(third), *restore(first), *carry, save, UD2],
+                   before)
         for shift in range(8):
             body = [NOP] * shift + [do("call", number="f"), UD2, "f", *carry, save, UD2]
             yield Case(f"{name} at a return address, shifted {shift}", body)
@@ -238,21 +240,16 @@ def saves():
                                       do("rdsspq", RCX), UD2], before)
     yield Case("stack of one word", [*restore(third), save, *calls(1), do("rdsspq", RCX), *calls(1), UD2], before)
     yield Case("stack of one word, not saved", [*restore(third), *calls(1), UD2], before)
-    yield Case("a raise past a token", [*restore(first), load_number(RCX, 1), do("incsspq", RCX), do("rdsspq", RDX), save], before)
+    yield Case("a raise past a token", [*restore(first), load_number(RCX, 1), do("incsspq", RCX), do("rdsspq", RDX), save],
+               before)
     there = FIRST_REGION[1] - 64
     for address in PLACES.values():
         for low in range(8):
             word = address & ~7 | low
-            if place_in_view(word):
-                yield Case(f"saveprevssp finds {word:x}", [save, UD2], planted={there: word}, ssp=there)
+            yield Case(f"saveprevssp finds {word:x}", [save, UD2], planted={there: word}, ssp=there)
     for low in range(8):
         filled = {0x200008000 + 8 * k: MASK for k in range(4)} | {there: 0x200008008 | low}
         yield Case(f"saveprevssp beside full words, {low}", [save, do("rdsspq", RCX), UD2], planted=filled, ssp=there)
-
-
-def place_in_view(word):
-    """Whether boot.asm can show all that a save with this word may write."""
-    return True
 
 
 def all_cases():

@@ -61,6 +61,8 @@ def compare_bochs(case, lines, words, totals):
             model.step()
         except Fault as fault:
             name, wanted, where = fault.name, fault.code, fault.a
+        except KeyError:
+            name = "no instruction"
         wanted = (name, wanted, where if name == "#PF" else 0, model.rip, model.flags & STATUS, model.ssp, model.registers)
         found = (NAMES.get(vector, f"vector {vector}"), code, cr2 if vector == 14 else 0, rip, flags & STATUS, ssp, seen)
         if wanted != found:

@@ -97,7 +97,8 @@ def text(instruction):
     place = ""
     if memory:
         sign = "-" if memory.displacement < 0 else "+"
-        place = f"[{REGISTERS[memory.base]}{sign}{abs(memory.displacement):#x}]"
+        tail = f"{sign}{abs(memory.displacement):#x}" if memory.displacement else ""
+        place = f"[{REGISTERS[memory.base]}{tail}]"
     wide = REGISTERS[register] if register is not None else ""
     narrow = wide + "d" if wide[1:].isdigit() else "e" + wide[1:]
     return TEXTS.get(name, name).format(
