@@ -1,7 +1,8 @@
 ; A machine with one user program at a time: 64-bit mode, CPL 3, user shadow stacks, a trap after each instruction.
 ;
 ; nasm -f bin; machine.py lays the disk out: this code, the page tables at TABLES, the cases from sector CASES on.
-; It gives TABLES, CASES, SECTORS (of the cases), USER, TEXT, DUMP and END (places of the user's pages in memory).
+; It gives TABLES, CASES, SECTORS (of the cases), LOW_ENTRY (the page entry of address 0), USER, TEXT, DUMP and END (places
+; of the user's pages in memory), TOKEN (of the supervisor's shadow stack) and TOKEN_PLACE.
 ; A case is in words of 8 bytes: the length of the text in words, the text, the number of planted words, each as
 ; place and value, the most instructions, SSP, rax to r15 in encoding order, RIP, RFLAGS. The word -1 ends the list.
 ;
@@ -14,6 +15,8 @@ LOADED equ KERNEL + 0x200000    ; the cases
 TASK equ 0x6000                 ; the task-state segment
 STACK equ KERNEL + 0x7a00
 U_CET equ 0x6a0
+S_CET equ 0x6a2
+PL0_SSP equ 0x6a4
 PL3_SSP equ 0x6a7
 
 org 0x7c00
@@ -78,6 +81,16 @@ high:   mov ax, 0x10
         mov eax, 1              ; shadow stacks for the user, without WRSS
         xor edx, edx
         wrmsr
+        mov ecx, S_CET          ; and for the supervisor, since SETSSBSY and CLRSSBSY ask for them first
+        wrmsr
+        mov ecx, PL0_SSP
+        mov rax, TOKEN
+        mov rdx, rax
+        shr rdx, 32
+        wrmsr
+        mov rdx, KERNEL + TOKEN_PLACE
+        mov [rdx], rax
+        setssbsy                ; IRET frees the token, and each trap takes it
 
         mov rdi, LOADED         ; the cases, from the disk, sector by sector
         mov ebx, CASES

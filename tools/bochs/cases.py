@@ -125,11 +125,12 @@ def every_stack_place():
 
 def every_memory_place():
     """Loads, stores and targets at each kind of address, and as the base rbp."""
+    yield Case("setssbsy", [do("setssbsy")])
     for where, address in PLACES.items():
         for base in (RBX, RBP):
-            for what in ("mov_load", "mov_store", "push_memory", "call_memory", "call_register", "wrssq", "wrussq"):
+            for what in ("mov_load", "mov_store", "push_memory", "call_memory", "call_register", "wrssq", "wrussq", "clrssbsy"):
                 memory = None if what == "call_register" else at(base)
-                register = base if what == "call_register" else None if what.endswith("memory") else RCX
+                register = base if what == "call_register" else None if what.endswith("memory") or what == "clrssbsy" else RCX
                 yield Case(f"{what} at {where}, base {base}", [load_number(base, address), do(what, register, memory), UD2],
                            flags(base))
     for bad in (0x800000000000, 0x7FFFF001, 0x500000):

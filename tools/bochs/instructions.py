@@ -1,4 +1,4 @@
-"""Instructions as data, with their bytes (the canonical spelling of docs/instructions.md) and their text."""
+"""Instructions as data, with their bytes, which are a spelling of docs/instructions.md, and their text."""
 from collections import namedtuple
 
 REGISTERS = "rax rcx rdx rbx rsp rbp rsi rdi r8 r9 r10 r11 r12 r13 r14 r15".split()
@@ -7,24 +7,30 @@ R11 = 11
 MASK = (1 << 64) - 1
 
 Memory = namedtuple("Memory", "base displacement")
-Instruction = namedtuple("Instruction", "name register memory number", defaults=(None, None, None))
+# `rex` has bits of a REX prefix that say nothing in this instruction; REX alone is a bit of its own.
+Instruction = namedtuple("Instruction", "name register memory number rex", defaults=(None, None, None, 0))
+REX, REX_W, REX_R, REX_X = 0x40, 8, 4, 2
 
 # Name: prefix, REX.W, opcode, and what the ModRM byte holds: the register (/r), or a number of the opcode.
 MODRM = {
     "mov_load": ("", 1, "8b", "r"), "mov_store": ("", 1, "89", "r"), "push_memory": ("", 0, "ff", 6),
     "call_memory": ("", 0, "ff", 2), "call_register": ("", 0, "ff", 2), "incsspq": ("f3", 1, "0fae", 5),
     "rdsspq": ("f3", 1, "0f1e", 1), "rstorssp": ("f3", 0, "0f01", 5), "wrssq": ("", 1, "0f38f6", "r"),
-    "wrussq": ("66", 1, "0f38f5", "r"), "add_number": ("", 0, "81", 0),
+    "wrussq": ("66", 1, "0f38f5", "r"), "clrssbsy": ("f3", 0, "0fae", 6), "add_number": ("", 0, "81", 0),
 }
 PLAIN = {
     "ret": "c3", "nop": "90", "ud2": "0f0b", "syscall": "0f05", "stc": "f9", "clc": "f8", "saveprevssp": "f30f01ea",
+    "setssbsy": "f30f01e8",
 }
+# In these REX.W says nothing.
+ANY_WIDTH = ("push_register", "push_memory", "pop", "call_register", "call_memory", "rstorssp", "clrssbsy")
+WITH_REX = ANY_WIDTH + ("mov_load", "mov_store", "mov_number", "mov_number_32", "incsspq", "rdsspq", "add_number")
 TEXTS = {
     "mov_number": "mov {r}, {n}", "mov_number_32": "mov {e}, {n}", "add_number": "add {e}, {n}",
     "mov_load": "mov {r}, {m}", "mov_store": "mov {m}, {r}", "push_register": "push {r}", "push_number": "push {n}",
     "push_memory": "push {m}", "pop": "pop {r}", "call": "call rel {n}", "call_register": "call {r}",
     "call_memory": "call {m}", "jmp": "jmp rel {n}", "ret_number": "ret {n}", "incsspq": "incsspq {r}",
-    "rdsspq": "rdsspq {r}", "rstorssp": "rstorssp {m}", "wrssq": "wrssq {m}, {r}", "wrussq": "wrussq {m}, {r}",
+    "clrssbsy": "clrssbsy {m}", "rdsspq": "rdsspq {r}", "rstorssp": "rstorssp {m}", "wrssq": "wrssq {m}, {r}", "wrussq": "wrussq {m}, {r}",
 }
 SHADOW_STACK = ("incsspq", "rdsspq", "rstorssp", "saveprevssp")
 CET = SHADOW_STACK + ("call", "call_register", "call_memory", "ret", "ret_number")
@@ -38,9 +44,19 @@ def fits(value, size):
     return -1 << 8 * size - 1 <= value < 1 << 8 * size - 1
 
 
-def rex(wide, reg, base):
-    bits = 8 * wide | (reg >> 3) << 2 | base >> 3
-    return bytes([0x40 | bits]) if bits else b""
+def rex(wide, reg, base, idle):
+    bits = REX_W * wide | (reg >> 3) * REX_R | base >> 3 | idle
+    return bytes([REX | bits]) if bits else b""
+
+
+def idle_bits(instruction):
+    """The bits of REX that say nothing in this instruction."""
+    name, _, memory, _, _ = instruction
+    if name not in WITH_REX:
+        return 0
+    bits = REX | (REX_W if name in ANY_WIDTH else 0)
+    bits |= 0 if name in ("mov_load", "mov_store") else REX_R
+    return bits | (0 if memory and memory.base & 7 == RSP else REX_X)
 
 
 def operand(reg, memory, register):
@@ -59,7 +75,7 @@ def operand(reg, memory, register):
 
 
 def encode(instruction):
-    name, register, memory, number = instruction
+    name, register, memory, number, idle = instruction
     if name in PLAIN:
         return bytes.fromhex(PLAIN[name])
     if name in MODRM:
@@ -70,18 +86,18 @@ def encode(instruction):
         if tail and fits(number, 1):
             opcode, tail = "83", number_bytes(number, 1)
         reg_extended = reg if field == "r" else 0
-        return bytes.fromhex(prefix) + rex(wide, reg_extended, base) + bytes.fromhex(opcode) + operand(
+        return bytes.fromhex(prefix) + rex(wide, reg_extended, base, idle) + bytes.fromhex(opcode) + operand(
             reg, memory, register) + tail
     if name in ("push_register", "pop"):
-        return rex(0, 0, register) + bytes([(0x50 if name == "push_register" else 0x58) + (register & 7)])
+        return rex(0, 0, register, idle) + bytes([(0x50 if name == "push_register" else 0x58) + (register & 7)])
     if name == "push_number":
         return b"\x6a" + number_bytes(number, 1) if fits(number, 1) else b"\x68" + number_bytes(number, 4)
     if name == "mov_number_32":
-        return rex(0, 0, register) + bytes([0xB8 + (register & 7)]) + number_bytes(number, 4)
+        return rex(0, 0, register, idle) + bytes([0xB8 + (register & 7)]) + number_bytes(number, 4)
     if name == "mov_number":
         if fits(number, 4):
-            return rex(1, 0, register) + b"\xc7" + bytes([0xC0 | register & 7]) + number_bytes(number, 4)
-        return rex(1, 0, register) + bytes([0xB8 + (register & 7)]) + number_bytes(number, 8)
+            return rex(1, 0, register, idle) + b"\xc7" + bytes([0xC0 | register & 7]) + number_bytes(number, 4)
+        return rex(1, 0, register, idle) + bytes([0xB8 + (register & 7)]) + number_bytes(number, 8)
     opcodes = {"call": (b"\xe8", 4), "jmp": (b"\xe9", 4), "ret_number": (b"\xc2", 2)}
     opcode, size = opcodes[name]
     return opcode + number_bytes(number, size)
@@ -93,7 +109,7 @@ def number_text(value):
 
 def text(instruction):
     """The line for `cetvm asm`."""
-    name, register, memory, number = instruction
+    name, register, memory, number, _ = instruction
     place = ""
     if memory:
         sign = "-" if memory.displacement < 0 else "+"

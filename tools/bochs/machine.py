@@ -15,6 +15,7 @@ STACK_PLACE = TEXT_PLACE + 4096 * TEXT_PAGES
 SHADOW_PLACE, SHADOW_PAGES = STACK_PLACE + STACK[1] - STACK[0], 48
 KERNEL_PLACE = SHADOW_PLACE + 4096 * SHADOW_PAGES
 CASES = 128
+TOKEN = 0x2FF8
 SPARE = 16 << 20
 # The page tables, in their order in memory.
 (ROOT, LOW_POINTERS, LOW_0, LOW_1, LOW_8, TEXT_TABLE, STACK_TABLE, SHADOW_TABLE, KERNEL_POINTERS, KERNEL_DIRECTORY,
@@ -110,7 +111,7 @@ def run(work, cases):
     data = b"".join(map(case_words, cases)) + struct.pack("<Q", MASK)
     sectors = len(data) + 511 >> 9
     values = dict(TABLES=TABLES, CASES=CASES, SECTORS=sectors, USER=TEXT_PLACE, TEXT=TEXT_PLACE, DUMP=STACK_PLACE,
-                  END=KERNEL_PLACE, LOW_ENTRY=LOW_0)
+                  END=KERNEL_PLACE, LOW_ENTRY=LOW_0, TOKEN=KERNEL + TOKEN, TOKEN_PLACE=KERNEL_PLACE + TOKEN)
     assert LOADED + 512 * sectors < 32 << 20
     defines = [f"-D{name}={value:#x}" for name, value in values.items()]
     subprocess.run(["nasm", "-f", "bin", *defines, "-o", work / "boot", HERE / "boot.asm"], check=True)

@@ -156,6 +156,8 @@ class Machine:
     def wrussq(self, _):
         raise Fault("#GP")
 
+    setssbsy = clrssbsy = wrussq
+
     def jmp(self, i):
         self.after = self.after + i.number & MASK
         return self.done(self.after)

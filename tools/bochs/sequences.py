@@ -3,7 +3,7 @@ that fits the state, so that programs run long; a few that don't fit end it in a
 import random
 
 from cases import Case, UD2, flags, regions
-from instructions import MASK, RAX, RBX, RSP, at, do, encode, load_number
+from instructions import MASK, RAX, RBX, RSP, at, do, encode, idle_bits, load_number
 from model import FIRST_REGION, SHADOW, STACK_TOP, TEXT, Fault, Machine
 
 BLOCK = 96
@@ -55,6 +55,8 @@ class Sequence:
         rip = self.machine.rip
         end = rip + BLOCK - (rip - self.before_end()) % BLOCK
         item = self.waiting.pop(0) if self.waiting else self.choose()
+        if self.pick.random() < 0.2:
+            item = item._replace(rex=self.pick.getrandbits(7) & idle_bits(item))
         relative = item.number == "block" or isinstance(item.number, tuple)
         size = 5 if relative else len(encode(item))
         if rip + size + ROOM > end and item.name != "ud2":
