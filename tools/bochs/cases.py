@@ -23,11 +23,13 @@ FLAGS = ((0, 0), (0x7FFFFFFF, 1), (-0x80000000, -0x80000000), (-1, 1), (0x7FFFFF
 
 class Case:
     """A program, its start in cetvm, and the state `start` at which Bochs begins: after the part `before`, or where
-    something was planted that no program leaves there."""
+    something was planted that no program leaves there. The text is cut to `length` bytes."""
 
-    def __init__(self, name, body, before=(), limit=2000, auxiliary=False, planted=None, ssp=None, registers=None):
+    def __init__(self, name, body, before=(), limit=2000, auxiliary=False, planted=None, ssp=None, registers=None,
+                 length=None):
         self.name, self.limit = name, limit
         self.instructions, self.text, self.end = lay_out(list(before) + list(body))
+        self.text = self.text[:length]
         self.planted = bool(planted or registers or ssp is not None)
         self.start = Machine(self.text, self.instructions)
         self.records = []
@@ -128,9 +130,11 @@ def every_memory_place():
     yield Case("setssbsy", [do("setssbsy")])
     for where, address in PLACES.items():
         for base in (RBX, RBP):
-            for what in ("mov_load", "mov_store", "push_memory", "call_memory", "call_register", "wrssq", "wrussq", "clrssbsy"):
+            for what in ("mov_load", "mov_store", "push_memory", "call_memory", "call_register", "wrssq", "wrussq",
+                         "clrssbsy"):
                 memory = None if what == "call_register" else at(base)
-                register = base if what == "call_register" else None if what.endswith("memory") or what == "clrssbsy" else RCX
+                alone = what.endswith("memory") or what == "clrssbsy"
+                register = base if what == "call_register" else None if alone else RCX
                 yield Case(f"{what} at {where}, base {base}", [load_number(base, address), do(what, register, memory), UD2],
                            flags(base))
     for bad in (0x800000000000, 0x7FFFF001, 0x500000):
@@ -253,6 +257,16 @@ def saves():
         yield Case(f"saveprevssp beside full words, {low}", [save, do("rdsspq", RCX), UD2], planted=filled, ssp=there)
 
 
+def cut_off():
+    """Instructions that begin on the last page of the text and go on where none is."""
+    last = (do("call", number=0), do("call_memory", memory=at(RSP, 8)), do("ret_number", number=8), do("incsspq", R11),
+            do("rdsspq", RCX), do("rstorssp", memory=at(RBX)), do("saveprevssp"), do("push_memory", memory=at(RBP)))
+    for item in last:
+        for length in range(1, len(encode(item))):
+            body = [do("jmp", number="last"), *[NOP] * (4096 - 5 - length), "last", item]
+            yield Case(f"{item.name} cut off after {length}", body, length=4096)
+
+
 def all_cases():
-    for make in (returns, raises, restores, saves, every_shadow_place, every_memory_place, every_stack_place):
+    for make in (cut_off, returns, raises, restores, saves, every_shadow_place, every_memory_place, every_stack_place):
         yield from make()

@@ -16,7 +16,8 @@ MODRM = {
     "mov_load": ("", 1, "8b", "r"), "mov_store": ("", 1, "89", "r"), "push_memory": ("", 0, "ff", 6),
     "call_memory": ("", 0, "ff", 2), "call_register": ("", 0, "ff", 2), "incsspq": ("f3", 1, "0fae", 5),
     "rdsspq": ("f3", 1, "0f1e", 1), "rstorssp": ("f3", 0, "0f01", 5), "wrssq": ("", 1, "0f38f6", "r"),
-    "wrussq": ("66", 1, "0f38f5", "r"), "clrssbsy": ("f3", 0, "0fae", 6), "add_number": ("", 0, "81", 0),
+    "wrussq": ("66", 1, "0f38f5", "r"), "clrssbsy": ("f3", 0, "0fae", 6),
+    "add_number": ("", 0, "81", 0),
 }
 PLAIN = {
     "ret": "c3", "nop": "90", "ud2": "0f0b", "syscall": "0f05", "stc": "f9", "clc": "f8", "saveprevssp": "f30f01ea",
@@ -24,13 +25,15 @@ PLAIN = {
 }
 # In these REX.W says nothing.
 ANY_WIDTH = ("push_register", "push_memory", "pop", "call_register", "call_memory", "rstorssp", "clrssbsy")
-WITH_REX = ANY_WIDTH + ("mov_load", "mov_store", "mov_number", "mov_number_32", "incsspq", "rdsspq", "add_number")
+WITH_REX = ANY_WIDTH + ("mov_load", "mov_store", "mov_number", "mov_number_32", "incsspq", "rdsspq",
+                        "add_number")
 TEXTS = {
     "mov_number": "mov {r}, {n}", "mov_number_32": "mov {e}, {n}", "add_number": "add {e}, {n}",
     "mov_load": "mov {r}, {m}", "mov_store": "mov {m}, {r}", "push_register": "push {r}", "push_number": "push {n}",
     "push_memory": "push {m}", "pop": "pop {r}", "call": "call rel {n}", "call_register": "call {r}",
     "call_memory": "call {m}", "jmp": "jmp rel {n}", "ret_number": "ret {n}", "incsspq": "incsspq {r}",
-    "clrssbsy": "clrssbsy {m}", "rdsspq": "rdsspq {r}", "rstorssp": "rstorssp {m}", "wrssq": "wrssq {m}, {r}", "wrussq": "wrussq {m}, {r}",
+    "clrssbsy": "clrssbsy {m}", "rdsspq": "rdsspq {r}", "rstorssp": "rstorssp {m}", "wrssq": "wrssq {m}, {r}",
+    "wrussq": "wrussq {m}, {r}",
 }
 SHADOW_STACK = ("incsspq", "rdsspq", "rstorssp", "saveprevssp")
 CET = SHADOW_STACK + ("call", "call_register", "call_memory", "ret", "ret_number")

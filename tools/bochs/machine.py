@@ -125,7 +125,7 @@ def run(work, cases):
     (work / "commands").write_text("c\n")
     command = ["bochs-bin", "-q", "-f", "configuration", "-rc", "commands"]
     with open(work / "printed", "wb") as printed, open(work / "errors", "wb") as errors:
-        subprocess.run(command, cwd=work, stdin=subprocess.DEVNULL, stdout=printed, stderr=errors, timeout=60,
+        subprocess.run(command, cwd=work, stdin=subprocess.DEVNULL, stdout=printed, stderr=errors, timeout=100,
                        env={"TERM": "xterm", "PATH": "/usr/bin:/bin"})
     return read((work / "printed").read_text(errors="replace"))
 

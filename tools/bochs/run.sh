@@ -12,7 +12,8 @@ skip() {
 for tool in bochs-bin nasm python3; do
     command -v "$tool" > /dev/null || skip "$tool isn't there"
 done
-[ -e /usr/share/bochs/BIOS-bochs-legacy ] || skip "there is no BIOS of Bochs"
+[ -e /usr/share/bochs/BIOS-bochs-legacy ] && [ -e /usr/share/bochs/VGABIOS-lgpl-latest ] || skip "a BIOS of Bochs isn't there"
+ls /usr/lib/*/bochs/plugins/libbx_term_gui.so > /dev/null 2>&1 || skip "Bochs's display term isn't there"
 bochs-bin --help cpu 2>&1 | grep -q tigerlake || skip "this Bochs has no CPU with CET"
 work=$(mktemp -d) || exit 1
 trap 'rm -rf "$work"' EXIT

@@ -13,9 +13,9 @@ def programs():
     """Name, program, the records that are compared, as name, code, a and b, and lines of the report on stacks."""
     before, (there,) = regions(4096)
     back = 0x200008FF8
-    yield (Case("there_and_back", [*restore(there), do("mov_load", RAX, at(RBX)), SAVE, load_number(RCX, back),
-                                   do("mov_load", RAX, at(RCX)), do("rstorssp", memory=at(RCX)), SAVE, do("rdsspq", RDX), UD2],
-                before),
+    yield (Case("there_and_back",
+                [*restore(there), do("mov_load", RAX, at(RBX)), SAVE, load_number(RCX, back), do("mov_load", RAX, at(RCX)),
+                 do("rstorssp", memory=at(RCX)), SAVE, do("rdsspq", RDX), UD2], before),
            ["take 0 20000aff8 200009000", "step 0 200009003 2", "save 0 200008ff8 20000b000", "step 0 200009001 2",
             "take 0 200008ff8 20000b000", "save 0 20000aff8 200009000", "step 0 200009000 2"],
            [f"{FIRST} current 0\n{SECOND} parked\nprocess"])
@@ -28,9 +28,11 @@ def programs():
                 before),
            ["take 0 20000aff8 200009000", "ret 0 200009003 20000b000", "#PF 20 200009003 0", "kill 0 b 0"],
            [f"{FIRST} lost\n{SECOND} current 0\nprocess killed 11"])
-    yield (Case("left", [*calls(1), *restore(there), UD2], before), ["take 0 20000aff8 200008ff8", "#UD 0 0 0", "kill 0 4 0"],
+    yield (Case("left", [*calls(1), *restore(there), UD2], before),
+           ["take 0 20000aff8 200008ff8", "#UD 0 0 0", "kill 0 4 0"],
            [f"{FIRST} left\n  ret 000000000040101b\n{SECOND} current 0\n  prev 0000000200008ff8\nprocess killed 4"])
-    yield Case("save_without_token", [do("stc"), SAVE]), ["#PF 68 200009000 0", "kill 0 b 0"], [f"{FIRST} current 0\nprocess"]
+    yield (Case("save_without_token", [do("stc"), SAVE]), ["#PF 68 200009000 0", "kill 0 b 0"],
+           [f"{FIRST} current 0\nprocess"])
     for carry, fault in (((), "#PF 70 400ff8 0"), ((do("stc"),), "#GP 0 0 0")):
         yield Case("save_without_token, called", [NOP, do("call", number="f"), UD2, "f", *carry, SAVE]), [fault], []
     for depth, value, record in ((1, 0, "raise 0 200008ff8 0"), (255, 255, "raise 0 200009000 ff"),
