@@ -10,9 +10,9 @@ use Rattle.cet_isa.proofs.Apart.{run}
 use Rattle.cet_decode.specs.declared.forms.TheConstants.{FORMS}
 use Rattle.cet_decode.specs.declared.maps.TheConstants.{ONE_BYTE, TWO_BYTE, PICKS, PREFIXED, PREFIXED_PICKS}
 use Rattle.cet_decode.specs.Index.{picks_at, some_at}
-use Rattle.cet_decode.specs.Lead.{LeadData, lead, is_prefix, behind_escape, behind_rex, lead_at, long_key, key_at, chosen_at, mapped_by}
+use Rattle.cet_decode.specs.Lead.{LeadData, lead, is_prefix, behind_escape, behind_rex, lead_at, long_key, key_at, mapped_by}
 use Rattle.cet_decode.proofs.Narrowing.{names_all, by_numbers}
-use Rattle.cet_decode.proofs.LeadLaws.{clear_rex, set_rex, escaped_by, fits_all, led_is, led_at, all_apart, chosen_is}
+use Rattle.cet_decode.proofs.LeadLaws.{chosen_at, clear_rex, set_rex, escaped_by, fits_all, led_is, led_at, all_apart, chosen_is}
 
 -- ---- what is tested of the tables, by computation
 

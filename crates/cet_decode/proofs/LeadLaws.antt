@@ -14,7 +14,7 @@ use Rattle.cet_isa.proofs.Apart.{run, clash, clash_apart, or_else-assoc}
 use Rattle.cet_decode.specs.declared.forms.Form.{Form}
 use Rattle.cet_decode.specs.Views.{form_view}
 use Rattle.cet_decode.specs.Index.{maybe_row_at, some_at}
-use Rattle.cet_decode.specs.Lead.{rex_at, operand_behind, fields_of, row_behind, takes_modrm, takes, form_if, taker, or_later, chosen, read_chosen, chosen_at}
+use Rattle.cet_decode.specs.Lead.{rex_at, operand_behind, fields_of, row_behind, takes_modrm, takes, form_if, taker, or_later, chosen}
 use Rattle.cet_decode.proofs.Narrowing.{blocked_by, form_blocked, or_differs}
 
 -- ---- what the laws speak of
@@ -31,6 +31,14 @@ maybe_led (Some f) rex opcode bytes = row_led (form_view f) rex opcode bytes
 unfoldable pub led_at : List Form → List ℕ → (rex opcode : ℕ) → List ℕ → Result (Instr × List ℕ) Miss
 led_at rows [] rex opcode bytes = Err Differs
 led_at rows (k ∷ ks) rex opcode bytes = or_else (maybe_led (slice_get rows k) rex opcode bytes) (led_at rows ks rex opcode bytes)
+
+-- an instruction by the row that was chosen
+abbrev pub read_chosen : Option Form → (rex opcode : ℕ) → List ℕ → Result (Instr × List ℕ) Miss
+read_chosen None rex opcode bytes = Err Differs
+read_chosen (Some f) rex opcode bytes = row_behind (form_view f) rex opcode bytes
+
+abbrev pub chosen_at : List Form → List ℕ → (rex opcode : ℕ) → List ℕ → Result (Instr × List ℕ) Miss
+chosen_at rows numbers rex opcode bytes = read_chosen (chosen rows numbers rex bytes) rex opcode bytes
 
 no_bytes : (bytes : List ℕ) → bytes_at 0 bytes ≡ pair [] bytes
 unfolding bytes_at

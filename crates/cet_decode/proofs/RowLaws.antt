@@ -6,8 +6,9 @@ use Rattle.cet_isa.specs.Reading.{any_at}
 use Rattle.cet_decode.specs.declared.forms.Form.{Form}
 use Rattle.cet_decode.specs.declared.forms.TheConstants.{FORMS}
 use Rattle.cet_decode.specs.declared.maps.TheConstants.{ONE_BYTE, TWO_BYTE, PICKS}
-use Rattle.cet_decode.specs.Lead.{LeadData, lead_at, chosen, read_chosen, mapped_by}
+use Rattle.cet_decode.specs.Lead.{LeadData, lead_at, chosen, mapped_by}
 use Rattle.cet_decode.proofs.IndexLaws.{lead_is}
+use Rattle.cet_decode.proofs.LeadLaws.{read_chosen}
 
 pub row_reads : (bytes : List ℕ) (x : LeadData) (row : Option Form) → IsBytes bytes → Some x ≡ lead_at bytes
     → row ≡ chosen FORMS (mapped_by x.escaped ONE_BYTE TWO_BYTE PICKS x.opcode) x.rex x.rest

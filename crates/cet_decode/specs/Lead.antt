@@ -1,12 +1,12 @@
 -- How an encoding begins, and what a row reads behind its opcode. Source: Intel SDM volume 2, chapter 2, instruction format.
-use Rattle.std.specs.Prelude.{ℕ, ◌/◌, ◌%◌, Bool, true, false, ◌==◌, ◌&&◌, ◌||◌, if◌then◌else◌, List, [], ◌∷◌, Option, Some, None, Result, Ok, Err, slice_get, slice_index}
+use Rattle.std.specs.Prelude.{ℕ, ◌/◌, ◌%◌, Bool, true, false, ◌==◌, ◌&&◌, ◌||◌, if◌then◌else◌, List, [], ◌∷◌, Option, Some, None, Result, Ok, slice_get, slice_index}
 use Rattle.cet_isa.specs.declared.instructions.Instr.{Instr}
 use Rattle.cet_isa.specs.declared.instructions.Operand.{Operand}
 use Rattle.cet_isa.specs.Form.{Pattern, Rex, NoRex, ClearRex, SetRex}
 use Rattle.cet_isa.specs.Form as table
 use Rattle.cet_isa.specs.Meaning.{sib_len, disp_len, operand_of, signed_of, Fields, instr_of}
 use Rattle.cet_isa.specs.Spells.{has, allows, imm_len}
-use Rattle.cet_isa.specs.Reader.{Miss, Differs, ◌>>=◌}
+use Rattle.cet_isa.specs.Reader.{Miss, ◌>>=◌}
 use Rattle.cet_isa.specs.Reading.{byte_at, bytes_at}
 use Rattle.cet_decode.specs.declared.forms.Form.{Form}
 use Rattle.cet_decode.specs.Views.{form_view}
@@ -102,14 +102,6 @@ or_later (Some f) later = Some f
 unfoldable pub chosen : List Form → List ℕ → (rex : ℕ) → List ℕ → Option Form
 chosen rows [] rex bytes = None
 chosen rows (k ∷ ks) rex bytes = or_later (taker (slice_get rows k) rex bytes) (chosen rows ks rex bytes)
-
-abbrev pub read_chosen : Option Form → (rex opcode : ℕ) → List ℕ → Result (Instr × List ℕ) Miss
-read_chosen None rex opcode bytes = Err Differs
-read_chosen (Some f) rex opcode bytes = row_behind (form_view f) rex opcode bytes
-
--- an instruction by that row
-abbrev pub chosen_at : List Form → List ℕ → (rex opcode : ℕ) → List ℕ → Result (Instr × List ℕ) Miss
-chosen_at rows numbers rex opcode bytes = read_chosen (chosen rows numbers rex bytes) rex opcode bytes
 
 -- the numbers that a map has for an opcode
 abbrev pub mapped : List ℕ → List (List ℕ) → (opcode : ℕ) → List ℕ
