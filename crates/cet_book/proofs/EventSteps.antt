@@ -277,17 +277,3 @@ pub applied_kept : (result : Result (Unit {0}) BookFault) (old new : Book) (e : 
 applied_kept (Ok u) old new e h a = step_kept old new e h a
 applied_kept (Err NotLegal) old new e h a = subst IsBook (sym a.1) h
 applied_kept (Err NoMemory) old new e h a = subst IsBook (sym a.1) h
-
--- of regions that were lent as a slice
-pub kept_back : (result : Result (Unit {0}) BookFault) (n : ℕ) (new lent old : List Region) (g : List (Option ℕ)) (e : Event) → IsBook (book_of old g) → lent ≡ old → length new ≡ length lent → n ≡ length old → Applied result (book_of lent g) (book_of new g) (book_step (book_of lent g) e) → IsBook (book_of (take n (new ++ drop (length new) old)) g)
-kept_back result n new lent old g e h s l m a =
-    let long : length new ≡ length old = l ∙ ap (λ (x : List Region). length x) s in
-    subst (λ x. IsBook (book_of x g)) (sym (back n new old long m)) (applied_kept result (book_of lent g) (book_of new g) e (subst (λ x. IsBook (book_of x g)) (sym s) h) a)
-
--- of supervisor stacks
-pub kept_gates : (result : Result (Unit {0}) BookFault) (old new : List (Option ℕ)) (R : List Region) (e : Event) → IsBook (book_of R old) → Applied result (book_of R old) (book_of R new) (book_step (book_of R old) e) → IsBook (book_of R new)
-kept_gates result old new R e h a = applied_kept result (book_of R old) (book_of R new) e h a
-
--- of regions that were lent as a list
-pub kept_list : (result : Result (Unit {0}) BookFault) (old new : List Region) (g : List (Option ℕ)) (e : Event) → IsBook (book_of old g) → Applied result (book_of old g) (book_of new g) (book_step (book_of old g) e) → IsBook (book_of new g)
-kept_list result old new g e h a = applied_kept result (book_of old g) (book_of new g) e h a

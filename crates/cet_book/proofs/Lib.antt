@@ -24,7 +24,7 @@ pub mod Lists
 pub mod Setting
 pub mod InView
 pub mod Rights
-pub mod Rounds
+pub mod Turns
 pub mod Seeds
 pub mod Shows
 pub mod EventSteps
@@ -32,3 +32,4 @@ pub mod Blanks
 pub mod PageTable
 pub mod Lookups
 pub mod Readable
+pub mod Latest

@@ -1,5 +1,5 @@
 -- Numbers of elements, and lists of words. Source: own.
-use Rattle.std.proofs.Common.{◌≡◌, ℕ, zero, suc, ◌+◌, ◌-◌, ◌*◌, ◌<◌, ◌≤◌, Bool, true, false, List, [], ◌∷◌, length, get_or, set, drop, refl, ◌∙◌, ap, eqb, arith, inl, inr}
+use Rattle.std.proofs.Common.{◌≡◌, ℕ, zero, suc, ◌+◌, ◌-◌, ◌*◌, ◌<◌, ◌≤◌, Bool, true, false, List, [], ◌∷◌, length, get_or, set, drop, replicate, refl, ◌∙◌, ap, eqb, arith, inl, inr}
 use Rattle.std.specs.List.{AllByRecursion, list_any}
 use Rattle.std.proofs.lemmas.Bool.Decides.{eqb_tells}
 use Rattle.std.proofs.lemmas.Grind.{get_or_default_zero}
@@ -30,15 +30,10 @@ unfolding counted
 counted_le p [] = omega arith
 counted_le p (x ∷ xs) = let r = counted_le p xs in let s = one_le (p x) in omega arith
 
-one_all : (c : Bool) → 1 ≤ one c → c ≡ true
-one_all true l = refl
-one_all false l = absurd (omega arith)
-
-pub counted_all : {X : Type 0} (p : X → Bool) (xs : List X) (i : ℕ) (d : X) → length xs ≤ counted p xs → i < length xs → p (get_or xs i d) ≡ true
+pub counted_none : {X : Type 0} (p : X → Bool) (x : X) (n : ℕ) → p x ≡ false → counted p (replicate n x) ≡ 0
 unfolding counted
-counted_all p [] i d all l = absurd (omega arith)
-counted_all p (x ∷ xs) zero d all l = let r = counted_le p xs in one_all (p x) (omega arith)
-counted_all p (x ∷ xs) (suc i) d all l = let s = one_le (p x) in counted_all p xs i d (omega arith) (omega arith)
+counted_none p x zero e = refl
+counted_none p x (suc n) e = let z : one (p x) ≡ 0 = ap one e in let r = counted_none p x n e in omega arith
 
 pub all_at : {X : Type 0} (P : X → Type 0) (xs : List X) (i : ℕ) (d : X) → AllByRecursion P xs → i < length xs → P (get_or xs i d)
 all_at P [] i d h l = absurd (omega arith)

@@ -1,7 +1,7 @@
 -- The first marks: pointers tell the current stacks, and restore tokens the parked ones. Source: own.
 use Rattle.std.proofs.Common.{◌≡◌, ◌≢◌, ℕ, zero, suc, ◌+◌, ◌-◌, ◌*◌, ◌/◌, ◌<◌, ◌≤◌, inl, inr, Bool, true, false, List, [], ◌∷◌, length, get_or, map, replicate, refl, sym, ◌∙◌, ap, subst, cond, arith}
 use Rattle.std.specs.Prelude.{◌==◌}
-use Rattle.std.proofs.lemmas.Bool.{cases_lt}
+use Rattle.std.proofs.lemmas.Bool.{false≢true, cases_lt}
 use Rattle.std.proofs.lemmas.Bool.Decides.{eqb_tells, nat_tests}
 use Rattle.std.proofs.lemmas.List.{length-replicate}
 use Rattle.cet_words.specs.Job.{ImageData}
@@ -10,37 +10,32 @@ use Rattle.cet_book.specs.Book.{Book, region, top}
 use Rattle.cet_book.specs.Stack.{slot_word}
 use Rattle.cet_book.specs.View.{Span, span_of, Has, IsKept, shown_of, in_view, region_words}
 use Rattle.cet_book.specs.Facts.{IsParkedAt}
-use Rattle.cet_book.specs.Marks.{from_of, marked, currents, token_from, park_if, park, parks}
+use Rattle.cet_book.specs.Marks.{from_of, Found, marked, currents, token_from, park_if, park, parks}
 use Rattle.cet_book.specs.declared.regions.Shown.TheVariants as shown
-use Rattle.cet_book.specs.declared.marks.Mark.{Mark}
 use Rattle.cet_book.specs.declared.marks.Mark.TheVariants.{Unseen}
 use Rattle.cet_book.proofs.MarkSteps.{park_some, park_none}
-use Rattle.cet_book.proofs.Lists.{counted, words_length, words_at}
+use Rattle.cet_book.proofs.Lists.{counted, counted_none, words_length, words_at}
 use Rattle.cet_book.proofs.Setting.{Setting, reg, at, is_place, one_of, found, top_in, top_even}
-use Rattle.cet_book.proofs.InView.{is_seen, is_done, mark_at, Seen, Follows, follows_same, top_follows, marked_follows, marked_here}
+use Rattle.cet_book.proofs.InView.{is_seen, Seen, top_follows, park_follows, marked_here}
 use Rattle.cet_book.proofs.Rights.{MarkRight, Right, marked_right, top_right, top_seen}
-use Rattle.cet_book.proofs.Rounds.{State, copy_at}
+use Rattle.cet_book.proofs.Turns.{copy_at}
 
--- marks that agree, before any words were followed
-pub record Seeded (b : Book) (numbers : List ℕ) (rs : List Span) (ms : List Mark) : Type 0 where
-  pub right : Right b numbers rs ms
-  pub none : (k : ℕ) → is_done (mark_at ms k) ≡ false
-
-pub seeded_state : {b : Book} {numbers : List ℕ} {rs : List Span} {ms : List Mark} → Seeded b numbers rs ms → State b numbers rs ms
-seeded_state s = record { right = s.right; closed = λ k j lk lj d. (let n = s.none k in absurd (cc)) }
-
-no_mark : (n k : ℕ) → mark_at (replicate n Unseen) k ≡ Unseen
+no_mark : (n k : ℕ) → get_or (replicate n Unseen) k Unseen ≡ Unseen
 no_mark zero k = refl
 no_mark (suc n) zero = refl
 no_mark (suc n) (suc k) = no_mark n k
 
-pub start_seeded : (b : Book) (numbers : List ℕ) (rs : List Span) → Seeded b numbers rs (replicate (length rs) Unseen)
-start_seeded b numbers rs = record {
-  right = record {
-    size = length-replicate (length rs) Unseen;
-    each = λ k l. subst (MarkRight b numbers k (counted is_seen (replicate (length rs) Unseen))) (sym (no_mark (length rs) k)) tt;
-  };
-  none = λ k. ap is_done (no_mark (length rs) k);
+-- at the start nothing was found
+abbrev pub nothing : List Span → Found
+nothing rs = record { marks = replicate (length rs) Unseen; order = [] }
+
+pub start_right : (b : Book) (numbers : List ℕ) (rs : List Span) → Right b numbers rs (nothing rs)
+start_right b numbers rs = record {
+  size = length-replicate (length rs) Unseen;
+  each = λ k l. subst (MarkRight b numbers k (counted is_seen (replicate (length rs) Unseen))) (sym (no_mark (length rs) k)) tt;
+  few = sym (counted_none is_seen Unseen (length rs) refl);
+  inside = λ j l. absurd (omega arith);
+  listed = λ k s. absurd (false≢true (sym (ap is_seen (no_mark (length rs) k)) ∙ s));
 }
 
 -- ---- the first token among words
@@ -100,30 +95,27 @@ module _ {image : ImageData} {W : List ℕ} {b : Book} {numbers : List ℕ} {rs 
 
   -- ---- current stacks
 
-  pub currents_seeded : (c : ℕ) (ms : List Mark) → c ≤ length ssps → Seeded b numbers rs ms → Seeded b numbers rs (currents rs ssps c ms)
+  pub currents_right : (c : ℕ) (ms : Found) → c ≤ length ssps → Right b numbers rs ms → Right b numbers rs (currents rs ssps c ms)
   unfolding currents
-  currents_seeded zero ms l s = s
-  currents_seeded (suc c) ms l s =
-      let before = currents_seeded c ms (omega arith) s in
-      let prev : List Mark = currents rs ssps c ms in
+  currents_right zero ms l s = s
+  currents_right (suc c) ms l s =
+      let before = currents_right c ms (omega arith) s in
+      let prev : Found = currents rs ssps c ms in
       let t = g.covers.tops c (omega arith) in
       let p = t.1 in
       let f = found g t.0 (subst IsKept (sym p.current) tt) in
       let was : (reg b numbers f.0).holder ≡ Current (get_or ssps c (0, 0)).0 = ap (λ i. (region b i).holder) f.2 ∙ p.current in
       let top_is : (get_or ssps c (0, 0)).1 ≡ top (reg b numbers f.0) = p.at ∙ ap (λ i. top (region b i)) (sym f.2) in
-      record {
-        right = top_right g before.right f.0 (get_or ssps c (0, 0)).1 (shown.Current (get_or ssps c (0, 0)).0) f.1 top_is (ap shown_of (sym was))
-            (ap (in_view b (suc (counted is_seen prev))) was);
-        none = λ k. (top_follows rs (get_or ssps c (0, 0)).1 (shown.Current (get_or ssps c (0, 0)).0) prev).done k ∙ before.none k;
-      }
+      top_right g before f.0 (get_or ssps c (0, 0)).1 (shown.Current (get_or ssps c (0, 0)).0) f.1 top_is (ap shown_of (sym was))
+      (ap (in_view b (suc (counted is_seen prev.marks))) was)
 
-  pub currents_hit : (c at_ k : ℕ) (ms : List Mark) → at_ < c → c ≤ length ssps → k < length rs → (get_or ssps at_ (0, 0)).1 ≡ top (reg b numbers k) → Seeded b numbers rs ms → Seen (currents rs ssps c ms) k
+  pub currents_hit : (c at_ k : ℕ) (ms : Found) → at_ < c → c ≤ length ssps → k < length rs → (get_or ssps at_ (0, 0)).1 ≡ top (reg b numbers k) → Right b numbers rs ms → Seen (currents rs ssps c ms) k
   unfolding currents
   currents_hit zero at_ k ms m l lk e s = absurd (omega arith)
   currents_hit (suc c) at_ k ms m l lk e s =
-      let prev : List Mark = currents rs ssps c ms in
+      let prev : Found = currents rs ssps c ms in
       elim (eqb_tells at_ c) [
-        | inl u ↦ top_seen g prev k (get_or ssps c (0, 0)).1 (shown.Current (get_or ssps c (0, 0)).0) (currents_seeded c ms (omega arith) s).right.size lk
+        | inl u ↦ top_seen g prev k (get_or ssps c (0, 0)).1 (shown.Current (get_or ssps c (0, 0)).0) (currents_right c ms (omega arith) s).size lk
             (subst (λ i. (get_or ssps i (0, 0)).1 ≡ top (reg b numbers k)) u.1 e)
         | inr u ↦ (top_follows rs (get_or ssps c (0, 0)).1 (shown.Current (get_or ssps c (0, 0)).0) prev).seen k
             (currents_hit c at_ k ms (let v = u.1 in omega arith) (omega arith) lk e s)
@@ -131,11 +123,11 @@ module _ {image : ImageData} {W : List ℕ} {b : Book} {numbers : List ℕ} {rs 
 
   -- ---- parked stacks
 
-  park_is : (k : ℕ) (ms : List Mark) → k < length rs → park rs (map (region_words W) rs) k ms ≡ park_if (token_from (reg b numbers k).start (region_words W (span_of (reg b numbers k)))) (region_words W (span_of (reg b numbers k))) k ms
+  park_is : (k : ℕ) (ms : Found) → k < length rs → park rs (map (region_words W) rs) k ms ≡ park_if (token_from (reg b numbers k).start (region_words W (span_of (reg b numbers k)))) (region_words W (span_of (reg b numbers k))) k ms
   unfolding park
   park_is k ms l = rw (at g k l, copy_at g k l) refl
 
-  park_by : (P : List Mark → Type 0) (k : ℕ) (ms : List Mark) → k < length rs → ((t : ℕ) → (reg b numbers k).holder ≡ Parked → t + 1 ≡ from_of (span_of (reg b numbers k)) (top (reg b numbers k)) → P (marked k shown.Parked (t + 1) ms)) → ((reg b numbers k).holder ≢ Parked → P ms) → P (park rs (map (region_words W) rs) k ms)
+  park_by : (P : Found → Type 0) (k : ℕ) (ms : Found) → k < length rs → ((t : ℕ) → (reg b numbers k).holder ≡ Parked → t + 1 ≡ from_of (span_of (reg b numbers k)) (top (reg b numbers k)) → P (marked k shown.Parked (t + 1) ms)) → ((reg b numbers k).holder ≢ Parked → P ms) → P (park rs (map (region_words W) rs) k ms)
   park_by P k ms l new old =
       let words : List ℕ = region_words W (span_of (reg b numbers k)) in
       let t : ℕ = token_from (reg b numbers k).start (region_words W (span_of (reg b numbers k))) in
@@ -147,37 +139,25 @@ module _ {image : ImageData} {W : List ℕ} {b : Book} {numbers : List ℕ} {rs 
         | inr m ↦ subst P (sym (park_none t words k ms m)) (old (λ e. let n = parked_token k l e in absurd (omega arith)))
       ])
 
-  pub park_follows : (k : ℕ) (ms : List Mark) → k < length rs → length ms ≡ length rs → Follows ms (park rs (map (region_words W) rs) k ms)
-  park_follows k ms l size = park_by (λ next. Follows ms next) k ms l (λ t e f. marked_follows ms k shown.Parked (t + 1) (omega arith)) (λ _. follows_same ms)
-
-  pub parks_seeded : (c : ℕ) (ms : List Mark) → c ≤ length rs → Seeded b numbers rs ms → Seeded b numbers rs (parks rs (map (region_words W) rs) c ms)
+  pub parks_right : (c : ℕ) (ms : Found) → c ≤ length rs → Right b numbers rs ms → Right b numbers rs (parks rs (map (region_words W) rs) c ms)
   unfolding parks
-  parks_seeded zero ms l s = s
-  parks_seeded (suc c) ms l s =
-      let before = parks_seeded c ms (omega arith) s in
-      let prev : List Mark = parks rs (map (region_words W) rs) c ms in
-      let fo = park_follows c prev (omega arith) before.right.size in
-      record {
-        right = park_by (λ next. Right b numbers rs next) c prev (omega arith)
-            (λ t e f. marked_right before.right c shown.Parked (t + 1) (omega arith)
-            (record { shows = ap shown_of (sym e); view = ap (in_view b (suc (counted is_seen prev))) e; at = f })) (λ _. before.right);
-        none = λ k. fo.done k ∙ before.none k;
-      }
+  parks_right zero ms l s = s
+  parks_right (suc c) ms l s =
+      let before = parks_right c ms (omega arith) s in
+      let prev : Found = parks rs (map (region_words W) rs) c ms in
+      park_by (λ next. Right b numbers rs next) c prev (omega arith)
+      (λ t e f. marked_right before c shown.Parked (t + 1) (omega arith)
+      (record { shows = ap shown_of (sym e); view = ap (in_view b (suc (counted is_seen prev.marks))) e; at = f })) (λ _. before)
 
-  pub parks_keep : (c k : ℕ) (ms : List Mark) → c ≤ length rs → Seeded b numbers rs ms → Seen ms k → Seen (parks rs (map (region_words W) rs) c ms) k
-  unfolding parks
-  parks_keep zero k ms l s x = x
-  parks_keep (suc c) k ms l s x = (park_follows c (parks rs (map (region_words W) rs) c ms) (omega arith) (parks_seeded c ms (omega arith) s).right.size).seen k (parks_keep c k ms (omega arith) s x)
-
-  pub parks_hit : (c k : ℕ) (ms : List Mark) → k < c → c ≤ length rs → (reg b numbers k).holder ≡ Parked → Seeded b numbers rs ms → Seen (parks rs (map (region_words W) rs) c ms) k
+  pub parks_hit : (c k : ℕ) (ms : Found) → k < c → c ≤ length rs → (reg b numbers k).holder ≡ Parked → Right b numbers rs ms → Seen (parks rs (map (region_words W) rs) c ms) k
   unfolding parks
   parks_hit zero k ms m l e s = absurd (omega arith)
   parks_hit (suc c) k ms m l e s =
-      let prev : List Mark = parks rs (map (region_words W) rs) c ms in
-      let size = (parks_seeded c ms (omega arith) s).right.size in
+      let prev : Found = parks rs (map (region_words W) rs) c ms in
+      let size = (parks_right c ms (omega arith) s).size in
       elim (eqb_tells k c) [
         | inl u ↦ subst (λ i. Seen (park rs (map (region_words W) rs) c prev) i) (sym u.1)
             (park_by (λ next. Seen next c) c prev (omega arith) (λ t p f. marked_here prev c shown.Parked (t + 1) (omega arith))
             (λ n. absurd (n (subst (λ i. (reg b numbers i).holder ≡ Parked) u.1 e))))
-        | inr u ↦ (park_follows c prev (omega arith) size).seen k (parks_hit c k ms (let v = u.1 in omega arith) (omega arith) e s)
+        | inr u ↦ (park_follows rs (map (region_words W) rs) c prev).seen k (parks_hit c k ms (let v = u.1 in omega arith) (omega arith) e s)
       ]

@@ -35,7 +35,7 @@ gone_current : (h : Holder) (q : ℕ) → Gone h → is_current q h ≡ false
 gone_current h q (lost e) = ap (is_current q) e
 gone_current h q (parked e) = ap (is_current q) e
 
-gone_not : (h : Holder) (y : ℕ) → Gone h → h ≡ Current y → ⊥
+pub gone_not : (h : Holder) (y : ℕ) → Gone h → h ≡ Current y → ⊥
 gone_not h y (lost e) z = cc
 gone_not h y (parked e) z = cc
 

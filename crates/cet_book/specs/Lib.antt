@@ -7,3 +7,4 @@ pub mod Newest
 pub mod View
 pub mod Marks
 pub mod Pages
+pub mod Latest

@@ -1,5 +1,5 @@
 -- The report of shadow stacks from words alone, whatever the words are: the stacks that pointers and restore tokens tell of are
--- marked, then those that a previous-SSP token on a marked stack leads to. Source: own.
+-- found, then those that a previous-SSP token on a stack that was found leads to. Source: own.
 use Rattle.std.proofs.Common.{zero, suc}
 use Rattle.std.specs.Prelude.{ℕ, ◌+◌, ◌-◌, ◌/◌, Bool, true, false, ◌&&◌, ◌==◌, nat_lt, nat_le, if◌then◌else◌, List, [], ◌∷◌, ◌++◌, length, drop, map, replicate, slice_index_or, slice_set}
 use Rattle.std.specs.List.{position_or_len}
@@ -8,7 +8,7 @@ use Rattle.cet_book.specs.declared.regions.Shown.{Shown}
 use Rattle.cet_book.specs.declared.regions.Shown.TheVariants as shown
 use Rattle.cet_book.specs.declared.regions.StackReport.{StackReport}
 use Rattle.cet_book.specs.declared.marks.Mark.{Mark}
-use Rattle.cet_book.specs.declared.marks.Mark.TheVariants.{Unseen, Fresh, Done}
+use Rattle.cet_book.specs.declared.marks.Mark.TheVariants.{Unseen, InView}
 
 -- ---- where an address leads
 
@@ -27,24 +27,30 @@ from_of r addr = (addr - r.start) / 8 + 1
 
 abbrev pub is_unseen : Mark → Bool
 is_unseen Unseen = true
-is_unseen (Fresh s f) = false
-is_unseen (Done s f) = false
+is_unseen (InView s from) = false
 
--- the first mark of a region stays
-unfoldable pub marked : ℕ → Shown → ℕ → List Mark → List Mark
-marked at s from ms = if nat_lt at (length ms) && is_unseen (slice_index_or ms at Unseen) then slice_set ms at (Fresh s from) else ms
+-- a mark for each region, and the numbers of the regions that were found, in that order
+pub record Found : Type 0 where
+  pub marks : List Mark
+  pub order : List ℕ
+
+-- a region that has no mark gets one, and is the last that was found
+unfoldable pub marked : ℕ → Shown → ℕ → Found → Found
+marked at s from f =
+    if nat_lt at (length f.marks) && is_unseen (slice_index_or f.marks at Unseen)
+    then record { marks = slice_set f.marks at (InView s from); order = f.order ++ at ∷ [] } else f
 
 -- the region that has the address is marked, with its newest entry there
-unfoldable pub top_marked : List Span → (addr : ℕ) → Shown → List Mark → List Mark
-top_marked regions addr s ms = marked (place addr regions) s (from_of (slice_index_or regions (place addr regions) no_span) addr) ms
+unfoldable pub top_marked : List Span → (addr : ℕ) → Shown → Found → Found
+top_marked regions addr s f = marked (place addr regions) s (from_of (slice_index_or regions (place addr regions) no_span) addr) f
 
 -- ---- marks that come first
 
 -- each pointer marks the region of its thread
-unfoldable pub currents : List Span → List (ℕ × ℕ) → (count : ℕ) → List Mark → List Mark
-currents regions ssps zero ms = ms
-currents regions ssps (suc k) ms =
-    top_marked regions (slice_index_or ssps k (0, 0)).1 (shown.Current (slice_index_or ssps k (0, 0)).0) (currents regions ssps k ms)
+unfoldable pub currents : List Span → List (ℕ × ℕ) → (count : ℕ) → Found → Found
+currents regions ssps zero f = f
+currents regions ssps (suc k) f =
+    top_marked regions (slice_index_or ssps k (0, 0)).1 (shown.Current (slice_index_or ssps k (0, 0)).0) (currents regions ssps k f)
 
 -- The place of the first restore token among words of which the first lies at start - 8, or their number. The token at p is
 -- p + 9.
@@ -52,56 +58,54 @@ unfoldable pub token_from : (start : ℕ) → List ℕ → ℕ
 token_from start [] = 0
 token_from start (w ∷ ws) = if w == start + 1 then 0 else suc (token_from (start + 8) ws)
 
-abbrev pub park_if : ℕ → List ℕ → ℕ → List Mark → List Mark
-park_if found words k ms = if nat_lt found (length words) then marked k shown.Parked (found + 1) ms else ms
+abbrev pub park_if : ℕ → List ℕ → ℕ → Found → Found
+park_if found words k f = if nat_lt found (length words) then marked k shown.Parked (found + 1) f else f
 
 -- a restore token marks its region
-unfoldable pub park : List Span → List (List ℕ) → (at : ℕ) → List Mark → List Mark
-park regions copies k ms = park_if (token_from (slice_index_or regions k no_span).start (slice_index_or copies k [])) (slice_index_or copies k []) k ms
+unfoldable pub park : List Span → List (List ℕ) → (at : ℕ) → Found → Found
+park regions copies k f = park_if (token_from (slice_index_or regions k no_span).start (slice_index_or copies k [])) (slice_index_or copies k []) k f
 
-unfoldable pub parks : List Span → List (List ℕ) → (count : ℕ) → List Mark → List Mark
-parks regions copies zero ms = ms
-parks regions copies (suc k) ms = park regions copies k (parks regions copies k ms)
+unfoldable pub parks : List Span → List (List ℕ) → (count : ℕ) → Found → Found
+parks regions copies zero f = f
+parks regions copies (suc k) f = park regions copies k (parks regions copies k f)
 
 -- ---- marks that words lead to
 
 -- a previous-SSP token is the top of the region that was left, and 3
-unfoldable pub followed : List Span → List ℕ → List Mark → List Mark
-followed regions [] ms = ms
-followed regions (w ∷ ws) ms = followed regions ws (top_marked regions (w - 3) shown.Left ms)
+unfoldable pub followed : List Span → List ℕ → Found → Found
+followed regions [] f = f
+followed regions (w ∷ ws) f = followed regions ws (top_marked regions (w - 3) shown.Left f)
 
--- the words of a region whose mark is fresh are followed, once
-abbrev pub visit_if : List Span → List ℕ → ℕ → Mark → List Mark → List Mark
-visit_if regions words k Unseen ms = ms
-visit_if regions words k (Fresh s from) ms = followed regions (drop from words) (slice_set ms k (Done s from))
-visit_if regions words k (Done s from) ms = ms
+-- the words of a region's entries, the newest first; a region without a mark has none
+abbrev pub words_by : Mark → List ℕ → List ℕ
+words_by Unseen words = []
+words_by (InView s from) words = drop from words
 
-unfoldable pub visit : List Span → List (List ℕ) → (at : ℕ) → List Mark → List Mark
-visit regions copies k ms = visit_if regions (slice_index_or copies k []) k (slice_index_or ms k Unseen) ms
+abbrev pub follow_region : List Span → List (List ℕ) → (at : ℕ) → Found → Found
+follow_region regions copies at f = followed regions (words_by (slice_index_or f.marks at Unseen) (slice_index_or copies at [])) f
 
-unfoldable pub sweep : List Span → List (List ℕ) → (count : ℕ) → List Mark → List Mark
-sweep regions copies zero ms = ms
-sweep regions copies (suc k) ms = visit regions copies k (sweep regions copies k ms)
+-- the words of the region that was found as number k, if there are so many, are followed
+unfoldable pub follow : List Span → List (List ℕ) → (k : ℕ) → Found → Found
+follow regions copies k f = if nat_lt k (length f.order) then follow_region regions copies (slice_index_or f.order k 0) f else f
 
-unfoldable pub rounds : List Span → List (List ℕ) → (count : ℕ) → List Mark → List Mark
-rounds regions copies zero ms = ms
-rounds regions copies (suc r) ms = sweep regions copies (length regions) (rounds regions copies r ms)
+unfoldable pub follow_all : List Span → List (List ℕ) → (count : ℕ) → Found → Found
+follow_all regions copies zero f = f
+follow_all regions copies (suc k) f = follow regions copies k (follow_all regions copies k f)
 
 -- ---- the report
 
--- as many rounds as there are regions leave no mark to follow, since each but the last follows one
-unfoldable pub marked_all : List Span → List (List ℕ) → List (ℕ × ℕ) → List Mark → List Mark
-marked_all regions copies ssps ms =
-    rounds regions copies (length regions) (parks regions copies (length regions) (currents regions ssps (length ssps) ms))
+-- a region is found once at most, so after as many turns as there are regions each one that was found has been followed
+unfoldable pub found_all : List Span → List (List ℕ) → List (ℕ × ℕ) → Found → Found
+found_all regions copies ssps f =
+    follow_all regions copies (length regions) (parks regions copies (length regions) (currents regions ssps (length ssps) f))
 
-abbrev pub marks_of : List Span → List (List ℕ) → List (ℕ × ℕ) → List Mark
-marks_of regions copies ssps = marked_all regions copies ssps (replicate (length regions) Unseen)
+abbrev pub found_of : List Span → List (List ℕ) → List (ℕ × ℕ) → Found
+found_of regions copies ssps = found_all regions copies ssps (record { marks = replicate (length regions) Unseen; order = [] })
 
 -- a region without a mark is lost; the entries of any other begin where its mark says
 abbrev pub report_by : Span → List ℕ → Mark → StackReport
 report_by r words Unseen = record { region = r; shown = shown.Lost; words = [] }
-report_by r words (Fresh s from) = record { region = r; shown = s; words = drop from words }
-report_by r words (Done s from) = record { region = r; shown = s; words = drop from words }
+report_by r words (InView s from) = record { region = r; shown = s; words = drop from words }
 
 unfoldable pub reports : List Span → List (List ℕ) → List Mark → (count : ℕ) → List StackReport
 reports regions copies ms zero = []
@@ -110,7 +114,7 @@ reports regions copies ms (suc k) =
     report_by (slice_index_or regions k no_span) (slice_index_or copies k []) (slice_index_or ms k Unseen) ∷ []
 
 abbrev pub report_of_copies : List Span → List (List ℕ) → List (ℕ × ℕ) → List StackReport
-report_of_copies regions copies ssps = reports regions copies (marks_of regions copies ssps) (length regions)
+report_of_copies regions copies ssps = reports regions copies (found_of regions copies ssps).marks (length regions)
 
 -- the report that words give of regions and shadow-stack pointers
 abbrev pub word_report : (words : List ℕ) → List Span → List (ℕ × ℕ) → List StackReport

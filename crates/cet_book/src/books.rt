@@ -21,19 +21,19 @@ use std::marker::Model;
 pub struct Book {
     pub(crate) stacks: Vec<Stack>,
     pub(crate) gates: [Option<u8>; 8],
-    /// The number of the region that each thread came to last, where it is looked for first.
+    /// The number of the region that each thread came to last. It is its present one, where it has one.
     latest: [u32; 256],
 }
 
 impl Model for Book {
     ghost use Rattle.cet_book.specs.Book.{Book as BookData};
-    ghost use Rattle.cet_book.specs.Shape.{IsBook};
+    ghost use Rattle.cet_book.specs.Latest.{IsListed};
 
     ghost Value = { BookData };
 
     ghost view = { λ b. record { regions = b.stacks.items; stacks = b.gates } };
 
-    ghost invariant = { λ b. IsBook (record { regions = b.stacks.items; stacks = b.gates }) };
+    ghost invariant = { λ b. IsListed b.stacks.items b.gates b.latest };
 }
 
 impl Book {

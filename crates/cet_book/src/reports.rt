@@ -7,7 +7,7 @@ ghost use Rattle.cet_book.specs.Marks.{report_by, reports, word_report};
 ghost use Rattle.cet_book.specs.View.{IsReadable, InStep, Covers, shown_region};
 
 use crate::copies::read_regions;
-use crate::marks::{Mark, list_of, marks_of};
+use crate::marks::{Mark, found_of, list_of};
 use crate::regions::{Region, Shown, StackReport, StackReports};
 use cet_words::{NoMemory, Perform, Words};
 use std::alloc::Global;
@@ -26,7 +26,7 @@ fn report_of(
         shown: Shown::Lost,
         words: Words::new(alloc),
     };
-    if let Mark::Fresh(shown, from) | Mark::Done(shown, from) = mark {
+    if let Mark::InView(shown, from) = mark {
         report.shown = shown;
         report.words.extend(alloc, list_of(words, from))?;
     }
@@ -69,6 +69,6 @@ pub fn report_of_words<P: Perform>(
     ensures shown { IfOk result (λ list. (image : ImageData) (b : Book) (numbers : List ℕ) → InStep image (P.words words.old) b → Covers b numbers regions.now ssps.now → list ≡ map (λ i. shown_region b (region b i)) numbers) }
 {
     let copies = read_regions(alloc, words, regions)?;
-    let marks = marks_of(alloc, regions, &copies, ssps)?;
-    reports_of(alloc, regions, &copies, &marks)
+    let found = found_of(alloc, regions, &copies, ssps)?;
+    reports_of(alloc, regions, &copies, &found.marks)
 }

@@ -4,6 +4,7 @@ ghost use Rattle.std.specs.List.{position_or_len};
 ghost use Rattle.std.specs.Prelude.{◌≡◌, ◌≢◌, ℕ, Option, ◌+◌, ◌*◌, ◌^◌, ◌≤◌, ◌<◌, ◌-◌, nat_le, nat_lt, reverse, replicate, [], ◌∷◌, ◌++◌, length, OnOk, OnErr, true, List, slice_get, slice_set, slice_index_or, drop};
 ghost use Rattle.cet_book.specs.Book.{top, capacity, with_entry, nowhere, is_current, is_maker, has_token, last_end};
 ghost use Rattle.cet_book.specs.Events.{book_of};
+ghost use Rattle.cet_book.specs.Latest.{IsListed};
 ghost use Rattle.cet_book.specs.Newest.{removed};
 ghost use Rattle.cet_book.specs.Shape.{IsBook};
 ghost use Rattle.cet_book.specs.declared.entries.Entry.TheVariants.{Blank};
@@ -173,29 +174,16 @@ fn is_current(stacks: &[Stack], at: usize, thread: u8) -> bool
     stacks[at].is_current(thread)
 }
 
-/// Looks through all stacks for the one on which a thread is.
-fn find_current(stacks: &[Stack], thread: u8) -> usize
-    ensures { result ≡ position_or_len (λ r. is_current thread r.holder) stacks.now }
-{
-    for (at, stack) in stacks.iter().enumerate() {
-        if stack.is_current(thread) {
-            return at;
-        }
-    }
-    stacks.len()
-}
-
-/// The number of the stack on which a thread is, or that of all stacks. A thread that is on one is mostly on the one that it
-/// came to last.
+/// The number of the stack on which a thread is, or that of all stacks.
 pub(crate) fn current_of(stacks: &[Stack], latest: &[u32; 256], thread: u8) -> usize
-    requires { (g : List (Option ℕ)) × IsBook (book_of stacks.now g) }
+    requires { (g : List (Option ℕ)) × IsListed stacks.now g latest.now }
     ensures { result ≡ position_or_len (λ r. is_current thread r.holder) stacks.now }
 {
     let at = latest[thread as usize] as usize;
-    if is_current(stacks, at, thread) {
-        return at;
+    if !is_current(stacks, at, thread) {
+        return stacks.len();
     }
-    find_current(stacks, thread)
+    at
 }
 
 /// The stack's restore token stands at an address.

@@ -4,8 +4,8 @@
 ghost use Rattle.std.specs.Prelude.{◌≡◌, ◌≢◌, ℕ, Option, ◌+◌, ◌*◌, ◌^◌, ◌≤◌, ◌<◌, nat_le, ◌∷◌, length, OnOk, OnErr, true, if◌then◌else◌, List, slice_set, slice_index_or};
 ghost use Rattle.cet_book.specs.Book.{capacity, nowhere, with_current, called, ended, returned, popped, raised, pushed, released, born, seeded, can_claim, claimed, acquired};
 ghost use Rattle.cet_book.specs.Events.{AppliedTo, book_of};
+ghost use Rattle.cet_book.specs.Latest.{Latest, IsListed};
 ghost use Rattle.cet_book.specs.Newest.{can_return, is_frame, leads_to};
-ghost use Rattle.cet_book.specs.Shape.{IsBook};
 ghost use Rattle.cet_book.specs.declared.entries.Entry.TheVariants.{Previous};
 ghost use Rattle.cet_book.specs.declared.entries.Holder.TheVariants.{Maker, Current, Left, Lost};
 
@@ -28,7 +28,7 @@ pub(crate) fn called(
     thread: u8,
     back: u64,
 ) -> Result<(), BookFault>
-    requires { (g : List (Option ℕ)) × IsBook (book_of stacks.old g) }
+    requires { (g : List (Option ℕ)) × IsListed stacks.old g latest.now }
     ensures { AppliedTo result stacks.old stacks.new (λ b. with_current thread b (λ m r. called back m r b)) }
 {
     let at = current_of(stacks, latest, thread);
@@ -55,7 +55,7 @@ pub(crate) fn returned(
     latest: &[u32; 256],
     thread: u8,
 ) -> Result<(), BookFault>
-    requires { (g : List (Option ℕ)) × IsBook (book_of stacks.old g) }
+    requires { (g : List (Option ℕ)) × IsListed stacks.old g latest.now }
     ensures { AppliedTo result stacks.old stacks.new (λ b. with_current thread b (λ m r. returned m r.entries b)) }
 {
     let at = current_of(stacks, latest, thread);
@@ -76,7 +76,7 @@ pub(crate) fn raised(
     thread: u8,
     count: u8,
 ) -> Result<(), BookFault>
-    requires { (g : List (Option ℕ)) × IsBook (book_of stacks.old g) }
+    requires { (g : List (Option ℕ)) × IsListed stacks.old g latest.now }
     ensures { AppliedTo result stacks.old stacks.new (λ b. with_current thread b (λ m r. raised m count b)) }
 {
     let at = current_of(stacks, latest, thread);
@@ -115,8 +115,9 @@ pub(crate) fn acquired(
     thread: u8,
     addr: u64,
 ) -> Result<(), BookFault>
-    requires { (g : List (Option ℕ)) × IsBook (book_of stacks.old g) }
-    ensures { AppliedTo result stacks.old stacks.new (λ b. with_current thread b (λ m r. acquired thread addr m b)) }
+    requires { (g : List (Option ℕ)) × IsListed stacks.old g latest.old }
+    ensures applied { AppliedTo result stacks.old stacks.new (λ b. with_current thread b (λ m r. acquired thread addr m b)) }
+    ensures latest { Latest stacks.new latest.new }
 {
     let at = current_of(stacks, latest, thread);
     if at >= stacks.len() {
@@ -147,7 +148,7 @@ pub(crate) fn released(
     latest: &[u32; 256],
     thread: u8,
 ) -> Result<(), BookFault>
-    requires { (g : List (Option ℕ)) × IsBook (book_of stacks.old g) }
+    requires { (g : List (Option ℕ)) × IsListed stacks.old g latest.now }
     ensures { AppliedTo result stacks.old stacks.new (λ b. with_current thread b (λ m r. released m r.entries b)) }
 {
     let at = current_of(stacks, latest, thread);
@@ -242,8 +243,9 @@ pub(crate) fn born(
     child: u8,
     region: u32,
 ) -> Result<(), BookFault>
-    requires { (g : List (Option ℕ)) × IsBook (book_of stacks.old g) }
-    ensures { AppliedTo result stacks.old stacks.new (λ b. born parent child region b) }
+    requires { (g : List (Option ℕ)) × IsListed stacks.old g latest.old }
+    ensures applied { AppliedTo result stacks.old stacks.new (λ b. born parent child region b) }
+    ensures latest { Latest stacks.new latest.new }
 {
     let at = region as usize;
     if !is_maker(stacks, at, parent) {
@@ -264,7 +266,7 @@ pub(crate) fn pushed(
     thread: u8,
     restorer: u64,
 ) -> Result<(), BookFault>
-    requires { (g : List (Option ℕ)) × IsBook (book_of stacks.old g) }
+    requires { (g : List (Option ℕ)) × IsListed stacks.old g latest.now }
     ensures { AppliedTo result stacks.old stacks.new (λ b. with_current thread b (λ m r. pushed restorer m r b)) }
 {
     let at = current_of(stacks, latest, thread);
@@ -287,7 +289,7 @@ fn is_frame(entry: Option<Entry>) -> bool
 
 /// A signal's frame is taken off.
 pub(crate) fn popped(stacks: &mut [Stack], latest: &[u32; 256], thread: u8) -> Result<(), BookFault>
-    requires { (g : List (Option ℕ)) × IsBook (book_of stacks.old g) }
+    requires { (g : List (Option ℕ)) × IsListed stacks.old g latest.now }
     ensures { AppliedTo result stacks.old stacks.new (λ b. with_current thread b (λ m r. popped m r.entries b)) }
 {
     let at = current_of(stacks, latest, thread);
@@ -303,7 +305,7 @@ pub(crate) fn popped(stacks: &mut [Stack], latest: &[u32; 256], thread: u8) -> R
 
 /// A thread that ends gives its stack up.
 pub(crate) fn ended(stacks: &mut [Stack], latest: &[u32; 256], thread: u8) -> Result<(), BookFault>
-    requires { (g : List (Option ℕ)) × IsBook (book_of stacks.old g) }
+    requires { (g : List (Option ℕ)) × IsListed stacks.old g latest.now }
     ensures { AppliedTo result stacks.old stacks.new (λ b. with_current thread b (λ m r. ended m r b)) }
 {
     let at = current_of(stacks, latest, thread);

@@ -1,11 +1,9 @@
 //! Each case of the book's step with its refusals, and the report of words that no run leaves.
 
-ghost use Rattle.std.specs.Prelude.{◌≤◌, ◌<◌};
-
 use super::*;
 use cet_words::{
-    Access, Bytes, FIRST_SHADOW_WORD, Image, NoMemory, Perform, Plain, SHADOW_START, Segment,
-    Segments,
+    Access, Bytes, FIRST_SHADOW_WORD, Image, NoMemory, Perform, Plain, SHADOW_END, SHADOW_START,
+    Segment, Segments,
 };
 use std::alloc::Global;
 use std::process::Abort;
@@ -19,44 +17,48 @@ const CLAIM: Event = Event::Claimed {
     maker: true,
 };
 
-const CALL: Event = Event::Called {
-    thread: 0,
-    back: 0x401005,
-};
-
 const RETURN: Event = Event::Returned { thread: 0 };
 
 const RELEASE: Event = Event::Released { thread: 0 };
-
-const PUSH: Event = Event::Pushed {
-    thread: 0,
-    restorer: 0x401009,
-};
 
 const POP: Event = Event::Popped { thread: 0 };
 
 const END: Event = Event::Ended { thread: 0 };
 
-fn raise(count: u8) -> Event {
-    Event::Raised { thread: 0, count }
+fn call(thread: u8) -> Event {
+    Event::Called {
+        thread,
+        back: 0x401005,
+    }
 }
 
-fn acquire(at: u64) -> Event {
-    Event::Acquired { thread: 0, at }
+fn push(thread: u8) -> Event {
+    Event::Pushed {
+        thread,
+        restorer: 0x401009,
+    }
+}
+
+fn raise(thread: u8, count: u8) -> Event {
+    Event::Raised { thread, count }
+}
+
+fn acquire(thread: u8, at: u64) -> Event {
+    Event::Acquired { thread, at }
 }
 
 fn claim(start: u64, pages: u32) -> Event {
     Event::Claimed {
-        thread: 0,
+        thread: 1,
         start,
         pages,
         maker: false,
     }
 }
 
-fn seed(region: u32, blanks: u32) -> Event {
+fn seed(thread: u8, region: u32, blanks: u32) -> Event {
     Event::Seeded {
-        thread: 0,
+        thread,
         region,
         blanks,
     }
@@ -99,14 +101,12 @@ fn sketch(alloc: Global, book: &Book) -> Result<String, Fail> {
     Ok(text)
 }
 
-/// Applies the event after those before it. `want` is the book after it, and empty where it isn't legal.
-fn expect(
-    rt: &impl Abort,
-    alloc: Global,
-    before: &[Event],
-    event: Event,
-    want: &str,
-) -> Result<(), Fail> {
+/// Events, one more after them, and the book after it, or nothing where that one isn't legal.
+type Case<'a> = (&'a [Event], Event, &'a str);
+
+/// Applies the events of a case.
+fn expect(rt: &impl Abort, alloc: Global, case: &Case) -> Result<(), Fail> {
+    let (before, event, want) = *case;
     let mut book = Book::new(alloc)?;
     for event in before {
         assert!(rt; book.apply(alloc, event).is_ok(), "{event:?}");
@@ -126,184 +126,224 @@ fn expect(
 
 /// What is put on the stack of a thread, and taken off.
 fn expect_entries(rt: &impl Abort, alloc: Global) -> Result<(), Fail> {
-    let full = [CLAIM, seed(1, 511), acquire(0x2_0000_a000)];
-    let room_for_one = [CLAIM, seed(1, 510), acquire(0x2_0000_a008)];
-    let switched = [CALL, CLAIM, seed(1, 0), acquire(0x2_0000_aff8)];
-    let other = Event::Called {
-        thread: 1,
-        back: 0x401005,
-    };
-    expect(rt, alloc, &[], CALL, "Current(0) 1 Some(Call(4198405)); ")?;
-    expect(rt, alloc, &[], other, "")?;
-    expect(rt, alloc, &full, CALL, "")?;
-    expect(
-        rt,
-        alloc,
-        &room_for_one,
-        CALL,
-        "Left(1) 0 None; Current(0) 512 Some(Call(4198405)); ",
-    )?;
-    expect(rt, alloc, &[CALL], RETURN, "Current(0) 0 None; ")?;
-    expect(rt, alloc, &[], RETURN, "")?;
-    expect(rt, alloc, &[PUSH], RETURN, "Current(0) 1 Some(Frame); ")?;
-    expect(rt, alloc, &[PUSH, RETURN], RETURN, "")?;
-    expect(
-        rt,
-        alloc,
-        &switched,
-        RETURN,
-        "Lost 1 Some(Call(4198405)); Current(0) 0 None; ",
-    )?;
-    expect(rt, alloc, &[CALL, CALL], raise(2), "Current(0) 0 None; ")?;
-    expect(rt, alloc, &[CALL, CALL], raise(3), "")?;
-    expect(rt, alloc, &[PUSH, CALL], raise(3), "Current(0) 0 None; ")?;
-    expect(
-        rt,
-        alloc,
-        &switched,
-        raise(1),
-        "Lost 1 Some(Call(4198405)); Current(0) 0 None; ",
-    )?;
-    expect(rt, alloc, &[], raise(0), "Current(0) 0 None; ")?;
-    expect(
-        rt,
-        alloc,
-        &[],
-        PUSH,
-        "Current(0) 2 Some(Restorer(4198409)); ",
-    )?;
-    expect(rt, alloc, &room_for_one, PUSH, "")?;
-    expect(rt, alloc, &[PUSH, RETURN], POP, "Current(0) 0 None; ")?;
-    expect(rt, alloc, &[PUSH], POP, "")?;
-    expect(rt, alloc, &[CALL], END, "Lost 1 Some(Call(4198405)); ")?;
-    expect(rt, alloc, &[END], END, "")
+    let full = [CLAIM, seed(0, 1, 511), acquire(0, 0x2_0000_a000)];
+    let room_for_one = [CLAIM, seed(0, 1, 510), acquire(0, 0x2_0000_a008)];
+    let switched = [call(0), CLAIM, seed(0, 1, 0), acquire(0, 0x2_0000_aff8)];
+    let blank = [CLAIM, seed(0, 1, 1), acquire(0, 0x2_0000_aff0), RELEASE];
+    let cases: [Case; 30] = [
+        (&[], call(0), "Current(0) 1 Some(Call(4198405)); "),
+        (&[], call(1), ""),
+        (&full, call(0), ""),
+        (
+            &room_for_one,
+            call(0),
+            "Left(1) 0 None; Current(0) 512 Some(Call(4198405)); ",
+        ),
+        (&[call(0)], RETURN, "Current(0) 0 None; "),
+        (&[call(0)], Event::Returned { thread: 1 }, ""),
+        (&[], RETURN, ""),
+        (&[push(0)], RETURN, "Current(0) 1 Some(Frame); "),
+        (&[push(0), RETURN], RETURN, ""),
+        (&blank, RETURN, "Parked 0 None; Current(0) 0 None; "),
+        (
+            &switched,
+            RETURN,
+            "Lost 1 Some(Call(4198405)); Current(0) 0 None; ",
+        ),
+        (&[call(0), call(0)], raise(0, 2), "Current(0) 0 None; "),
+        (&[call(0), call(0)], raise(1, 2), ""),
+        (&[call(0), call(0)], raise(0, 3), ""),
+        (&[push(0), call(0)], raise(0, 3), "Current(0) 0 None; "),
+        (
+            &switched,
+            raise(0, 1),
+            "Lost 1 Some(Call(4198405)); Current(0) 0 None; ",
+        ),
+        (&[], raise(0, 0), "Current(0) 0 None; "),
+        (&[], raise(1, 0), ""),
+        (&[], push(0), "Current(0) 2 Some(Restorer(4198409)); "),
+        (&[], push(1), ""),
+        (&room_for_one, push(0), ""),
+        (&[push(0), RETURN], POP, "Current(0) 0 None; "),
+        (&[push(0), RETURN], Event::Popped { thread: 1 }, ""),
+        (&[], POP, ""),
+        (&[push(0)], POP, ""),
+        (&[call(0)], POP, ""),
+        (&blank, POP, ""),
+        (&switched, POP, ""),
+        (&[call(0)], END, "Lost 1 Some(Call(4198405)); "),
+        (&[END], END, ""),
+    ];
+    for case in &cases {
+        expect(rt, alloc, case)?;
+    }
+    Ok(())
 }
 
-/// What is drawn, made, taken and parked.
-fn expect_stacks(rt: &impl Abort, alloc: Global) -> Result<(), Fail> {
-    let parked = [CALL, CLAIM, seed(1, 1)];
-    let switched = [CALL, CLAIM, seed(1, 1), acquire(0x2_0000_aff0)];
-    let called = [CALL, CLAIM, seed(1, 1), acquire(0x2_0000_aff0), CALL];
+/// What is taken and parked.
+fn expect_switches(rt: &impl Abort, alloc: Global) -> Result<(), Fail> {
+    let parked = [call(0), CLAIM, seed(0, 1, 1)];
+    let switched = [call(0), CLAIM, seed(0, 1, 1), acquire(0, 0x2_0000_aff0)];
+    let called = [CLAIM, seed(0, 1, 0), acquire(0, 0x2_0000_aff8), call(0)];
+    let pushed = [CLAIM, seed(0, 1, 0), acquire(0, 0x2_0000_aff8), push(0)];
+    let released = [CLAIM, seed(0, 1, 1), acquire(0, 0x2_0000_aff0), RELEASE];
+    let lost = [CLAIM, seed(0, 1, 0), acquire(0, 0x2_0000_aff8), END];
+    let other = Event::Claimed {
+        thread: 0,
+        start: 0x2_0000_c000,
+        pages: 1,
+        maker: true,
+    };
     let left_full = [
         CLAIM,
-        seed(1, 511),
-        acquire(0x2_0000_a000),
-        Event::Claimed {
-            thread: 0,
-            start: 0x2_0000_c000,
-            pages: 1,
-            maker: true,
-        },
-        seed(2, 0),
-        acquire(0x2_0000_cff8),
+        seed(0, 1, 511),
+        acquire(0, 0x2_0000_a000),
+        other,
+        seed(0, 2, 0),
+        acquire(0, 0x2_0000_cff8),
     ];
-    expect(
-        rt,
-        alloc,
-        &parked,
-        acquire(0x2_0000_aff0),
-        "Left(1) 1 Some(Call(4198405)); Current(0) 2 Some(Previous(0)); ",
-    )?;
-    expect(rt, alloc, &parked, acquire(0x2_0000_aff8), "")?;
-    expect(
-        rt,
-        alloc,
-        &parked,
-        Event::Acquired {
-            thread: 1,
-            at: 0x2_0000_aff0,
-        },
-        "",
-    )?;
-    expect(rt, alloc, &[CLAIM], acquire(0x2_0000_aff8), "")?;
-    expect(
-        rt,
-        alloc,
-        &switched,
-        RELEASE,
-        "Parked 1 Some(Call(4198405)); Current(0) 1 Some(Blank); ",
-    )?;
-    expect(rt, alloc, &called, RELEASE, "")?;
-    expect(rt, alloc, &left_full, RELEASE, "")?;
-    expect(
-        rt,
-        alloc,
-        &[],
-        CLAIM,
-        "Current(0) 0 None; Maker(0) 0 None; ",
-    )?;
-    expect(
-        rt,
-        alloc,
-        &[],
-        claim(0x2_0000_a000, 1013),
-        "Current(0) 0 None; Lost 0 None; ",
-    )?;
-    expect(rt, alloc, &[], claim(0x2_0000_a000, 1014), "")?;
-    expect(rt, alloc, &[], claim(0x2_0000_9000, 1), "")?;
-    expect(rt, alloc, &[], claim(0x2_0000_a008, 1), "")?;
-    expect(rt, alloc, &[], claim(0x2_0000_a000, 0), "")?;
-    expect(
-        rt,
-        alloc,
-        &[CLAIM],
-        seed(1, 511),
-        "Current(0) 0 None; Parked 511 Some(Blank); ",
-    )?;
-    expect(rt, alloc, &[CLAIM], seed(1, 512), "")?;
-    expect(rt, alloc, &[CLAIM], seed(2, 0), "")?;
-    expect(rt, alloc, &[CLAIM, seed(1, 0)], seed(1, 0), "")?;
-    expect(
-        rt,
-        alloc,
-        &[CLAIM],
-        bear(0, 1, 1),
-        "Current(0) 0 None; Current(1) 0 None; ",
-    )?;
-    expect(rt, alloc, &[CLAIM], bear(1, 2, 1), "")?;
-    expect(rt, alloc, &[CLAIM], bear(0, 0, 1), "")
+    let cases: [Case; 16] = [
+        (
+            &parked,
+            acquire(0, 0x2_0000_aff0),
+            "Left(1) 1 Some(Call(4198405)); Current(0) 2 Some(Previous(0)); ",
+        ),
+        (&parked, acquire(1, 0x2_0000_aff0), ""),
+        (&parked, acquire(0, 0x2_0000_aff8), ""),
+        (&parked, acquire(0, 0x1_ffff_fff8), ""),
+        (&[CLAIM], acquire(0, 0x2_0000_aff8), ""),
+        (&switched, acquire(0, 0x2_0000_aff0), ""),
+        (&lost, acquire(0, 0x2_0000_aff0), ""),
+        (
+            &released,
+            acquire(0, 0x2_0000_8ff8),
+            "Current(0) 1 Some(Previous(1)); Left(0) 1 Some(Blank); ",
+        ),
+        (
+            &switched,
+            RELEASE,
+            "Parked 1 Some(Call(4198405)); Current(0) 1 Some(Blank); ",
+        ),
+        (&switched, Event::Released { thread: 1 }, ""),
+        (&[], RELEASE, ""),
+        (&called, RELEASE, ""),
+        (&pushed, RELEASE, ""),
+        (&[push(0), RETURN], RELEASE, ""),
+        (&released, RELEASE, ""),
+        (&left_full, RELEASE, ""),
+    ];
+    for case in &cases {
+        expect(rt, alloc, case)?;
+    }
+    Ok(())
+}
+
+/// What is drawn, made and given to a child.
+fn expect_claims(rt: &impl Abort, alloc: Global) -> Result<(), Fail> {
+    let seeded = [CLAIM, seed(0, 1, 0)];
+    let born = [CLAIM, bear(0, 1, 1)];
+    let cases: [Case; 26] = [
+        (&[], CLAIM, "Current(0) 0 None; Maker(0) 0 None; "),
+        (
+            &[],
+            claim(0x2_0000_a000, 1013),
+            "Current(0) 0 None; Lost 0 None; ",
+        ),
+        (&[], claim(0x2_0000_a000, 1014), ""),
+        (&[], claim(0x2_0000_a000, 1023), ""),
+        (&[], claim(0x2_003f_f000, 1), ""),
+        (&[], claim(0x2_0000_a000, 0), ""),
+        (&[], claim(0x2_0000_a008, 1), ""),
+        (&[], claim(0x2_0000_9000, 1), ""),
+        (&[CLAIM], claim(0x2_0000_b000, 1), ""),
+        (
+            &[CLAIM],
+            claim(0x2_0000_c000, 1),
+            "Current(0) 0 None; Maker(0) 0 None; Lost 0 None; ",
+        ),
+        (
+            &[CLAIM],
+            seed(0, 1, 511),
+            "Current(0) 0 None; Parked 511 Some(Blank); ",
+        ),
+        (&[CLAIM], seed(0, 1, 512), ""),
+        (&[CLAIM], seed(1, 1, 0), ""),
+        (&[CLAIM], seed(0, 0, 0), ""),
+        (&[CLAIM], seed(0, 2, 0), ""),
+        (&seeded, seed(0, 1, 0), ""),
+        (&[claim(0x2_0000_a000, 1)], seed(1, 1, 0), ""),
+        (
+            &[CLAIM],
+            bear(0, 1, 1),
+            "Current(0) 0 None; Current(1) 0 None; ",
+        ),
+        (
+            &[CLAIM],
+            bear(0, 200, 1),
+            "Current(0) 0 None; Current(200) 0 None; ",
+        ),
+        (
+            &[CLAIM, END],
+            bear(0, 0, 1),
+            "Lost 0 None; Current(0) 0 None; ",
+        ),
+        (&[CLAIM], bear(1, 2, 1), ""),
+        (&[CLAIM], bear(0, 0, 1), ""),
+        (&[CLAIM], bear(0, 1, 0), ""),
+        (&[CLAIM], bear(0, 1, 2), ""),
+        (&seeded, bear(0, 1, 1), ""),
+        (&born, bear(0, 2, 1), ""),
+    ];
+    for case in &cases {
+        expect(rt, alloc, case)?;
+    }
+    Ok(())
 }
 
 /// Who holds a supervisor stack.
 fn expect_gates(rt: &impl Abort, alloc: Global) -> Result<(), Fail> {
-    expect(rt, alloc, &[], busy(1, 7), "Current(0) 0 None; 7 1; ")?;
-    expect(rt, alloc, &[], busy(1, 8), "")?;
-    expect(rt, alloc, &[busy(1, 7)], busy(0, 7), "")?;
-    expect(rt, alloc, &[busy(1, 7)], busy(1, 6), "")?;
-    expect(rt, alloc, &[busy(1, 7)], free(1, 7), "Current(0) 0 None; ")?;
-    expect(rt, alloc, &[busy(1, 7)], free(0, 7), "")?;
-    expect(rt, alloc, &[], free(1, 8), "")
+    let cases: [Case; 8] = [
+        (&[], busy(1, 7), "Current(0) 0 None; 7 1; "),
+        (&[], busy(1, 8), ""),
+        (&[busy(1, 7)], busy(0, 7), ""),
+        (&[busy(1, 7)], busy(1, 6), ""),
+        (&[busy(1, 7)], free(1, 7), "Current(0) 0 None; "),
+        (&[busy(1, 7)], free(0, 7), ""),
+        (&[busy(1, 7)], free(1, 6), ""),
+        (&[], free(1, 8), ""),
+    ];
+    for case in &cases {
+        expect(rt, alloc, case)?;
+    }
+    Ok(())
 }
 
 #[test]
 fn cases(rt: HostRuntime) -> Result<(), Fail> {
     let alloc = rt.alloc();
     expect_entries(&rt, alloc)?;
-    expect_stacks(&rt, alloc)?;
+    expect_switches(&rt, alloc)?;
+    expect_claims(&rt, alloc)?;
     expect_gates(&rt, alloc)
 }
 
-/// Stores a word at an address of the shadow area.
-fn put(words: &mut Plain, addr: u64, value: u64)
-    requires low { 0x200000000 ≤ addr }
-    requires high { addr < 0x200400000 }
-{
-    words.perform(Access::Store(
-        FIRST_SHADOW_WORD + ((addr - SHADOW_START) / 8) as u32,
-        value,
-    ));
+/// Stores words at addresses of the shadow area.
+fn put(words: &mut Plain, values: &[(u64, u64)]) {
+    for (addr, value) in values {
+        if SHADOW_START <= *addr && *addr < SHADOW_END {
+            words.perform(Access::Store(
+                FIRST_SHADOW_WORD + ((*addr - SHADOW_START) / 8) as u32,
+                *value,
+            ));
+        }
+    }
 }
 
-/// Each region's start, how it is shown, and the number of its words.
+/// How each region is shown, and the number of its words.
 fn sketch_report(alloc: Global, reports: &StackReports) -> Result<String, Fail> {
     let mut text = String::new(alloc);
     for report in reports.as_slice() {
-        let line = format!(in alloc;
-            "{:x} {:?} {}; ",
-            report.region.start,
-            report.shown,
-            report.words.len()
-        )?;
+        let line = format!(in alloc; "{:?} {}; ", report.shown, report.words.len())?;
         text.push_str(&line)?;
     }
     Ok(text)
@@ -328,19 +368,18 @@ fn image(alloc: Global) -> Result<Image, NoMemory> {
     })
 }
 
-#[test]
-fn odd_words(rt: HostRuntime) -> Result<(), Fail> {
-    let alloc = rt.alloc();
-    let mut words = Plain::new(alloc, &image(alloc)?)?;
-    // thread 0's stack leads to the second, and that one to it, to itself, between two stacks and into the fourth
-    put(&mut words, 0x2_0000_1ff8, 0x2_0000_3fd8 + 3);
-    put(&mut words, 0x2_0000_3fd8, 0x2_0000_1ff8 + 3);
-    put(&mut words, 0x2_0000_3fe0, 0x2_0000_3fe0 + 3);
-    put(&mut words, 0x2_0000_3fe8, 0x2_0000_2ff8 + 3);
-    put(&mut words, 0x2_0000_3ff0, 0x2_0000_7800 + 3);
-    // the third is full, with its token below it; the sixth has no page, and a token
-    put(&mut words, 0x2_0000_4ff8, 0x2_0000_5001);
-    put(&mut words, 0x2_0000_aff8, 0x2_0000_b001);
+/// Words at their addresses, and the report of them.
+type Words<'a> = (&'a [(u64, u64)], &'a str);
+
+/// Reports stacks that have these words and no others. Threads are on the first, at the end of the fifth and at the start of
+/// the seventh; the sixth has no page.
+fn expect_report(
+    rt: &impl Abort,
+    alloc: Global,
+    words: &mut Plain,
+    case: &Words,
+) -> Result<(), Fail> {
+    let (values, want) = *case;
     let regions = [
         Region {
             start: 0x2_0000_1000,
@@ -375,13 +414,103 @@ fn odd_words(rt: HostRuntime) -> Result<(), Fail> {
             end: 0x2_0001_1000,
         },
     ];
-    // thread 1 is at its stack's end, and thread 2 at its start
     let ssps = [(0, 0x2_0000_1ff8), (1, 0x2_0000_a000), (2, 0x2_0000_d000)];
-    let reports = report_of_words(alloc, &mut words, &regions, &ssps)?;
+    put(words, values);
+    let reports = report_of_words(alloc, words, &regions, &ssps)?;
     let text = sketch_report(alloc, &reports)?;
-    let want =
-        "200001000 Current(0) 1; 200003000 Left 5; 200005000 Parked 512; 200007000 Left 256; \
-        200009000 Current(1) 0; 20000b000 Parked 0; 20000d000 Current(2) 512; 200010000 Lost 0; ";
     assert_eq!(rt; text.as_str(), want);
+    Ok(())
+}
+
+#[test]
+fn odd_words(rt: HostRuntime) -> Result<(), Fail> {
+    let alloc = rt.alloc();
+    let cases: [Words; 13] = [
+        // none, one that leads to its own stack, one between two stacks
+        (
+            &[],
+            "Current(0) 1; Lost 0; Lost 0; Lost 0; Current(1) 0; Lost 0; Current(2) 512; Lost 0; ",
+        ),
+        (
+            &[(0x2_0000_1ff8, 0x2_0000_1ffb)],
+            "Current(0) 1; Lost 0; Lost 0; Lost 0; Current(1) 0; Lost 0; Current(2) 512; Lost 0; ",
+        ),
+        (
+            &[(0x2_0000_1ff8, 0x2_0000_2ffb)],
+            "Current(0) 1; Lost 0; Lost 0; Lost 0; Current(1) 0; Lost 0; Current(2) 512; Lost 0; ",
+        ),
+        // a circle to which a thread's stack leads, and one to which nothing leads
+        (
+            &[
+                (0x2_0000_1ff8, 0x2_0000_3ffb),
+                (0x2_0000_3ff8, 0x2_0000_1ffb),
+            ],
+            "Current(0) 1; Left 1; Lost 0; Lost 0; Current(1) 0; Lost 0; Current(2) 512; Lost 0; ",
+        ),
+        (
+            &[
+                (0x2_0000_3ff8, 0x2_0000_5ffb),
+                (0x2_0000_5ff8, 0x2_0000_3ffb),
+            ],
+            "Current(0) 1; Lost 0; Lost 0; Lost 0; Current(1) 0; Lost 0; Current(2) 512; Lost 0; ",
+        ),
+        // into the middle of a stack, to its start, to its end, and to one of no page
+        (
+            &[(0x2_0000_1ff8, 0x2_0000_7803)],
+            "Current(0) 1; Lost 0; Lost 0; Left 256; Current(1) 0; Lost 0; Current(2) 512; Lost 0; ",
+        ),
+        (
+            &[(0x2_0000_1ff8, 0x2_0000_7003)],
+            "Current(0) 1; Lost 0; Lost 0; Left 512; Current(1) 0; Lost 0; Current(2) 512; Lost 0; ",
+        ),
+        (
+            &[(0x2_0000_1ff8, 0x2_0000_8003)],
+            "Current(0) 1; Lost 0; Lost 0; Left 0; Current(1) 0; Lost 0; Current(2) 512; Lost 0; ",
+        ),
+        (
+            &[(0x2_0000_1ff8, 0x2_0000_b003)],
+            "Current(0) 1; Lost 0; Lost 0; Lost 0; Current(1) 0; Left 0; Current(2) 512; Lost 0; ",
+        ),
+        // restore tokens of an empty stack, of a full one and of one of no page
+        (
+            &[
+                (0x2_0000_3ff8, 0x2_0000_4001),
+                (0x2_0000_4ff8, 0x2_0000_5001),
+                (0x2_0000_aff8, 0x2_0000_b001),
+            ],
+            "Current(0) 1; Parked 0; Parked 512; Lost 0; Current(1) 0; Parked 0; Current(2) 512; Lost 0; ",
+        ),
+        // two in one stack, and one in a thread's stack
+        (
+            &[
+                (0x2_0000_3000, 0x2_0000_3009),
+                (0x2_0000_3ff8, 0x2_0000_4001),
+                (0x2_0000_1ff0, 0x2_0000_1ff9),
+            ],
+            "Current(0) 1; Parked 511; Lost 0; Lost 0; Current(1) 0; Lost 0; Current(2) 512; Lost 0; ",
+        ),
+        // two words that lead to one stack
+        (
+            &[
+                (0x2_0000_d008, 0x2_0000_3ffb),
+                (0x2_0000_d010, 0x2_0000_3ff3),
+            ],
+            "Current(0) 1; Left 1; Lost 0; Lost 0; Current(1) 0; Lost 0; Current(2) 512; Lost 0; ",
+        ),
+        // each stack leads to the one before it
+        (
+            &[
+                (0x2_0000_1ff8, 0x2_0001_0ffb),
+                (0x2_0001_0ff8, 0x2_0000_7ffb),
+                (0x2_0000_7ff8, 0x2_0000_5ffb),
+                (0x2_0000_5ff8, 0x2_0000_3ffb),
+            ],
+            "Current(0) 1; Left 1; Left 1; Left 1; Current(1) 0; Lost 0; Current(2) 512; Left 1; ",
+        ),
+    ];
+    for case in &cases {
+        let mut words = Plain::new(alloc, &image(alloc)?)?;
+        expect_report(&rt, alloc, &mut words, case)?;
+    }
     Ok(())
 }

@@ -4,4 +4,4 @@ use Rattle.cet_book.specs.Marks.{followed}
 use Rattle.cet_book.proofs.marks.follow_words.Given as goal
 
 abbrev pub invariant-loop-word : goal.invariant-loop-word
-invariant-loop-word l = followed l.regions (drop l.word-index l.words) l.marks ≡ followed l.regions l.words l.initial.marks
+invariant-loop-word l = followed l.regions (drop l.word-index l.words) l.found ≡ followed l.regions l.words l.initial.found

@@ -3,4 +3,4 @@ use Rattle.cet_book.specs.Marks.{parks}
 use Rattle.cet_book.proofs.marks.mark_parked.Given as goal
 
 abbrev pub invariant-loop-at : goal.invariant-loop-at
-invariant-loop-at l = l.marks ≡ parks l.regions l.copies l.at l.initial.marks
+invariant-loop-at l = l.found ≡ parks l.regions l.copies l.at l.initial.found

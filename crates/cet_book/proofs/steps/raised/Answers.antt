@@ -11,7 +11,7 @@ returns-then-at-stacks c = λ g. (with_none c.args.thread c.current_of-at.result
 pub returns-then-count_of-count : goal.returns-then-count_of-count
 returns-then-count_of-count c = λ g. (
   with_some c.args.thread c.current_of-at.result c.args.stacks.now g (λ m r. raised m c.args.count (book_of c.args.stacks.now g)) c.current_of-at.ensures c.if-at-stacks.false ∙
-      raised_none c.args.count c.current_of-at.result c.args.stacks.now g _ c.if-at-stacks.false refl (no_self c.args.thread c.current_of-at.result c.args.stacks.now c.requires.0 c.requires.1 c.current_of-at.ensures c.if-at-stacks.false) (let a = c.count_of.ensures in let b = c.if-count_of-count.true in omega arith),
+      raised_none c.args.count c.current_of-at.result c.args.stacks.now g _ c.if-at-stacks.false refl (no_self c.args.thread c.current_of-at.result c.args.stacks.now c.requires.0 c.requires.1.book c.current_of-at.ensures c.if-at-stacks.false) (let a = c.count_of.ensures in let b = c.if-count_of-count.true in omega arith),
   refl,
 )
 
@@ -22,7 +22,7 @@ loop-entry-init c =
       rest = λ g. ap (λ n. raised c.current_of-at.result n (book_of c.args.stacks.now g)) all;
       inside = c.if-at-stacks.false;
       room = (let a = c.count_of.ensures in let b = c.if-count_of-count.false in omega arith);
-      other = no_self c.args.thread c.current_of-at.result c.args.stacks.now c.requires.0 c.requires.1 c.current_of-at.ensures c.if-at-stacks.false;
+      other = no_self c.args.thread c.current_of-at.result c.args.stacks.now c.requires.0 c.requires.1.book c.current_of-at.ensures c.if-at-stacks.false;
     }
 
 pub loop-entry-preserved : goal.loop-entry-preserved
