@@ -2,15 +2,18 @@
 use Rattle.std.specs.Prelude.{◌≡◌, ℕ, List, Option, Some, None, IfSome, Result, Ok, Err}
 use Rattle.cet_words.specs.Job.{JobData}
 use Rattle.cet_words.specs.declared.accesses.Access.{Access}
-use Rattle.cet_page.specs.Core.{Core, come, next_access}
+use Rattle.cet_isa.specs.declared.threads.Arch.{Arch}
+use Rattle.cet_page.specs.Core.{Core, come, kept_by, next_access}
 use Rattle.cet_page.specs.Plays.{Stopped, Wanted}
 use Rattle.cet_page.specs.Script.{Came, Over}
 use Rattle.cet_page.specs.Within.{IsCore}
 use Rattle.cet_page.specs.declared.cursors.Mark.{Mark}
 use Rattle.cet_page.specs.declared.cursors.Stop.{Stop}
 use Rattle.cet_page.specs.declared.finishes.Finish.{Finish}
+use Rattle.cet_cpu.specs.Changes.{finish_with, Stays}
 use Rattle.cet_cpu.specs.Code.{IsCode}
 use Rattle.cet_cpu.specs.declared.fetches.Code.{Code}
+use Rattle.cet_cpu.specs.declared.gate.Completed.{Completed}
 
 -- the thread, the access that it waits for with its mark, and the code at RIP, once its row has read that
 pub record CpuData : Type 0 where
@@ -42,7 +45,10 @@ pub record IsNext (job : JobData) (core : Core) (next : Access × Mark) : Type 0
   pub waits : next_access job core ≡ Some next.0
   pub wanted : IsWanted job core next
 
--- what a row has come to, as a function over a cursor returns it
-abbrev pub CameTo : Came Finish → Result Finish Stop → Type 0
-CameTo came (Ok finish) = (left : ℕ) × (values : List ℕ) × (came ≡ Over finish left values)
-CameTo came (Err stop) = Stopped came stop
+-- What a row has come to, as a function returns it that changes the state in its place: where the row is over, the thread
+-- keeps its number and what it holds.
+abbrev pub CameTo : Came Finish → (before after : Arch) → Result Completed Stop → Type 0
+CameTo came before after (Ok done) =
+    (next : Arch) × (left : ℕ) × (values : List ℕ) × (after ≡ kept_by before before.held next)
+    × (came ≡ Over (finish_with next done) left values) × Stays before after (Ok done)
+CameTo came before after (Err stop) = (after ≡ before) × Stopped came stop

@@ -1,17 +1,18 @@
 //! The kernel's entry: the gate, the services exit and exit_group, and the delivery of a fault with the kill.
 
-ghost use Rattle.std.specs.Prelude.{◌≡◌, ◌+◌, ◌-◌, ◌*◌, ◌%◌, ◌^◌, ◌<◌, ◌≤◌, [], ◌∷◌};
+ghost use Rattle.std.specs.Prelude.{◌≡◌, ◌+◌, ◌-◌, ◌*◌, ◌%◌, ◌^◌, ◌<◌, ◌≤◌, [], ◌∷◌, Ok};
 ghost use Rattle.cet_words.specs.Layout.{token, token_page, token_word};
 ghost use Rattle.cet_words.specs.Change.{Freed};
 ghost use Rattle.cet_page.specs.Script.{play};
-ghost use Rattle.cet_page.specs.Plays.{Comes};
+ghost use Rattle.cet_page.specs.Plays.{Comes, ComesBy};
 ghost use Rattle.cet_page.specs.Parts.{exchange_as};
 ghost use Rattle.cet_page.specs.Finish.{IsMade, counted};
 ghost use Rattle.cet_page.specs.Gate.{busied_if, stack_of, gate_in, gate_out, finish_of, found_busy, entered, sys_record, served, serve, clears, made_page, exit_status, exit, exit_group, service, syscall, signal_of, is_masked, killed, kill, delivery, deliver};
+ghost use Rattle.cet_cpu.specs.Changes.{finish_with, Stays};
 ghost use Rattle.cet_cpu.specs.Entry.{work_of};
 
 use cet_isa::{Arch, Fault, FaultName, Record, What};
-use cet_page::{Cursor, Finish, Leaving, Mark, Stop};
+use cet_page::{Cursor, Leaving, Mark, Stop};
 use cet_words::{
     Access, EXIT_WORD, FIRST_ENTRY_WORD, FIRST_SHADOW_PAGE, Job, KERNEL_RETURN, SHADOW_START,
     action_word, token, token_page, token_word,
@@ -27,6 +28,19 @@ pub const R11: usize = 11;
 
 /// SYSCALL is `0F 05`.
 pub const SYSCALL_LENGTH: u64 = 2;
+
+/// What a row comes to beside the state after it, which is changed in its place.
+#[derive(Clone, Copy)]
+pub enum Completed {
+    /// A record.
+    Noted(Record),
+    /// The posting of a listed signal, which gives no record.
+    Posted,
+    /// The record and the status of the service exit.
+    Exited(Record, u8),
+    /// The process has ended, and nothing has changed.
+    Stopped,
+}
 
 /// The number of the service exit.
 const EXIT: u64 = 60;
@@ -117,10 +131,11 @@ pub fn counted(arch: &Arch) -> Arch
     after
 }
 
-fn found_busy(arch: &Arch, k: u8, found: u64) -> Finish
+fn found_busy(arch: &mut Arch, k: u8, found: u64) -> Completed
     requires stack { k < 8 }
-    requires count { arch.now.count < 2 ^ 32 - 1 }
-    ensures { result ≡ found_busy arch.now k found }
+    requires count { arch.old.count < 2 ^ 32 - 1 }
+    ensures comes { finish_with arch.new result ≡ found_busy arch.old k found }
+    ensures stays { Stays arch.old arch.new (Ok result) }
 {
     let noted = Record {
         rip: arch.rip,
@@ -129,7 +144,8 @@ fn found_busy(arch: &Arch, k: u8, found: u64) -> Finish
         a: token(k),
         b: found,
     };
-    Finish::Noted(counted(arch), noted)
+    arch.count += 1;
+    Completed::Noted(noted)
 }
 
 fn sys_record(arch: &Arch, outcome: u64) -> Record
@@ -301,22 +317,25 @@ fn work(arch: &Arch, entry: Entry, at: &mut Cursor) -> Result<(Arch, Record, Lea
     }
 }
 
-/// What the row comes to after the way out.
-fn finish_of(next: Arch, noted: Record, ends: Leaving) -> Finish
-    ensures { result ≡ finish_of next noted ends }
+/// What the row comes to after the way out: the state is changed.
+fn finish_of(arch: &mut Arch, next: Arch, noted: Record, ends: Leaving) -> Completed
+    ensures comes { finish_with arch.new result ≡ finish_of next noted ends }
+    ensures stays { Stays arch.old arch.new (Ok result) }
 {
+    *arch = next;
     match ends {
-        Leaving::Back | Leaving::Popped => Finish::Noted(next, noted),
-        Leaving::Ended(status) => Finish::Exited(next, noted, status),
+        Leaving::Back | Leaving::Popped => Completed::Noted(noted),
+        Leaving::Ended(status) => Completed::Exited(noted, status),
     }
 }
 
 /// The kernel's entry: the way in, the work, and the way out.
 #[tactic(auto, using(cet_page::proofs::ScriptLaws::play_bind), unfolding(cet_page::specs::Gate::entered))]
-fn entered(job: &Job, arch: &Arch, entry: Entry, at: &mut Cursor) -> Result<Finish, Stop>
-    requires count { arch.now.count < 2 ^ 32 - 1 }
-    requires made { IsMade arch.now.made }
-    ensures { Comes (play (entered job.now arch.now (work_of arch.now entry)) at.old.left at.old.rest.now) result at.new.left at.new.rest.now }
+fn entered(job: &Job, arch: &mut Arch, entry: Entry, at: &mut Cursor) -> Result<Completed, Stop>
+    requires count { arch.old.count < 2 ^ 32 - 1 }
+    requires made { IsMade arch.old.made }
+    ensures comes { ComesBy (finish_with arch.new) (play (entered job.now arch.old (work_of arch.old entry)) at.old.left at.old.rest.now) result at.new.left at.new.rest.now }
+    ensures stays { Stays arch.old arch.new result }
 {
     let k = stack_of(job, arch);
     if let Some(found) = gate_in(k, at)? {
@@ -324,23 +343,30 @@ fn entered(job: &Job, arch: &Arch, entry: Entry, at: &mut Cursor) -> Result<Fini
     }
     let (next, noted, ends) = work(arch, entry, at)?;
     gate_out(k, ends, at)?;
-    Ok(finish_of(next, noted, ends))
+    Ok(finish_of(arch, next, noted, ends))
 }
 
 /// SYSCALL.
-pub fn syscall(job: &Job, arch: &Arch, at: &mut Cursor) -> Result<Finish, Stop>
-    requires count { arch.now.count < 2 ^ 32 - 1 }
-    requires made { IsMade arch.now.made }
-    ensures { Comes (play (syscall job.now arch.now) at.old.left at.old.rest.now) result at.new.left at.new.rest.now }
+pub fn syscall(job: &Job, arch: &mut Arch, at: &mut Cursor) -> Result<Completed, Stop>
+    requires count { arch.old.count < 2 ^ 32 - 1 }
+    requires made { IsMade arch.old.made }
+    ensures comes { ComesBy (finish_with arch.new) (play (syscall job.now arch.old) at.old.left at.old.rest.now) result at.new.left at.new.rest.now }
+    ensures stays { Stays arch.old arch.new result }
 {
     entered(job, arch, Entry::Service, at)
 }
 
 /// The delivery of a due fault.
-pub fn deliver(job: &Job, arch: &Arch, fault: &Fault, at: &mut Cursor) -> Result<Finish, Stop>
-    requires count { arch.now.count < 2 ^ 32 - 1 }
-    requires made { IsMade arch.now.made }
-    ensures { Comes (play (deliver job.now arch.now fault.now) at.old.left at.old.rest.now) result at.new.left at.new.rest.now }
+pub fn deliver(
+    job: &Job,
+    arch: &mut Arch,
+    fault: &Fault,
+    at: &mut Cursor,
+) -> Result<Completed, Stop>
+    requires count { arch.old.count < 2 ^ 32 - 1 }
+    requires made { IsMade arch.old.made }
+    ensures comes { ComesBy (finish_with arch.new) (play (deliver job.now arch.old fault.now) at.old.left at.old.rest.now) result at.new.left at.new.rest.now }
+    ensures stays { Stays arch.old arch.new result }
 {
     entered(job, arch, Entry::Delivery(fault.name), at)
 }

@@ -3,41 +3,43 @@
 ghost use Rattle.std.specs.Prelude.{◌≡◌, ◌+◌, ◌-◌, ◌^◌, ◌<◌, IfSome};
 ghost use Rattle.cet_isa.specs.Reading.{decoded};
 ghost use Rattle.cet_page.specs.Script.{play};
-ghost use Rattle.cet_page.specs.Plays.{Comes};
+ghost use Rattle.cet_page.specs.Plays.{ComesBy};
 ghost use Rattle.cet_page.specs.Finish.{IsMade};
 ghost use Rattle.cet_page.specs.Row.{row, row_from, boundary, instruction, fetched, instruction_bytes, execute};
+ghost use Rattle.cet_cpu.specs.Changes.{finish_with, Stays};
 ghost use Rattle.cet_cpu.specs.Code.{IsCode};
 
 use crate::fetches::{Code, code_at};
-use crate::gate::{deliver, syscall};
+use crate::gate::{Completed, deliver, syscall};
 use cet_decode::Decoded;
 use cet_isa::{Arch, Instr, is_canonical};
-use cet_page::{
-    Cursor, Family, Finish, Stop, family_of, general_protection, invalid_opcode, missing,
-};
+use cet_page::{Cursor, Family, Stop, family_of, general_protection, invalid_opcode, missing};
 use cet_words::{EXIT_WORD, Job, pend_word};
 
-/// An instruction, with the address of the next one.
+/// An instruction, with the address of the next one. Where it is over, the state is changed in its place.
 #[tactic(auto, using(cet_page::proofs::ScriptLaws::play_bind))]
 fn execute(
     job: &Job,
-    arch: &Arch,
+    arch: &mut Arch,
     instr: &Instr,
     next: u64,
     at: &mut Cursor,
-) -> Result<Finish, Stop>
-    requires count { arch.now.count < 2 ^ 32 - 1 }
-    requires made { IsMade arch.now.made }
-    ensures { Comes (play (execute job.now arch.now instr.now next) at.old.left at.old.rest.now) result at.new.left at.new.rest.now }
+) -> Result<Completed, Stop>
+    requires count { arch.old.count < 2 ^ 32 - 1 }
+    requires made { IsMade arch.old.made }
+    ensures comes { ComesBy (finish_with arch.new) (play (execute job.now arch.old instr.now next) at.old.left at.old.rest.now) result at.new.left at.new.rest.now }
+    ensures stays { Stays arch.old arch.new result }
 {
     match family_of(instr) {
         Family::Arithmetic => {
             let (after, noted) = cet_alu::follow(arch, instr, next, at)?;
-            Ok(Finish::Noted(after, noted))
+            *arch = after;
+            Ok(Completed::Noted(noted))
         }
         Family::Flow => {
             let (after, noted) = cet_flow::follow(arch, instr, next, at)?;
-            Ok(Finish::Noted(after, noted))
+            *arch = after;
+            Ok(Completed::Noted(noted))
         }
         Family::SystemCall => syscall(job, arch, at),
         Family::Unbuilt => Err(invalid_opcode()),
@@ -45,18 +47,19 @@ fn execute(
 }
 
 /// The instruction that the code at RIP is.
-fn decoded(job: &Job, arch: &Arch, code: &Code, at: &mut Cursor) -> Result<Finish, Stop>
-    requires count { arch.now.count < 2 ^ 32 - 1 }
-    requires made { IsMade arch.now.made }
-    requires code { IsCode job.now.image.segments arch.now.rip code.now }
-    ensures { Comes (play (fetched job.now arch.now (instruction_bytes job.now arch.now) (decoded (instruction_bytes job.now arch.now))) at.old.left at.old.rest.now) result at.new.left at.new.rest.now }
+fn decoded(job: &Job, arch: &mut Arch, code: &Code, at: &mut Cursor) -> Result<Completed, Stop>
+    requires count { arch.old.count < 2 ^ 32 - 1 }
+    requires made { IsMade arch.old.made }
+    requires code { IsCode job.now.image.segments arch.old.rip code.now }
+    ensures comes { ComesBy (finish_with arch.new) (play (fetched job.now arch.old (instruction_bytes job.now arch.old) (decoded (instruction_bytes job.now arch.old))) at.old.left at.old.rest.now) result at.new.left at.new.rest.now }
+    ensures stays { Stays arch.old arch.new result }
 {
     match &code.decoded {
         Decoded::Ok { instr, len } => {
             let next = arch.rip.wrapping_add(u64::from(*len));
             execute(job, arch, instr, next, at)
         }
-        Decoded::Short => missing(arch.rip + u64::from(code.fetched), at),
+        Decoded::Short => Err(missing(arch.rip + u64::from(code.fetched), at)),
         Decoded::Unknown => Err(invalid_opcode()),
     }
 }
@@ -65,45 +68,49 @@ fn decoded(job: &Job, arch: &Arch, code: &Code, at: &mut Cursor) -> Result<Finis
 #[tactic(auto, unfolding(cet_page::specs::Row::instruction))]
 fn instruction(
     job: &Job,
-    arch: &Arch,
+    arch: &mut Arch,
     code: &mut Option<Code>,
     at: &mut Cursor,
-) -> Result<Finish, Stop>
-    requires count { arch.now.count < 2 ^ 32 - 1 }
-    requires made { IsMade arch.now.made }
-    requires code { IfSome code.old (IsCode job.now.image.segments arch.now.rip) }
-    ensures comes { Comes (play (instruction job.now arch.now) at.old.left at.old.rest.now) result at.new.left at.new.rest.now }
-    ensures code { IfSome code.new (IsCode job.now.image.segments arch.now.rip) }
+) -> Result<Completed, Stop>
+    requires count { arch.old.count < 2 ^ 32 - 1 }
+    requires made { IsMade arch.old.made }
+    requires code { IfSome code.old (IsCode job.now.image.segments arch.old.rip) }
+    ensures comes { ComesBy (finish_with arch.new) (play (instruction job.now arch.old) at.old.left at.old.rest.now) result at.new.left at.new.rest.now }
+    ensures stays { Stays arch.old arch.new result }
+    ensures code { IfSome code.new (IsCode job.now.image.segments arch.old.rip) }
 {
     if !is_canonical(arch.rip) {
         return Err(general_protection());
     }
-    let here = match *code {
-        Some(here) => here,
-        None => code_at(job.image, arch.rip),
-    };
-    *code = Some(here);
-    decoded(job, arch, &here, at)
+    match code {
+        Some(here) => decoded(job, arch, here, at),
+        None => {
+            let here = code_at(job.image, arch.rip);
+            *code = Some(here);
+            decoded(job, arch, &here, at)
+        }
+    }
 }
 
 /// What a thread does between instructions, and then the instruction.
 #[tactic(auto, using(cet_page::proofs::ScriptLaws::play_bind), unfolding(cet_page::specs::Row::boundary))]
 fn boundary(
     job: &Job,
-    arch: &Arch,
+    arch: &mut Arch,
     code: &mut Option<Code>,
     at: &mut Cursor,
-) -> Result<Finish, Stop>
-    requires count { arch.now.count < 2 ^ 32 - 1 }
-    requires made { IsMade arch.now.made }
-    requires number { arch.now.number < 32 }
-    requires code { IfSome code.old (IsCode job.now.image.segments arch.now.rip) }
-    ensures comes { Comes (play (boundary job.now arch.now) at.old.left at.old.rest.now) result at.new.left at.new.rest.now }
-    ensures code { IfSome code.new (IsCode job.now.image.segments arch.now.rip) }
+) -> Result<Completed, Stop>
+    requires count { arch.old.count < 2 ^ 32 - 1 }
+    requires made { IsMade arch.old.made }
+    requires number { arch.old.number < 32 }
+    requires code { IfSome code.old (IsCode job.now.image.segments arch.old.rip) }
+    ensures comes { ComesBy (finish_with arch.new) (play (boundary job.now arch.old) at.old.left at.old.rest.now) result at.new.left at.new.rest.now }
+    ensures stays { Stays arch.old arch.new result }
+    ensures code { IfSome code.new (IsCode job.now.image.segments arch.old.rip) }
 {
     let ending = at.load(EXIT_WORD)?;
     if ending != 0 {
-        return Ok(Finish::Stopped);
+        return Ok(Completed::Stopped);
     }
     at.load(pend_word(arch.number))?;
     instruction(job, arch, code, at)
@@ -111,16 +118,22 @@ fn boundary(
 
 /// The row of a thread in this state, as far as the cursor's accesses lead. It keeps the code at RIP,
 /// once that is read.
-pub fn row(job: &Job, arch: &Arch, code: &mut Option<Code>, at: &mut Cursor) -> Result<Finish, Stop>
-    requires count { arch.now.count < 2 ^ 32 - 1 }
-    requires made { IsMade arch.now.made }
-    requires number { arch.now.number < 32 }
-    requires code { IfSome code.old (IsCode job.now.image.segments arch.now.rip) }
-    ensures comes { Comes (play (row job.now arch.now) at.old.left at.old.rest.now) result at.new.left at.new.rest.now }
-    ensures code { IfSome code.new (IsCode job.now.image.segments arch.now.rip) }
+pub fn row(
+    job: &Job,
+    arch: &mut Arch,
+    code: &mut Option<Code>,
+    at: &mut Cursor,
+) -> Result<Completed, Stop>
+    requires count { arch.old.count < 2 ^ 32 - 1 }
+    requires made { IsMade arch.old.made }
+    requires number { arch.old.number < 32 }
+    requires code { IfSome code.old (IsCode job.now.image.segments arch.old.rip) }
+    ensures comes { ComesBy (finish_with arch.new) (play (row job.now arch.old) at.old.left at.old.rest.now) result at.new.left at.new.rest.now }
+    ensures stays { Stays arch.old arch.new result }
+    ensures code { IfSome code.new (IsCode job.now.image.segments arch.old.rip) }
 {
-    match &arch.due {
-        Some(fault) => deliver(job, arch, fault, at),
+    match arch.due {
+        Some(fault) => deliver(job, arch, &fault, at),
         None => boundary(job, arch, code, at),
     }
 }

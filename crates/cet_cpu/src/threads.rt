@@ -7,17 +7,18 @@ ghost use Rattle.cet_isa.specs.declared.threads.End.{End};
 ghost use Rattle.cet_isa.specs.declared.threads.FaultName.{FaultName};
 ghost use Rattle.cet_page.specs.Faults.{Faults};
 ghost use Rattle.cet_page.specs.Within.{IsCore};
-ghost use Rattle.cet_page.specs.Core.{come, core_at, first_core, child_core, next_access, taken, kept_by, recorded, fault_record};
+ghost use Rattle.cet_page.specs.Core.{come, core_at, first_core, child_core, next_access, taken, recorded, fault_record};
 ghost use Rattle.cet_page.specs.Plays.{held_by};
 ghost use Rattle.cet_page.specs.Finish.{IsMade};
 ghost use Rattle.cet_page.specs.Seen.{nothing_seen};
+ghost use Rattle.cet_cpu.specs.Code.{IsCode};
 ghost use Rattle.cet_cpu.specs.Cpu.{awaited, CameTo, CpuData, IsCpu, IsNext, KeepsCode};
 
 use crate::fetches::Code;
-use crate::gate::{R11, RAX, RCX, SYSCALL_LENGTH};
+use crate::gate::{Completed, R11, RAX, RCX, SYSCALL_LENGTH};
 use crate::rows::row;
 use cet_isa::{Arch, End, Fault, Record, What};
-use cet_page::{Finish, Mark, Stop, Vals};
+use cet_page::{Mark, Stop, Vals};
 use cet_words::{Access, FIRST_REGION_END, FIRST_REGION_START, Job, token};
 use std::marker::Model;
 
@@ -216,9 +217,11 @@ impl Cpu {
         ensures child { option_map (λ (child : CpuData). child.core) result ≡ (taken job.now self.now.core answer).child }
         ensures born { IfSome result (IsCpu job.now) }
     {
-        let mut child = self.unborn(job, answer)?;
-        child.wait(job);
-        Some(child)
+        let mut child = self.unborn(job, answer);
+        if let Some(cpu) = &mut child {
+            cpu.wait(job);
+        }
+        child
     }
 
     /// The same before it waits.
@@ -256,21 +259,23 @@ impl Cpu {
         }
     }
 
-    /// What the thread's row comes to after the accesses so far.
-    fn play(&mut self, job: &Job) -> Result<Finish, Stop>
+    /// What the thread's row comes to after the accesses so far. Where it is over, the state is the one after
+    /// it, but for the thread's number and the supervisor stack that it holds.
+    fn play(&mut self, job: &Job) -> Result<Completed, Stop>
         requires count { self.old.core.arch.count < 2 ^ 32 - 1 }
         requires made { IsMade self.old.core.arch.made }
         requires number { self.old.core.arch.number < 32 }
         requires code { KeepsCode job.now self.old }
-        ensures came { CameTo (come job.now self.old.core.arch self.old.core.seen) result }
-        ensures core { self.new.core ≡ self.old.core }
+        ensures came { CameTo (come job.now self.old.core.arch self.old.core.seen) self.old.core.arch self.new.core.arch result }
+        ensures core { self.new.core ≡ record self.old.core { arch = self.new.core.arch } }
         ensures waits { self.new.next ≡ self.old.next }
-        ensures code { KeepsCode job.now self.new }
+        ensures code { IfSome self.new.code (IsCode job.now.image.segments self.old.core.arch.rip) }
     {
         // Nothing within a row depends on the supervisor stack that is held.
-        let held = self.arch.held;
+        let (number, held) = (self.arch.number, self.arch.held);
         self.arch.held = None;
-        let came = row(job, &self.arch, &mut self.code, &mut self.vals.start());
+        let came = row(job, &mut self.arch, &mut self.code, &mut self.vals.start());
+        self.arch.number = number;
         self.arch.held = held;
         came
     }
@@ -302,36 +307,23 @@ impl Cpu {
                 self.settle(job);
                 Some(noted)
             }
-            Ok(Finish::Noted(next, noted)) => {
-                self.enter(&next);
+            Ok(Completed::Noted(noted)) => {
                 self.settle(job);
                 Some(noted)
             }
-            Ok(Finish::Posted(next)) => {
-                self.enter(&next);
+            Ok(Completed::Posted) => {
                 self.begin(None);
                 None
             }
-            Ok(Finish::Exited(next, noted, status)) => {
-                self.enter(&next);
+            Ok(Completed::Exited(noted, status)) => {
                 self.begin(Some(End::Exit(status)));
                 Some(noted)
             }
-            Ok(Finish::Stopped) => {
+            Ok(Completed::Stopped) => {
                 self.begin(Some(End::Group));
                 None
             }
         }
-    }
-
-    /// The thread in another state, but for its number and the supervisor stack that it holds.
-    fn enter(&mut self, next: &Arch)
-        ensures { self.new.core ≡ record self.old.core { arch = kept_by self.old.core.arch self.old.core.arch.held next.now } }
-    {
-        let (number, held) = (self.arch.number, self.arch.held);
-        self.arch = *next;
-        self.arch.number = number;
-        self.arch.held = held;
     }
 
     /// The thread after a record, which may bring it to its limit.

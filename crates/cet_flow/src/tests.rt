@@ -1,9 +1,10 @@
-//! Accesses, records and faults of calls, returns, pushes, pops and jumps, written out.
+//! Accesses, records and faults of calls, returns, pushes, pops and jumps, written out. The comparison with the
+//! processor (tools/cosim) has the conditions of jumps.
 
 ghost use Rattle.std.specs.Prelude.{◌<◌, ◌-◌, ◌^◌, ◌≤◌, length};
 
 use super::*;
-use cet_isa::{Arch, Base, Cond, Fault, FaultName, Instr, Mem, Operand, Record, Reg, What};
+use cet_isa::{Arch, Base, Fault, FaultName, Instr, Mem, Operand, Record, Reg, What};
 use cet_page::{Cursor, Mark, Next, Stop, Vals};
 use cet_words::{Access, Bytes, Image, Job, NoMemory, Segment, Segments};
 use std::alloc::Global;
@@ -221,155 +222,6 @@ fn accesses_and_records(rt: HostRuntime) {
         let came = accesses(&rt, &thread(), &instr, answers, wanted);
         let came = came.map(|(arch, noted)| (noted, arch.rip, arch.regs[4]));
         assert_eq!(rt; came, want, "{instr:?}");
-    }
-}
-
-/// RFLAGS, and the conditions that hold under it, by the table of the manual.
-const CONDITIONS: [(u64, [Cond; 8]); 8] = [
-    (
-        0x2,
-        [
-            Cond::No,
-            Cond::Ae,
-            Cond::Ne,
-            Cond::A,
-            Cond::Ns,
-            Cond::Np,
-            Cond::Ge,
-            Cond::G,
-        ],
-    ),
-    (
-        0x3,
-        [
-            Cond::No,
-            Cond::B,
-            Cond::Ne,
-            Cond::Be,
-            Cond::Ns,
-            Cond::Np,
-            Cond::Ge,
-            Cond::G,
-        ],
-    ),
-    (
-        0x6,
-        [
-            Cond::No,
-            Cond::Ae,
-            Cond::Ne,
-            Cond::A,
-            Cond::Ns,
-            Cond::P,
-            Cond::Ge,
-            Cond::G,
-        ],
-    ),
-    (
-        0x42,
-        [
-            Cond::No,
-            Cond::Ae,
-            Cond::E,
-            Cond::Be,
-            Cond::Ns,
-            Cond::Np,
-            Cond::Ge,
-            Cond::Le,
-        ],
-    ),
-    (
-        0x82,
-        [
-            Cond::No,
-            Cond::Ae,
-            Cond::Ne,
-            Cond::A,
-            Cond::S,
-            Cond::Np,
-            Cond::L,
-            Cond::Le,
-        ],
-    ),
-    (
-        0x802,
-        [
-            Cond::O,
-            Cond::Ae,
-            Cond::Ne,
-            Cond::A,
-            Cond::Ns,
-            Cond::Np,
-            Cond::L,
-            Cond::Le,
-        ],
-    ),
-    (
-        0x882,
-        [
-            Cond::O,
-            Cond::Ae,
-            Cond::Ne,
-            Cond::A,
-            Cond::S,
-            Cond::Np,
-            Cond::Ge,
-            Cond::G,
-        ],
-    ),
-    (
-        0x8c7,
-        [
-            Cond::O,
-            Cond::B,
-            Cond::E,
-            Cond::Be,
-            Cond::S,
-            Cond::P,
-            Cond::Ge,
-            Cond::Le,
-        ],
-    ),
-];
-
-const ALL: [Cond; 16] = [
-    Cond::O,
-    Cond::No,
-    Cond::B,
-    Cond::Ae,
-    Cond::E,
-    Cond::Ne,
-    Cond::Be,
-    Cond::A,
-    Cond::S,
-    Cond::Ns,
-    Cond::P,
-    Cond::Np,
-    Cond::L,
-    Cond::Ge,
-    Cond::Le,
-    Cond::G,
-];
-
-#[test]
-fn conditional_jumps(rt: HostRuntime) {
-    for (flags, holding) in CONDITIONS {
-        for cond in ALL {
-            let mut arch = thread();
-            arch.flags = flags;
-            let done = accesses(&rt, &arch, &Instr::Jcc { cond, disp: 0x10 }, &[], &[]);
-            let (after, noted) = done.expect(&rt, "no result");
-            let rip = if holding.contains(&cond) {
-                0x40_1013
-            } else {
-                0x40_1003
-            };
-            assert_eq!(rt;
-                (after.rip, noted.a, noted.b),
-                (rip, rip, flags),
-                "{cond:?} {flags:x}"
-            );
-        }
     }
 }
 

@@ -1,9 +1,17 @@
 -- What the parts of a script come to, one by one. Source: own.
 use Rattle.std.proofs.Common.{zero, suc, arith, ap, ◌∙◌, mul-suc}
-use Rattle.std.specs.Prelude.{◌≡◌, ℕ, ◌+◌, ◌-◌, ◌*◌, ◌<◌, ◌≤◌, List}
+use Rattle.std.specs.Prelude.{◌≡◌, ℕ, ◌+◌, ◌-◌, ◌*◌, ◌<◌, ◌≤◌, List, [], ◌∷◌, length, slice_index, Option, Some, None, Result, Ok, Err}
 use Rattle.cet_words.specs.declared.accesses.Access.TheVariants as access
+use Rattle.cet_words.specs.Change.{Change}
+use Rattle.cet_words.specs.Layout.{page_at}
+use Rattle.cet_page.specs.Plays.{Comes, Marks}
+use Rattle.cet_page.specs.declared.checks.Kind.{Kind}
+use Rattle.cet_page.specs.declared.checks.Who.{Who}
+use Rattle.cet_page.specs.declared.cursors.Mark.TheVariants as marks
+use Rattle.cet_page.specs.declared.cursors.Stop.{Stop}
+use Rattle.cet_page.specs.declared.cursors.Stop.TheVariants as stop
 use Rattle.cet_page.specs.Script.{play, silent, Came, Over, Wants}
-use Rattle.cet_page.specs.Parts.{stores}
+use Rattle.cet_page.specs.Parts.{stores, store_each, look, look_as, look_in_as}
 
 abbrev pub wants_store : (word value : ℕ) → Came (Unit {0})
 wants_store word value = Wants (access.Store word value) silent
@@ -33,3 +41,43 @@ play_stores_wants (suc count) word value step (suc n) values l =
     let v : value + step + step * n ≡ value + step * suc n = omega (arith, mul-suc step n) in
     play_stores_wants count (word + 1) (value + step) step n values (omega arith)
     ∙ ap (λ k. wants_store k (value + step + step * n)) w ∙ ap (λ k. wants_store (word + suc n) k) v
+
+-- the stores of a list that are over
+pub play_each_over : (word : ℕ) (stored_values : List ℕ) (n : ℕ) (values : List ℕ) → length stored_values ≤ n → play (store_each word stored_values) n values ≡ stored (n - length stored_values) values
+unfolding store_each
+play_each_over word [] n values l = ap (λ k. stored k values) (omega arith)
+play_each_over word (value ∷ rest) zero values l = absurd (omega arith)
+play_each_over word (value ∷ rest) (suc n) values l =
+    let k : n - length rest ≡ suc n - suc (length rest) = omega arith in
+    play_each_over (word + 1) rest n values (omega arith) ∙ ap (λ k. stored k values) k
+
+-- those that aren't go on with the value whose index is the number of accesses
+pub play_each_wants : (word : ℕ) (stored_values : List ℕ) (n : ℕ) (values : List ℕ) → n < length stored_values → play (store_each word stored_values) n values ≡ wants_store (word + n) (slice_index stored_values n)
+unfolding store_each
+play_each_wants word [] n values l = absurd (omega arith)
+play_each_wants word (value ∷ rest) zero values l =
+    let w : word ≡ word + 0 = omega arith in
+    ap (λ k. wants_store k value) w
+play_each_wants word (value ∷ rest) (suc n) values l =
+    let w : word + 1 + n ≡ word + suc n = omega arith in
+    play_each_wants (word + 1) rest n values (omega arith) ∙ ap (λ k. wants_store k (slice_index rest n)) w
+
+-- a look that comes to something without changes comes to the same with changes that its mark needn't tell
+look_in_changes : (changes : ℕ → List Change) (at : Option ℕ) (k : Kind) (w : Who) (addr : ℕ) (n : ℕ) (values : List ℕ) (result : Result ℕ Stop) (left : ℕ) (rest : List ℕ)
+    → Marks marks.Plain changes → Comes (play (look_in_as silent at k w addr) n values) result left rest
+    → Comes (play (look_in_as changes at k w addr) n values) result left rest
+unfolding look_in_as
+look_in_changes changes None k w addr n values result left rest m h = h
+look_in_changes changes (Some page) k w addr zero values (Ok x) left rest m h = cc
+look_in_changes changes (Some page) k w addr zero values (Err (stop.Access a mark)) left rest m h = (h.0, ((λ answer held. m.0 answer held ∙ h.1.0 answer held), (λ answer. m.1 answer ∙ h.1.1 answer)), h.2)
+look_in_changes changes (Some page) k w addr zero values (Err (stop.Fault e)) left rest m h = cc
+look_in_changes changes (Some page) k w addr (suc n) [] (Ok x) left rest m h = cc
+look_in_changes changes (Some page) k w addr (suc n) [] (Err (stop.Access a mark)) left rest m h = (h.0, ((λ answer held. m.0 answer held ∙ h.1.0 answer held), (λ answer. m.1 answer ∙ h.1.1 answer)), h.2)
+look_in_changes changes (Some page) k w addr (suc n) [] (Err (stop.Fault e)) left rest m h = cc
+look_in_changes changes (Some page) k w addr (suc n) (value ∷ values) result left rest m h = h
+
+pub look_changes : (changes : ℕ → List Change) (w : Who) (k : Kind) (addr : ℕ) (n : ℕ) (values : List ℕ) (result : Result ℕ Stop) (left : ℕ) (rest : List ℕ)
+    → Marks marks.Plain changes → Comes (play (look w k addr) n values) result left rest
+    → Comes (play (look_as changes w k addr) n values) result left rest
+unfolding look_as
+look_changes changes w k addr n values result left rest m h = look_in_changes changes (page_at addr) k w addr n values result left rest m h

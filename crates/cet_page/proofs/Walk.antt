@@ -17,7 +17,7 @@ use Rattle.cet_isa.specs.declared.threads.Fault.{Fault}
 use Rattle.cet_page.specs.Script.{Script, done, fault, ask, tell, ◌>>=◌, Came, Over, Faulted, Wants, play, birth, held_after}
 use Rattle.cet_page.specs.Seen.{keeps, kept_after}
 use Rattle.cet_page.specs.Page.{allows, page_fault}
-use Rattle.cet_page.specs.Parts.{tested_as, look_in_as, look_as, probe_in, probe, peek, load_as, store_as, exchange_as, swap, fetch_add_as, stores, general_protection}
+use Rattle.cet_page.specs.Parts.{tested_as, look_in_as, look_as, probe_in, probe, peek, load_as, store_as, exchange_as, swap, fetch_add_as, stores, store_each, general_protection}
 use Rattle.cet_page.specs.Values.{limit, width}
 use Rattle.cet_page.specs.Finish.{IsMade}
 use Rattle.cet_page.specs.Gate.{gate_in, gate_out, freed}
@@ -239,11 +239,6 @@ module _ {A : Type 0} {used kept : ℕ} {wrote : Bool} {P : A → Type 0} (f : U
   -- a run of stores takes as many accesses as it has stores
   pub walk_stores : (count word value step : ℕ) → ((w : Bool) → Walk (used + count) kept w P (f tt)) → Walk used kept wrote P (stores count word value step >>= f)
   walk_stores count word value step h = record { walks = stores_walk used kept wrote P f count word value step (used + count) refl (λ w. (h w).walks) }
-
--- the stores of these values, to a word and those above it; no row has such a part yet
-unfoldable pub store_each : (word : ℕ) → List ℕ → Script (Unit {0})
-store_each word [] = done tt
-store_each word (value ∷ values) = tell word value [] (store_each (word + 1) values)
 
 each_walk : {A : Type 0} (used kept : ℕ) (wrote : Bool) (P : A → Type 0) (f : Unit {0} → Script A) (word : ℕ) (values : List ℕ) (all : ℕ) → used + length values ≡ all → ((w : Bool) → Walks all kept w P (f tt)) → Walks used kept wrote P (store_each word values >>= f)
 unfolding ◌>>=◌ store_each

@@ -3,6 +3,7 @@ pub mod Seen
 pub mod Page
 pub mod Parts
 pub mod Finish
+pub mod Tokens
 pub mod Flags
 pub mod Values
 pub mod Operands

@@ -103,3 +103,8 @@ fetch_and word value = ask (access.FetchAnd word value) silent done
 unfoldable pub stores : (count word value step : ℕ) → Script (Unit {0})
 stores zero word value step = done tt
 stores (suc count) word value step = tell word value [] (stores count (word + 1) (value + step) step)
+
+-- Stores of these values, the lowest first: to a word and to those above it.
+unfoldable pub store_each : (word : ℕ) → List ℕ → Script (Unit {0})
+store_each word [] = done tt
+store_each word (value ∷ values) = tell word value [] (store_each (word + 1) values)

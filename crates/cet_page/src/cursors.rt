@@ -1,11 +1,12 @@
 //! A place in a row, and the parts that rows are made of.
 
-ghost use Rattle.std.specs.Prelude.{◌≡◌, ◌+◌, ◌*◌, ◌/◌, ◌%◌, ◌^◌, ◌<◌, ◌≤◌, [], IfOk, IfSome, Some};
+ghost use Rattle.std.specs.Prelude.{◌≡◌, ◌+◌, ◌*◌, ◌/◌, ◌%◌, ◌^◌, ◌<◌, ◌≤◌, [], IfOk, IfSome, List, Some, length, ℕ};
 ghost use Rattle.cet_words.specs.Access.{InRange};
 ghost use Rattle.cet_words.specs.Layout.{word_in, page_count, word_count};
 ghost use Rattle.cet_page.specs.Script.{play, ask, tell, done, silent};
-ghost use Rattle.cet_page.specs.Plays.{Comes, Asks};
-ghost use Rattle.cet_page.specs.Parts.{general_protection, invalid_opcode, tested, tested_as, look, look_in_as, probe, probe_in, peek, load, store, stores, exchange, swap, fetch_add, fetch_or, fetch_and};
+ghost use Rattle.cet_page.specs.Plays.{Comes, Asks, Marks};
+ghost use Rattle.cet_words.specs.Change.{Change};
+ghost use Rattle.cet_page.specs.Parts.{general_protection, invalid_opcode, tested, tested_as, look, look_as, look_in_as, probe, probe_in, peek, load, store, stores, store_each, exchange, swap, fetch_add, fetch_or, fetch_and};
 
 use crate::checks::{Kind, Who, check, page_fault};
 use cet_isa::{Fault, FaultName, is_canonical};
@@ -183,6 +184,21 @@ impl<'a> Cursor<'a> {
         ))
     }
 
+    /// Stores of these values, the lowest first: to a word and to those above it. They are passed over at once.
+    #[tactic(auto, using(crate::proofs::PartLaws::play_each_over, crate::proofs::PartLaws::play_each_wants))]
+    pub fn store_each(&mut self, word: u32, values: &[u64]) -> Result<(), Stop>
+        requires { word + length values.now ≤ word_count }
+        ensures { Comes (play (store_each word values.now) self.old.left self.old.rest.now) result self.new.left self.new.rest.now }
+    {
+        let count = values.len() as u32;
+        if self.left >= count {
+            self.left -= count;
+            return Ok(());
+        }
+        let at = self.left;
+        Err(Stop::Access(Access::Store(word + at, values[at as usize]), Mark::Plain))
+    }
+
     /// The look at a page of which no test is made.
     #[tactic(auto, unfolding(crate::specs::Parts::peek))]
     pub fn peek(&mut self, page: u32) -> Result<u64, Stop>
@@ -234,6 +250,15 @@ impl<'a> Cursor<'a> {
             return Err(Stop::Fault(page_fault(0, kind, who, addr)));
         };
         self.look_in(page, who, kind, addr)
+    }
+
+    /// The same look, where it has changes that its mark needn't tell.
+    #[tactic(auto, using(crate::proofs::PartLaws::look_changes))]
+    pub fn look_as(&mut self, who: Who, kind: Kind, addr: u64) -> Result<u32, Stop>
+        ensures comes { (changes : ℕ → List Change) → Marks Mark.Plain changes → Comes (play (look_as changes who kind addr) self.old.left self.old.rest.now) result self.new.left self.new.rest.now }
+        ensures range { IfOk result (λ page. page < page_count) }
+    {
+        self.look(who, kind, addr)
     }
 
     #[tactic(auto, using(crate::proofs::ScriptLaws::play_bind), unfolding(crate::specs::Parts::look_in_as))]

@@ -17,6 +17,7 @@ mod nexts;
 mod operands;
 #[cfg(test)]
 mod tests;
+mod tokens;
 mod vals;
 
 pub use checks::{Kind, Who, check, index_of, page_fault};
@@ -30,5 +31,9 @@ pub use nexts::Next;
 pub use operands::{
     assigned, compared, effective, register, register_of, settled, stepped, truncated,
     with_register,
+};
+pub use tokens::{
+    frame_ssp, frame_word, is_frame_word, is_previous_token, previous_ssp, previous_token,
+    restore_token, restore_token_at, saved_at,
 };
 pub use vals::Vals;

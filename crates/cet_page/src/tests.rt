@@ -1,7 +1,10 @@
 //! The page check by the codes of the manual; what a row keeps.
 
-use crate::{Kind, Vals, Who, check, index_of};
-use cet_isa::FaultName;
+use crate::{
+    Cursor, Kind, Mark, Stop, Vals, Who, check, frame_ssp, frame_word, index_of, is_frame_word,
+    is_previous_token, previous_ssp, previous_token, restore_token, restore_token_at, saved_at,
+};
+use cet_isa::{Fault, FaultName};
 use cet_words::Access;
 use std::test::Fail;
 
@@ -77,6 +80,113 @@ fn indices_and_values(rt: HostRuntime) {
     vals.add(Access::Look(1), 42);
     assert_eq!(rt; (vals.done(), vals.count()), (3, 2));
     assert_eq!(rt; (vals.value(0), vals.value(1)), (40, 42));
+}
+
+/// After so many accesses the stores of three values want the next value, and after three they are over.
+#[test]
+fn stores_of_a_list(rt: HostRuntime) {
+    let values = [70, 80, 90];
+    let mut vals = Vals::new();
+    let wanted = |word, value| Err(Stop::Access(Access::Store(word, value), Mark::Plain));
+    assert_eq!(rt; vals.start().store_each(512, &values), wanted(512, 70));
+    vals.add(Access::Store(512, 70), 0);
+    assert_eq!(rt; vals.start().store_each(512, &values), wanted(513, 80));
+    vals.add(Access::Store(513, 80), 0);
+    assert_eq!(rt; vals.start().store_each(512, &values), wanted(514, 90));
+    vals.add(Access::Store(514, 90), 0);
+    vals.add(Access::Load(7), 40);
+    let mut at = vals.start();
+    assert_eq!(rt; at.store_each(512, &values), Ok(()));
+    assert_eq!(rt; at.load(7), Ok(40));
+    assert_eq!(rt; at.left, 0);
+}
+
+/// By hand: 0x200008ff0 is a multiple of 8, 0x200008ffd isn't, and the others are at the ends of the range.
+#[test]
+fn tokens_of_any_pointer(rt: HostRuntime) {
+    assert_eq!(rt; restore_token(0x2_0000_8ff0), 0x2_0000_8ff1);
+    assert_eq!(rt; restore_token(0x2_0000_8ffd), 0x2_0000_8ffd);
+    assert_eq!(rt; restore_token_at(0x2_0000_8fe8), 0x2_0000_8ff1);
+    assert_eq!(rt; restore_token_at(0xffff_ffff_ffff_fff8), 1);
+    assert_eq!(rt; previous_token(0x2_0000_8ff0), 0x2_0000_8ff3);
+    assert_eq!(rt; previous_token(0x2_0000_8ffd), 0x2_0000_8fff);
+    assert_eq!(rt;
+        (
+            is_previous_token(0x2_0000_8ff3),
+            is_previous_token(0x2_0000_8ff1)
+        ),
+        (true, false)
+    );
+    assert_eq!(rt;
+        (previous_ssp(0x2_0000_8ff3), previous_ssp(0x2_0000_8fff)),
+        (0x2_0000_8ff0, 0x2_0000_8ffc)
+    );
+    assert_eq!(rt;
+        (saved_at(0x2_0000_8ff0), saved_at(0x2_0000_8ffc)),
+        (0x2_0000_8fe8, 0x2_0000_8ff0)
+    );
+    assert_eq!(rt;
+        (saved_at(0), saved_at(4)),
+        (0xffff_ffff_ffff_fff8, 0xffff_ffff_ffff_fff8)
+    );
+    assert_eq!(rt; frame_word(0x2_0000_8ff0), 0x8000_0002_0000_8ff0);
+    assert_eq!(rt; frame_word(0xffff_8000_0000_0000), 0xffff_8000_0000_0000);
+    assert_eq!(rt;
+        (is_frame_word(1 << 63), is_frame_word((1 << 63) - 1)),
+        (true, false)
+    );
+    assert_eq!(rt; frame_ssp(0x8000_0002_0000_8ff0), 0x2_0000_8ff0);
+}
+
+/// The place after one access that was answered so.
+fn after(rest: &[u64; 1]) -> Cursor<'_> {
+    Cursor { left: 1, rest }
+}
+
+fn fault<T>(name: FaultName, code: u32, a: u64, b: u64) -> Result<T, Stop> {
+    Err(Stop::Fault(Fault { name, code, a, b }))
+}
+
+/// The last page of the first shadow stack as one, and with R/W; an address on no page is looked at without an access.
+#[test]
+fn looks_and_tests(rt: HostRuntime) {
+    let top = 0x2_0000_8ff8;
+    let nowhere = 0x7000_0000_0000;
+    let entry = [0x8000_0000_0094_8065];
+    let writable = [0x8000_0000_0094_8067];
+    let (who, kind) = (Who::User, Kind::ShadowStore);
+    let vals = Vals::new();
+    let mut before = vals.start();
+    let wanted = Stop::Access(Access::Look(2120), Mark::Plain);
+    assert_eq!(rt; before.probe(who, kind, top), Err(wanted));
+    assert_eq!(rt; before.look_as(who, kind, top), Err(wanted));
+    assert_eq!(rt; before.probe(who, kind, nowhere), Ok(None));
+    assert_eq!(rt; after(&entry).probe(who, kind, top), Ok(Some(2120)));
+    assert_eq!(rt; after(&entry).look_as(who, kind, top), Ok(2120));
+    assert_eq!(rt; after(&writable).probe(who, kind, top), Ok(None));
+    assert_eq!(rt;
+        after(&writable).look_as(who, kind, top),
+        fault(FaultName::Pf, 71, top, writable[0])
+    );
+
+    assert_eq!(rt; before.tested(top, 8), Ok(()));
+    assert_eq!(rt;
+        before.tested(top + 4, 8),
+        fault(FaultName::Ac, 0, top + 4, 0)
+    );
+    assert_eq!(rt; before.tested_gp(top, 8), Ok(()));
+    assert_eq!(rt; before.tested_gp(top + 4, 8), fault(FaultName::Gp, 0, 0, 0));
+    assert_eq!(rt;
+        before.tested_gp(0x8000_0000_0000, 8),
+        fault(FaultName::Gp, 0, 0, 0)
+    );
+
+    let wanted = Stop::Access(Access::FetchOr(1_605_664, 1), Mark::Plain);
+    assert_eq!(rt; before.fetch_or(1_605_664, 1), Err(wanted));
+    assert_eq!(rt; after(&[6]).fetch_or(1_605_664, 1), Ok(6));
+    let wanted = Stop::Access(Access::FetchAnd(1_605_664, 5), Mark::Plain);
+    assert_eq!(rt; before.fetch_and(1_605_664, 5), Err(wanted));
+    assert_eq!(rt; after(&[6]).fetch_and(1_605_664, 5), Ok(6));
 }
 
 fn is_sent<T: Send>() {}
