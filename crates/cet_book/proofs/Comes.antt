@@ -138,8 +138,8 @@ edit_comes t y c b next (raises m n o is) none apart =
 edit_comes t y c b next (acquires m p q e k is) none apart =
     subst (Comes y b) is (acquire_comes k y (apart_other c apart (λ z. subst TakesNothing e z)))
 edit_comes t y c b next (appends r a is) none apart = subst (Comes y b) is (append_comes a y)
-edit_comes t y c b next (seeds_region s n m is) none apart = subst (Comes y b) is (hand_comes (seeds m n) y (λ z. z))
-edit_comes t y c b next (bears_child s child start e m few is) none apart =
+edit_comes t y c b next (seeds_region s n start e at m is) none apart = subst (Comes y b) is (hand_comes (seeds m n) y (λ z. z))
+edit_comes t y c b next (bears_child s child start e at m few is) none apart =
     subst (Comes y b) is (hand_comes (bears m child) y (subst (λ x. NotBorn x y) e none))
 edit_comes t y c b next (ends_region m o is) none apart = subst (Comes y b) is (hand_comes (ends o) y (λ z. z))
 edit_comes t y c b next (busies k e inside free is) none apart =
@@ -181,7 +181,7 @@ pub record Lasts (b next : Book) : Type 0 where
   pub start : (i : ℕ) → i < length b.regions → (region next i).start ≡ (region b i).start
   pub end : (i : ℕ) → i < length b.regions → (region next i).end ≡ (region b i).end
 
-change_lasts : (t : ℕ) (c : Change) (b next : Book) → IsBook b → book_after t b c ≡ Some next → Lasts b next
+pub change_lasts : (t : ℕ) (c : Change) (b next : Book) → IsBook b → book_after t b c ≡ Some next → Lasts b next
 change_lasts t c b next h e =
     let others = change_comes t (t + child_of c + 1) c b next h e (bystander t c) (inl (λ z. omega arith)) in
     record { grows = others.grows; start = others.start; end = others.end }

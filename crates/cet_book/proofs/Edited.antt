@@ -1,18 +1,20 @@
 -- What a change makes of a book: one of ten edits, by which every later law on changes goes. Source: own.
 use Rattle.std.proofs.Common.{◌≡◌, ℕ, ◌+◌, ◌<◌, ◌≤◌, Bool, true, ◌&&◌, List, [], ◌∷◌, length, replicate, Option, Some, None, refl, arith}
-use Rattle.std.specs.Prelude.{nat_lt, nat_le, if◌then◌else◌}
+use Rattle.std.specs.Prelude.{◌==◌, nat_lt, nat_le, if◌then◌else◌}
+use Rattle.std.proofs.lemmas.Bool.{eqb-true}
 use Rattle.std.proofs.lemmas.Bool.Decides.{nat_tests}
+use Rattle.std.proofs.lemmas.List.Sums.{passes_at_first}
 use Rattle.cet_words.specs.Change.{Change, Called, Returned, Raised, Acquired, Released, Claimed, Seeded, Born, Pushed, Popped, Ended, Busied, Freed}
 use Rattle.cet_book.specs.declared.entries.Entry.{Entry}
 use Rattle.cet_book.specs.declared.entries.Entry.TheVariants.{Call, Restorer, Frame, Previous, Blank}
 use Rattle.cet_book.specs.declared.entries.Holder.{Holder}
 use Rattle.cet_book.specs.declared.entries.Holder.TheVariants.{Current, Parked, Lost}
-use Rattle.cet_book.specs.Book.{Region, Book, region, capacity, is_maker, current_of, parked_at, starting_at, held_by, stack_of, put_stack, holds_stack, is_free, with_current, relist, unlink, acquire, called, returned, raised, acquired, released, claim, can_claim, pushed, popped, ended, book_after}
+use Rattle.cet_book.specs.Book.{Region, Book, nowhere, region, capacity, is_maker, current_of, parked_at, starting_at, held_by, stack_of, put_stack, holds_stack, is_free, with_current, relist, unlink, acquire, called, returned, raised, acquired, released, claim, can_claim, pushed, popped, ended, book_after}
 use Rattle.cet_book.specs.Shape.{Shape, IsBook}
 use Rattle.cet_book.proofs.Edits.{Owned, owned}
 use Rattle.cet_book.proofs.Unlink.{Gone, lost, parked, Linked}
 use Rattle.cet_book.proofs.Acquire.{parked_at_holds, Takes}
-use Rattle.cet_book.proofs.Hand.{hand, Made}
+use Rattle.cet_book.proofs.Hand.{hand, Made, made_there}
 use Rattle.cet_book.proofs.Append.{append, Appends}
 use Rattle.cet_book.proofs.Removes.{Removal, plain, linked, returned_is}
 use Rattle.cet_book.proofs.Kept.{claims}
@@ -31,9 +33,9 @@ pub data Edited (t : ℕ) (c : Change) (b next : Book) : Type 0 where
   -- there is one region more
   appends : (r : Region) → Appends r b → append r b ≡ next → Edited t c b next
   -- a region that was being made is parked
-  seeds_region : (s n : ℕ) → Made t s b → hand s (replicate n Blank) Parked b ≡ next → Edited t c b next
+  seeds_region : (s n start : ℕ) → c ≡ Seeded start n → (region b s).start ≡ start → Made t s b → hand s (replicate n Blank) Parked b ≡ next → Edited t c b next
   -- or it comes to a child, which had none
-  bears_child : (s child start : ℕ) → c ≡ Born child start → Made t s b → length b.regions ≤ current_of child b → hand s (region b s).entries (Current child) b ≡ next → Edited t c b next
+  bears_child : (s child start : ℕ) → c ≡ Born child start → (region b s).start ≡ start → Made t s b → length b.regions ≤ current_of child b → hand s (region b s).entries (Current child) b ≡ next → Edited t c b next
   -- the thread's region is lost
   ends_region : (m : ℕ) → Owned t m b → hand m (region b m).entries Lost b ≡ next → Edited t c b next
   -- a supervisor stack gets a holder that had none, or loses its holder
@@ -62,6 +64,11 @@ released_edited {m = m} {b = b} {next = next} (Previous s ∷ es) o list e =
     let gone : Gone Parked = parked refl in
     unlinks m s es Parked (record { owned = o; entries = list }) gone (let d = test.1 in cc)
 released_edited (Blank ∷ es) o list e = cc
+
+-- the region that was found starts there
+started : (start : ℕ) (b : Book) → starting_at start b < length b.regions → (region b (starting_at start b)).start ≡ start
+unfolding starting_at
+started start b inside = eqb-true _ start (passes_at_first (λ (r : Region). r.start == start) b.regions nowhere inside)
 
 -- the region that thread t is making
 made_by : (t s : ℕ) (b next : Book) (test : Bool) (o : Option Book) → Shape b → (if is_maker t (region b s).holder && test then o else None) ≡ Some next → Made t s b × (test ≡ true) × (o ≡ Some next)
@@ -103,14 +110,14 @@ module _ (t : ℕ) (b next : Book) (h : IsBook b) where
   seeded_edited start n e =
       let s = starting_at start b in
       let made = made_by t s b next (nat_lt n (capacity (region b s))) _ h.shape e in
-      seeds_region s n made.0 (let d = made.2 in cc)
+      seeds_region s n start refl (started start b (made_there made.0)) made.0 (let d = made.2 in cc)
 
   born_edited : (child start : ℕ) → book_after t b (Born child start) ≡ Some next → Edited t (Born child start) b next
   born_edited child start e =
       let s = starting_at start b in
       let made = made_by t s b next (nat_le (length b.regions) (current_of child b)) _ h.shape e in
       let passed : nat_le (length b.regions) (current_of child b) ≡ true = made.1 in
-      bears_child s child start refl made.0 (grind (arith, nat_tests)) (let d = made.2 in cc)
+      bears_child s child start refl (started start b (made_there made.0)) made.0 (grind (arith, nat_tests)) (let d = made.2 in cc)
 
   pub busied_is : (k : ℕ) → book_after t b (Busied k) ≡ Some next → (k < length b.stacks) × ((j : ℕ) → stack_of b j ≡ Some t → ⊥) × (put_stack b k (Some t) ≡ next)
   busied_is k e =

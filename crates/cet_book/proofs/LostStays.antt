@@ -44,8 +44,8 @@ edit_keeps t i c b next l f (raises m n o is) =
 edit_keeps t i c b next l f (acquires m p q e k is) =
     subst (λ n. region n i ≡ region b i) is (acquire_other k i (other_than b i f q Parked k.parked (λ z. cc)) (other_own b i f k.owned))
 edit_keeps t i c b next l f (appends r a is) = subst (λ n. region n i ≡ region b i) is (append_old a i (omega arith))
-edit_keeps t i c b next l f (seeds_region s n m is) = subst (λ n. region n i ≡ region b i) is (hand_other (seeds m n) i (other_than b i f s (Maker t) m.maker (λ z. cc)))
-edit_keeps t i c b next l f (bears_child s child start e m few is) = subst (λ n. region n i ≡ region b i) is (hand_other (bears m child) i (other_than b i f s (Maker t) m.maker (λ z. cc)))
+edit_keeps t i c b next l f (seeds_region s n start e at m is) = subst (λ n. region n i ≡ region b i) is (hand_other (seeds m n) i (other_than b i f s (Maker t) m.maker (λ z. cc)))
+edit_keeps t i c b next l f (bears_child s child start e at m few is) = subst (λ n. region n i ≡ region b i) is (hand_other (bears m child) i (other_than b i f s (Maker t) m.maker (λ z. cc)))
 edit_keeps t i c b next l f (ends_region m o is) = subst (λ n. region n i ≡ region b i) is (hand_other (ends o) i (other_own b i f o))
 edit_keeps t i c b next l f (busies k e inside free is) = subst (λ n. region n i ≡ region b i) is refl
 edit_keeps t i c b next l f (frees k e held is) = subst (λ n. region n i ≡ region b i) is refl

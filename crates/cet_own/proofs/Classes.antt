@@ -173,7 +173,6 @@ next_other w n = grind (arith, nat_tests)
 pub quiet : {image : ImageData} {t k : ℕ} {past : List Visit} {b : Book} {a : Access} {v : ℕ} {changes : List Change} → changes ≡ [] → LeavesCounters a → ((words : List ℕ) → v ≡ answer words a → Holds image words b → Holds image (after words a) b × Spared b words (after words a)) → Owed image t k past b a v changes
 quiet {image = image} {t = t} {b = b} {a = a} {changes = changes} ev leaves h = record {
   counts = λ words is holds. no_count_by leaves (ap birth ev);
-  uncounted = λ words is holds. leaves;
   keeps = λ words next is holds still q. subst (Holds image (after words a)) (same_book t b next changes ev q) (h words is holds).0;
   spares = λ words is holds y n w own. (h words is holds).1.own y w own;
   restorers = λ words is holds. (h words is holds).1.restorers;
@@ -248,7 +247,6 @@ module _ {image : ImageData} {t k : ℕ} {past : List Visit} {b : Book} {a : Acc
   pub settles : k < 8 → a ≡ access.Store (token_word k - 1) kernel_return → stack_of b k ≡ Some t → changes ≡ [] → Owed image t k past b a v changes
   settles l e held ev = record {
     counts = λ words is h. no_count_by (leaves_by e (other_word (token_word k - 1) (omega arith)) (next_other (token_word k - 1) (omega arith))) (ap birth ev);
-    uncounted = λ words is h. leaves_by e (other_word (token_word k - 1) (omega arith)) (next_other (token_word k - 1) (omega arith));
     keeps = λ words next is h still q.
         subst (λ c. Holds image (after words c) next) (sym e)
         (subst (Holds image (slice_set words (token_word k - 1) kernel_return)) (same_book t b next changes ev q) (holds_below_token image words b k kernel_return l h));
@@ -269,7 +267,6 @@ module _ {image : ImageData} {t k : ℕ} {past : List Visit} {b : Book} {a : Acc
   pub pushes : (m back : ℕ) → (region b m).holder ≡ Current t → a ≡ access.Store (slot (top (region b m) - 8)) back → (region b m).start + 8 ≤ top (region b m) → IsReturn back → changes ≡ Called back ∷ [] → Owed image t k past b a v changes
   pushes m back current e room is_return ev = record {
     counts = λ words is h. no_count_by (leaves_by e (other_word (slot (top (region b m) - 8)) (let p = (below_top (own_region t m h current) room).place.high in omega arith)) (next_other (slot (top (region b m) - 8)) (let p = (below_top (own_region t m h current) room).place.high in omega arith))) (ap birth ev);
-    uncounted = λ words is h. leaves_by e (other_word (slot (top (region b m) - 8)) (let p = (below_top (own_region t m h current) room).place.high in omega arith)) (next_other (slot (top (region b m) - 8)) (let p = (below_top (own_region t m h current) room).place.high in omega arith));
     keeps = λ words next is h still q.
         let o = own_region t m h current in
         let d = called_is t m back b next changes o room ev q in
@@ -287,7 +284,6 @@ module _ {image : ImageData} {t k : ℕ} {past : List Visit} {b : Book} {a : Acc
   pub pops : (m word : ℕ) → (region b m).holder ≡ Current t → a ≡ access.Load word → changes ≡ Returned ∷ [] → Owed image t k past b a v changes
   pops m word current e ev = record {
     counts = λ words is h. no_count_by (leaves_by e refl refl) (ap birth ev);
-    uncounted = λ words is h. leaves_by e refl refl;
     keeps = λ words next is h still q.
         let o = own_region t m h current in
         let removal = removed_is t m b next changes o ev q in
@@ -301,7 +297,6 @@ module _ {image : ImageData} {t k : ℕ} {past : List Visit} {b : Book} {a : Acc
   pub enters : k < 8 → a ≡ access.CompareExchange (token_word k) (token k) (token k + 1) → v ≡ token k → Free t b → changes ≡ Busied k ∷ [] → Owed image t k past b a v changes
   enters l e found free ev = record {
     counts = λ words is h. no_count_by (leaves_by e (other_word (token_word k) (omega arith)) (next_other (token_word k) (omega arith))) (ap birth ev);
-    uncounted = λ words is h. leaves_by e (other_word (token_word k) (omega arith)) (next_other (token_word k) (omega arith));
     keeps = λ words next is h still q.
         let at : slice_index words (token_word k) ≡ token k = sym (is ∙ ap (answer words) e) ∙ found in
         let d = busied_is t k b next changes l (stack_free k h l at) free ev q in
@@ -318,7 +313,6 @@ module _ {image : ImageData} {t k : ℕ} {past : List Visit} {b : Book} {a : Acc
   pub leaves : k < 8 → a ≡ access.CompareExchange (token_word k) (token k + 1) (token k) → stack_of b k ≡ Some t → changes ≡ Freed k ∷ [] → Owed image t k past b a v changes
   leaves l e held ev = record {
     counts = λ words is h. no_count_by (leaves_by e (other_word (token_word k) (omega arith)) (next_other (token_word k) (omega arith))) (ap birth ev);
-    uncounted = λ words is h. leaves_by e (other_word (token_word k) (omega arith)) (next_other (token_word k) (omega arith));
     keeps = λ words next is h still q.
         let at = token_held t k h l held in
         let d = freed_is t k b next changes held ev q in
@@ -335,7 +329,6 @@ module _ {image : ImageData} {t k : ℕ} {past : List Visit} {b : Book} {a : Acc
   pub exits : (m : ℕ) → k < 8 → a ≡ access.CompareExchange (token_word k) (token k + 1) (token k) → stack_of b k ≡ Some t → (region b m).holder ≡ Current t → changes ≡ Ended ∷ Freed k ∷ [] → Owed image t k past b a v changes
   exits m l e held current ev = record {
     counts = λ words is h. no_count_by (leaves_by e (other_word (token_word k) (omega arith)) (next_other (token_word k) (omega arith))) (ap birth ev);
-    uncounted = λ words is h. leaves_by e (other_word (token_word k) (omega arith)) (next_other (token_word k) (omega arith));
     keeps = λ words next is h still q.
         let o = own_region t m h current in
         let at = token_held t k h l held in

@@ -37,11 +37,6 @@ pub record LeavesCounters (a : Access) : Type 0 where
   pub draws : alters a draw_word ≡ false
   pub births : alters a next_word ≡ false
 
--- the counters are as they were
-pub record SameCounters (words now : List ℕ) : Type 0 where
-  pub draws : slice_index now draw_word ≡ slice_index words draw_word
-  pub births : slice_index now next_word ≡ slice_index words next_word
-
 -- changes without a birth bear nobody
 pub none_born : (changes : List Change) (y : ℕ) → birth changes ≡ None → NoneBorn changes y
 none_born [] y e = tt

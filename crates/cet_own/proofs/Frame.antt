@@ -57,6 +57,10 @@ SteadyAt rules During Q F past before b (ask a changes f) (suc n) [] = ⊥
 SteadyAt rules During Q F past before b (ask a changes f) (suc n) (v ∷ vs) = SteadyAt rules During Q F (visit a v (changes v) ∷ past) before b (f v) n vs
 SteadyAt rules During Q F past before b (tell word value changes s) (suc n) vs = SteadyAt rules During Q F (visit (access.Store word value) 0 changes ∷ past) before b s n vs
 
+-- an answer that is kept goes to the end of those that were
+pub kept_cons : (x : ℕ) (vs : List ℕ) (a : Access) (v : ℕ) → x ∷ kept_after vs a v ≡ kept_after (x ∷ vs) a v
+kept_cons x vs a v = elim (keeps a) as (λ b. x ∷ cond b (vs ++ v ∷ []) vs ≡ cond b ((x ∷ vs) ++ v ∷ []) (x ∷ vs)) [ true ↦ refl | false ↦ refl ]
+
 module _ {A B : Type 0} (rules : Rules B) (During : List Visit → B → Type 0) (Q : List Visit → B → B → A → Type 0) (F : List Visit → B → Fault → Type 0) where
   -- before an access
   pub during_at : (past : List Visit) (before b : B) (s : Script A) (n : ℕ) (vs : List ℕ) (a : Access) (own : ℕ → List Change) → SteadyAt rules During Q F past before b s n vs → play s n vs ≡ Wants a own → During (trail n s vs past) b
@@ -91,9 +95,6 @@ module _ {A B : Type 0} (rules : Rules B) (During : List Visit → B → Type 0)
     pub is : rules.after b changes ≡ Some next
     pub left : SteadyAt rules During Q F past b next s n vs
     pub grown : trail n s vs past ≡ visit a v changes ∷ at
-
-  kept_cons : (x : ℕ) (vs : List ℕ) (a : Access) (v : ℕ) → x ∷ kept_after vs a v ≡ kept_after (x ∷ vs) a v
-  kept_cons x vs a v = elim (keeps a) as (λ b. x ∷ cond b (vs ++ v ∷ []) vs ≡ cond b ((x ∷ vs) ++ v ∷ []) (x ∷ vs)) [ true ↦ refl | false ↦ refl ]
 
   -- the next access of a script, where what the words answer is known
   pub goes : (R : A → Type 0) (wrote : Bool) (m k : ℕ) (words : List ℕ) (past : List Visit) (before b : B) (s : Script A) (n : ℕ) (vs : List ℕ) (a : Access) (own : ℕ → List Change) → Walks m k wrote R s → SteadyAt rules During Q F past before b s n vs → play s n vs ≡ Wants a own → rules.Known (trail n s vs past) b a (answer words a) → Goes (trail n s vs past) past b s (suc n) (kept_after vs a (answer words a)) a (answer words a) (own (answer words a))

@@ -8,6 +8,14 @@ pub mod Kept
 pub mod Own
 pub mod Still
 pub mod Counters
+pub mod Views
+pub mod Drawn
+pub mod TellingRows
+pub mod Drawing
+pub mod Recorded
+pub mod ToldLaws
+pub mod Covered
+pub mod CoveredRun
 pub mod Owed
 pub mod ClassLaws
 pub mod Classes
@@ -31,4 +39,3 @@ pub mod First
 pub mod Turns
 pub mod StandsAt
 pub mod Run
-pub mod LastBook

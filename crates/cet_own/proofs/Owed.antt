@@ -20,7 +20,7 @@ use Rattle.cet_own.specs.Past.{next_word, draw_word, left_in, restorer_word, has
 use Rattle.cet_own.specs.Stands.{OwnWord}
 use Rattle.cet_own.proofs.Still.{Still, KeepsRestorers}
 use Rattle.cet_own.proofs.Standing.{HasNone}
-use Rattle.cet_own.proofs.Counters.{CountsBy, LeavesCounters}
+use Rattle.cet_own.proofs.Counters.{CountsBy}
 
 -- what claims speak of
 pub record State : Type 0 where
@@ -71,8 +71,6 @@ pub record Owed (image : ImageData) (t k : ℕ) (past : List Visit) (b : Book) (
   pub restorers : (words : List ℕ) → v ≡ answer words a → Holds image words b → KeepsRestorers words (after words a)
   -- counters grow once in a row, and births come with theirs alone
   pub counts : (words : List ℕ) → v ≡ answer words a → Holds image words b → CountsBy t past b a v changes
-  -- No row changes them yet. This law alone is of today's rows: it goes with LastBook, which stands on it.
-  pub uncounted : (words : List ℕ) → v ≡ answer words a → Holds image words b → LeavesCounters a
 
 -- the supervisor stack of the processor of thread t
 abbrev pub own_stack : JobData → (t : ℕ) → ℕ

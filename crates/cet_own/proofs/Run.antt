@@ -12,7 +12,6 @@ use Rattle.cet_own.specs.Event.{turn_changes}
 use Rattle.cet_own.specs.Safe.{AccessReturns, TurnReturns, IsSafeAt, Safe}
 use Rattle.cet_own.proofs.Owed.{State}
 use Rattle.cet_own.specs.Restores.{TurnRestores}
-use Rattle.cet_own.proofs.Counters.{SameCounters}
 use Rattle.cet_own.proofs.First.{first_holds, first_threads, first_still, first_paid, first_made}
 use Rattle.cet_own.specs.Stands.{Stands}
 use Rattle.cet_own.proofs.StandsAt.{stands_at}
@@ -28,7 +27,7 @@ turned_core job j m t s thread None st found at is h =
     subst (TurnedBy job m t s thread) (sym (ap (access_of job thread.core) is ∙ ap wanted w.2)) (acts job j m t s thread w.0 st found w.1 at h w.2)
 
 turned_by : (job : JobData) (j : IsJob job) (m : Machine) (t : ℕ) (s : State) (o : Option Thread) → Invariant job m s → slice_get m.threads t ≡ o → ThreadStands job t s o → Turned job m t s o
-turned_by job j m t s None st found at = record { next = s; is = refl; stands = st; returns = tt; restores = tt; counters = record { draws = refl; births = refl } }
+turned_by job j m t s None st found at = record { next = s; is = refl; stands = st; returns = tt; restores = tt }
 turned_by job j m t s (Some thread) st found at =
     let d = turned_core job j m t s thread thread.core.over st found at refl at.1 in
     let sh = st.holds.sound.book.shape in
@@ -37,7 +36,6 @@ turned_by job j m t s (Some thread) st found at =
       is = d.is;
       stands = d.stands;
       restores = d.restores;
-      counters = d.counters;
       returns = λ i e. subst (λ n. AccessReturns job m thread (region s.book n).entries (next_access job thread.core)) (sh.alone t i e) d.returns;
     }
 
@@ -48,13 +46,12 @@ pub record Goes (job : JobData) (m : Machine) (t : ℕ) (s : State) : Type 0 whe
   pub stands : Invariant job (step job m t) next
   pub returns : TurnReturns job m s.book t
   pub restores : TurnRestores job m s.book next.book t
-  pub counters : SameCounters m.words (step job m t).words
 
 pub turn : (job : JobData) (j : IsJob job) (m : Machine) (t : ℕ) (s : State) → Invariant job m s → Goes job m t s
 unfolding turn_changes step
 turn job j m t s st =
     let d = turned_by job j m t s (slice_get m.threads t) st refl (st.threads t) in
-    record { next = d.next; is = d.is; stands = d.stands; returns = d.returns; restores = d.restores; counters = d.counters }
+    record { next = d.next; is = d.is; stands = d.stands; returns = d.returns; restores = d.restores }
 
 -- what the invariant tells at each moment, and each turn of itself, holds along a run
 pub along_from : (At : Machine → Book → Type 0) (Turn : Machine → (before after : Book) → ℕ → Type 0) (job : JobData) (j : IsJob job) → ((m : Machine) (s : State) → Invariant job m s → At m s.book) → ((m : Machine) (t : ℕ) (s : State) → (d : Goes job m t s) → Turn m s.book d.next.book t) → (turns : List ℕ) (m : Machine) (s : State) → Invariant job m s → Along At Turn job m s.book turns

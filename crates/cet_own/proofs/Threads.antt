@@ -40,11 +40,11 @@ pub record InRow (job : JobData) (t : ℕ) (s : State) (core : Core) : Type 0 wh
 
 -- an ended thread is at rest, and in no row
 abbrev pub Ended : JobData → (t : ℕ) → State → Core → Type 0
-Ended job t s core = AtRest t s.book core.arch.ssp × (trail_of job core ≡ []) × Rests job core
+Ended job t s core = AtRest t s.book core.arch.ssp × (trail_of job core ≡ []) × Rests job core × (core.arch.number ≡ t)
 
 abbrev pub CoreStands : JobData → (t : ℕ) → State → Core → Option End → Type 0
 CoreStands job t s core None = InRow job t s core
-CoreStands job t s core (Some (ending.Exit status)) = HasNone t s.book × Rests job core
+CoreStands job t s core (Some (ending.Exit status)) = HasNone t s.book × Rests job core × (core.arch.number ≡ t)
 CoreStands job t s core (Some ending.Group) = Ended job t s core
 CoreStands job t s core (Some ending.Limit) = Ended job t s core
 
@@ -71,9 +71,9 @@ row_relies job t s now core r h =
 
 core_relies : (job : JobData) (t : ℕ) (s now : State) (core : Core) (over : Option End) → Relies t s.book now.book → CoreStands job t s core over → CoreStands job t now core over
 core_relies job t s now core None r h = row_relies job t s now core r h
-core_relies job t s now core (Some (ending.Exit status)) r h = (none_kept r h.0, h.1)
-core_relies job t s now core (Some ending.Group) r h = (rest_kept r h.0, h.1, h.2)
-core_relies job t s now core (Some ending.Limit) r h = (rest_kept r h.0, h.1, h.2)
+core_relies job t s now core (Some (ending.Exit status)) r h = (none_kept r h.0, h.1, h.2)
+core_relies job t s now core (Some ending.Group) r h = (rest_kept r h.0, h.1, h.2, h.3)
+core_relies job t s now core (Some ending.Limit) r h = (rest_kept r h.0, h.1, h.2, h.3)
 
 pub thread_relies : (job : JobData) (t : ℕ) (s now : State) (o : Option Thread) → Relies t s.book now.book → ThreadStands job t s o → ThreadStands job t now o
 thread_relies job t s now None r h = none_kept r h
@@ -82,7 +82,7 @@ thread_relies job t s now (Some thread) r h = (held_relies t s.book now.book thr
 -- ---- what the thread itself comes to
 
 recorded_stands : (job : JobData) (next : Arch) (s : State) (b : Bool) → IsJob job → AtRest next.number s.book next.ssp → CoreAt job (record { arch = next; seen = nothing_seen; over = if b then Some ending.Limit else None }) (if b then Some ending.Limit else None) → CoreStands job next.number s (record { arch = next; seen = nothing_seen; over = if b then Some ending.Limit else None }) (if b then Some ending.Limit else None)
-recorded_stands job next s true j rest w = (rest, refl, w)
+recorded_stands job next s true j rest w = (rest, refl, w, refl)
 recorded_stands job next s false j rest w = record { waits = w; number = refl; before = s; left = row_claim job j (unheld next) s s w.state.made rest }
 
 -- the thread and its record, by what its row has come to
@@ -96,8 +96,8 @@ came_stands job core held seen past before s child (Faulted e) j l o w =
 came_stands job core held seen past before s child (Over (Noted next r) left values) j l o w =
     (recorded_stands job (kept_by core.arch held next) s (next.count == job.limit) j o.0 w, o.1 core.arch.held held, o.2)
 came_stands job core held seen past before s child (Over (Posted next) left values) j l o w = (recorded_stands job (kept_by core.arch held next) s false j o.0 w, tt, tt)
-came_stands job core held seen past before s child (Over (Exited next r status) left values) j l o w = ((o.0, w), o.1 core.arch.held held, o.2)
-came_stands job core held seen past before s child (Over Stopped left values) j l o w = ((o.0, refl, w), tt, tt)
+came_stands job core held seen past before s child (Over (Exited next r status) left values) j l o w = ((o.0, w, refl), o.1 core.arch.held held, o.2)
+came_stands job core held seen past before s child (Over Stopped left values) j l o w = ((o.0, refl, w, refl), tt, tt)
 
 -- a row that goes on has its trail, and one that is over leaves none
 pub came_still : (job : JobData) (arch : Arch) (held : Option ℕ) (seen : Seen) (c : Came Finish) (words : List ℕ) (t : ℕ) (b : Book) → Still words t b (trail seen.count (row job (unheld arch)) seen.kept []) → Still words t b (trail_of job (core_by job arch held seen c))

@@ -47,7 +47,7 @@ use Rattle.cet_own.proofs.Threads.{InRow, Ended, CoreStands, ThreadStands, threa
 use Rattle.cet_own.proofs.Turn.{Led, led}
 use Rattle.cet_own.proofs.Newborn.{IsNewborn, newborn}
 use Rattle.cet_own.proofs.ClassLaws.{one_book}
-use Rattle.cet_own.proofs.Counters.{SameCounters, CountsBy, no_count, draws_pages, bears_child, bears_nobody, none_born}
+use Rattle.cet_own.proofs.Counters.{CountsBy, no_count, draws_pages, bears_child, bears_nobody, none_born}
 use Rattle.cet_own.proofs.Paid.{Paid, unaltered, counters_tell, sum_moved}
 use Rattle.cet_own.specs.Stands.{thread_draws, thread_births}
 
@@ -131,7 +131,6 @@ pub record Turned (job : JobData) (m : Machine) (t : ℕ) (s : State) (o : Optio
   pub stands : Invariant job (step_by job m t o) next
   pub returns : ThreadReturns job m s.book t o
   pub restores : ThreadRestores job m s.book next.book o
-  pub counters : SameCounters m.words (step_by job m t o).words
 
 -- and by its next access
 pub record TurnedBy (job : JobData) (m : Machine) (t : ℕ) (s : State) (thread : Thread) (a : Option Access) : Type 0 where
@@ -140,10 +139,9 @@ pub record TurnedBy (job : JobData) (m : Machine) (t : ℕ) (s : State) (thread 
   pub stands : Invariant job (act job m t thread a) next
   pub returns : AccessReturns job m thread (entries_of t s.book) a
   pub restores : AccessRestores job m thread s.book next.book a
-  pub counters : SameCounters m.words (act job m t thread a).words
 
 pub stays : (job : JobData) (m : Machine) (t : ℕ) (s : State) (thread : Thread) → Invariant job m s → TurnedBy job m t s thread None
-stays job m t s thread st = record { next = s; is = refl; stands = st; returns = tt; restores = tt; counters = record { draws = refl; births = refl } }
+stays job m t s thread st = record { next = s; is = refl; stands = st; returns = tt; restores = tt }
 
 get_other : (threads : List Thread) (t y : ℕ) (x : Thread) → y ≢ t → slice_get (slice_set threads t x) y ≡ slice_get threads y
 get_other threads t y x n = elim (cases_lt y (length threads)) [
@@ -339,7 +337,6 @@ module _ (job : JobData) (j : IsJob job) (m : Machine) (t : ℕ) (s : State) (th
       let before = counters_tell job m.words m.threads t thread s.book j st.paid e (λ y q. subst (ThreadStands job y s) q (st.threads y)) in
       let d = led job j m.words t s thread.core a changes before st.holds (st.still t thread e) at.0 r w in
       let size = st.holds.size in
-      let uncounted = d.owed.uncounted m.words refl st.holds in
       let bore = child_taken job thread.core (answer m.words a) a changes w in
       let waits = subst (ChildAt job) bore (child_at job thread.core (answer m.words a) r.waits) in
       let p = enlisted job j (after m.words a) s d.next m.threads t moved inside m.words a thread.core.arch (trail_of job thread.core) changes_now refl size st.holds.sound.book.shape d.is st.paid.least before.nexts st.paid.number d.others waits (d.owed.counts m.words refl st.holds) in
@@ -349,5 +346,4 @@ module _ (job : JobData) (j : IsJob job) (m : Machine) (t : ℕ) (s : State) (th
         stands = subst (λ o. Invariant job (machine (after m.words a) (with_child (slice_set m.threads t moved) o)) d.next) (sym bore) (stands_after (with_child (slice_set m.threads t moved) (child_of thread.core.arch changes_now)) d r.waits.count p);
         returns = d.returns;
         restores = d.restores;
-        counters = record { draws = unaltered a m.words draw_word uncounted.draws; births = unaltered a m.words next_word uncounted.births };
       }

@@ -1,17 +1,14 @@
 -- The events of a run: what its accesses do to the book of shadow stacks. Source: own.
-use Rattle.std.specs.Prelude.{ℕ, List, [], ◌∷◌, ◌++◌, map, Option, Some, None, slice_get, option_and_then}
+use Rattle.std.specs.Prelude.{ℕ, List, [], ◌∷◌, ◌++◌, Option, Some, None, slice_get, option_and_then}
+use Rattle.std.specs.Option.{option_map_or}
 use Rattle.cet_words.specs.Access.{answer}
 use Rattle.cet_words.specs.Change.{Change}
 use Rattle.cet_words.specs.Job.{JobData}
 use Rattle.cet_words.specs.declared.accesses.Access.{Access}
-use Rattle.cet_book.specs.Book.{Book, first_book, book_after}
+use Rattle.cet_book.specs.declared.events.Event.{Event}
+use Rattle.cet_book.specs.Book.{Book, first_book, event_of, book_step, book_after, books_after}
 use Rattle.cet_page.specs.Core.{next_access, next_changes}
 use Rattle.cet_page.specs.Machine.{Machine, Thread, step}
-
--- a change of the book, and the thread that made it
-pub record Event : Type 0 where
-  pub thread : ℕ
-  pub change : Change
 
 -- the changes of an access of a thread
 abbrev pub access_changes : JobData → Machine → Thread → Option Access → List Change
@@ -26,18 +23,27 @@ thread_changes job m (Some thread) = access_changes job m thread (next_access jo
 unfoldable pub turn_changes : JobData → Machine → (t : ℕ) → List Change
 turn_changes job m t = thread_changes job m (slice_get m.threads t)
 
-abbrev pub events_by : (t : ℕ) → List Change → List Event
-events_by t changes = map (λ change. record { thread = t; change = change }) changes
+-- The events that changes of thread t are, each with its region by the number in the book before it. A change of which that book
+-- has no case is the last.
+abbrev pub events_by : (t : ℕ) → Book → List Change → List Event
+events_by t b [] = []
+events_by t b (c ∷ cs) = event_of b t c ∷ option_map_or (λ next. events_by t next cs) (book_after t b c) []
+
+-- the events of turns from a machine on, by the book beside it, if there is one
+abbrev pub events_from : JobData → Machine → Option Book → (turns : List ℕ) → List Event
+events_from job m None turns = []
+events_from job m (Some b) [] = []
+events_from job m (Some b) (t ∷ ts) =
+    events_by t b (turn_changes job m t) ++ events_from job (step job m t) (books_after t b (turn_changes job m t)) ts
 
 -- the events of a run, in order
 abbrev pub events : JobData → Machine → (turns : List ℕ) → List Event
-events job m [] = []
-events job m (t ∷ ts) = events_by t (turn_changes job m t) ++ events job (step job m t) ts
+events job start turns = events_from job start (Some first_book) turns
 
 -- the book after events, or None where one of them has no case
 abbrev pub book_by : Book → List Event → Option Book
 book_by b [] = Some b
-book_by b (e ∷ es) = option_and_then (λ next. book_by next es) (book_after e.thread b e.change)
+book_by b (e ∷ es) = option_and_then (λ next. book_by next es) (book_step b e)
 
 -- the last book of a run from the start
 abbrev pub book_of : JobData → Machine → (turns : List ℕ) → Option Book

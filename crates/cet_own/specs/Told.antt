@@ -1,5 +1,5 @@
 -- The shadow stacks that the records of threads tell of, and the pointers of the threads that keep theirs. Source: own.
-use Rattle.std.specs.Prelude.{ℕ, ◌+◌, ◌-◌, ◌×◌, nat_le, if◌then◌else◌, List, [], ◌∷◌, Option, Some, None}
+use Rattle.std.specs.Prelude.{ℕ, ◌+◌, ◌-◌, nat_le, if◌then◌else◌, List, [], ◌∷◌, Option, Some, None}
 use Rattle.std.specs.List.{flat_map}
 use Rattle.cet_words.specs.Layout.{first_region_end, first_region_start, page_up}
 use Rattle.cet_isa.specs.declared.threads.End.{End}

@@ -36,49 +36,10 @@ use Rattle.cet_page.proofs.Walk.{Walks, Walk, acted, walk_fault, no_birth, walk_
 use Rattle.cet_page.specs.declared.finishes.Finish.{Finish}
 use Rattle.cet_page.specs.declared.finishes.Finish.TheVariants.{Noted, Posted, Exited, Stopped}
 
--- the record tells of no new shadow stack
-abbrev pub names_no_stack : What → Bool
-names_no_stack what.Claim = false
-names_no_stack what.Born = false
-names_no_stack what.Step = true
-names_no_stack what.Call = true
-names_no_stack what.Ret = true
-names_no_stack what.Raise = true
-names_no_stack what.Take = true
-names_no_stack what.Save = true
-names_no_stack what.Busy = true
-names_no_stack what.Sys = true
-names_no_stack what.Wrote = true
-names_no_stack what.Signal = true
-names_no_stack what.Ignore = true
-names_no_stack what.SigReturn = true
-names_no_stack (what.Fault name) = true
-names_no_stack what.Kill = true
-
--- the record tells of what was done, and of no new shadow stack
+-- the record tells of what was done, not of a fault
 abbrev pub tells : What → Bool
 tells (what.Fault name) = false
-tells what.Claim = false
-tells what.Born = false
-tells what.Step = true
-tells what.Call = true
-tells what.Ret = true
-tells what.Raise = true
-tells what.Take = true
-tells what.Save = true
-tells what.Busy = true
-tells what.Sys = true
-tells what.Wrote = true
-tells what.Signal = true
-tells what.Ignore = true
-tells what.SigReturn = true
-tells what.Kill = true
-
-pub tells_no_stack : (w : What) → tells w ≡ true → names_no_stack w ≡ true
-tells_no_stack (what.Fault name) e = refl
-tells_no_stack what.Claim e = cc
-tells_no_stack what.Born e = cc
-tells_no_stack w e = refl
+tells w = true
 
 -- ---- what a row ends in
 

@@ -7,7 +7,6 @@ use Rattle.cet_words.specs.Layout.{first_region_start}
 use Rattle.cet_words.specs.declared.accesses.Access.{Access}
 use Rattle.cet_words.specs.Job.{JobData, IsJob}
 use Rattle.cet_words.specs.Change.{Change}
-use Rattle.cet_isa.specs.declared.threads.Record.{Record}
 use Rattle.cet_isa.specs.declared.threads.Arch.{Arch}
 use Rattle.cet_isa.specs.declared.threads.End.{End}
 use Rattle.cet_isa.specs.declared.threads.End.TheVariants as ending
@@ -17,10 +16,10 @@ use Rattle.cet_page.specs.Finish.{IsMade}
 use Rattle.cet_page.specs.Trail.{seen_of, row_trail}
 use Rattle.cet_page.specs.Within.{IsState, Waits, CoreAt, IsCore}
 use Rattle.cet_page.specs.Row.{row}
-use Rattle.cet_page.specs.Core.{Core, first_core, unheld, come, wanted, access_of, next_access, kept_by, recorded, faulted, core_by, noted_by, answered, taken, born, child_arch, child_core}
+use Rattle.cet_page.specs.Core.{Core, first_core, unheld, come, wanted, access_of, next_access, kept_by, recorded, faulted, core_by, answered, taken, born, child_arch, child_core}
 use Rattle.cet_page.proofs.Walk.{Spent, OnOver, spent_more, spent_fits, over_play, births, BornFits, born_made}
 use Rattle.cet_page.proofs.TrailLaws.{trail_shows, trail_spent}
-use Rattle.cet_page.proofs.WalkRows.{Ends, names_no_stack, tells_no_stack, walk_row, row_begins}
+use Rattle.cet_page.proofs.WalkRows.{Ends, walk_row, row_begins}
 use Rattle.cet_page.specs.Plays.{Wanted, birth_by}
 use Rattle.cet_page.specs.declared.cursors.Mark.TheVariants as marks
 use Rattle.cet_page.specs.declared.finishes.Finish.{Finish}
@@ -181,29 +180,3 @@ goes job core next h n e = let w = wants job core h e in (w.0, n ∙ w.1)
 pub stops : (job : JobData) (core : Core) (next : Option Access) (end : End) → next ≡ next_access job core → core.over ≡ Some end → next ≡ None
 unfolding next_access
 stops job core next end n e = n ∙ ap (access_of job core) e
-
--- ---- no record tells of a new shadow stack
-
-abbrev pub NamesNoStack : Option Record → Type 0
-NamesNoStack None = Unit {0}
-NamesNoStack (Some r) = names_no_stack r.what ≡ true
-
-noted_plain : (arch : Arch) (r : Came Finish) → OnOver (Ends (unheld arch)) r → NamesNoStack (noted_by arch r)
-noted_plain arch (Wants a changes) k = tt
-noted_plain arch (Faulted e) k = refl
-noted_plain arch (Over (Noted next noted) left values) k = tells_no_stack noted.what k.tells
-noted_plain arch (Over (Posted next) left values) k = tt
-noted_plain arch (Over (Exited next noted status) left values) k = tells_no_stack noted.what k.tells
-noted_plain arch (Over Stopped left values) k = tt
-
-answered_plain : (job : JobData) (core : Core) (answer : ℕ) (r : Came Finish) → NamesNoStack (answered job core answer r).noted
-answered_plain job core answer (Wants a changes) =
-    let arch = unheld core.arch in
-    let seen = seen_after core.seen a answer in
-    noted_plain core.arch (come job core.arch seen) (over_play (Ends arch) false (row job arch) 0 0 seen.count seen.kept (walk_row job arch).walks)
-answered_plain job core answer (Faulted e) = tt
-answered_plain job core answer (Over x left values) = tt
-
-pub taken_plain : (job : JobData) (core : Core) (answer : ℕ) → NamesNoStack (taken job core answer).noted
-unfolding taken
-taken_plain job core answer = answered_plain job core answer (come job core.arch core.seen)

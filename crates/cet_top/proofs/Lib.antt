@@ -14,8 +14,8 @@ mod Known
 mod InputReads
 mod Steps
 mod LiveThreads
-mod WordsFrom
-mod QuietTraces
+mod InOrder
+mod ToldStacks
 mod ScheduleLaws
 mod Finished
 mod Serving

@@ -11,7 +11,6 @@ pub mod Schedule
 pub mod Turns
 pub mod TracedThreads
 pub mod Outcome
-pub mod FirstStack
 pub mod Shown
 pub mod Listing
 pub mod SafeRun

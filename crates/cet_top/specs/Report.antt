@@ -3,6 +3,9 @@ use Rattle.std.specs.Prelude.{ℕ, ◌-◌, ◌%◌, ◌^◌, List, [], ◌∷�
 use Rattle.std.specs.List.{flat_map, enumerate_from}
 use Rattle.std.specs.Fmt.{decimal}
 use Rattle.cet_base.specs.Digits.{hex16}
+use Rattle.cet_book.specs.declared.regions.Shown.{Shown}
+use Rattle.cet_book.specs.declared.regions.Shown.TheVariants as shown
+use Rattle.cet_book.specs.declared.regions.StackReport.{StackReport}
 use Rattle.cet_isa.specs.declared.threads.End.{End}
 use Rattle.cet_isa.specs.declared.threads.End.TheVariants as end
 use Rattle.cet_isa.specs.declared.threads.FaultName.{FaultName}
@@ -13,9 +16,6 @@ use Rattle.cet_isa.specs.declared.threads.Record.{Record}
 use Rattle.cet_top.specs.declared.outcomes.Outcome.{Outcome}
 use Rattle.cet_top.specs.declared.outcomes.ProcessEnd.{ProcessEnd}
 use Rattle.cet_top.specs.declared.outcomes.ProcessEnd.TheVariants as process
-use Rattle.cet_top.specs.declared.outcomes.Shown.{Shown}
-use Rattle.cet_top.specs.declared.outcomes.Shown.TheVariants as shown
-use Rattle.cet_top.specs.declared.outcomes.StackReport.{StackReport}
 use Rattle.cet_top.specs.declared.outcomes.Style.{Style}
 use Rattle.cet_top.specs.declared.outcomes.Style.TheVariants as style
 use Rattle.cet_top.specs.declared.outcomes.ThreadOut.{ThreadOut}

@@ -1,12 +1,15 @@
 -- A whole run of a job, and what it comes to. Source: own.
 use Rattle.std.specs.Prelude.{◌≡◌, ℕ, List, Some, slice_index, map}
 use Rattle.cet_words.specs.Layout.{exit_word}
-use Rattle.cet_words.specs.Job.{JobData}
+use Rattle.cet_words.specs.Job.{JobData, IsJob}
 use Rattle.cet_book.specs.Book.{Book, first_book}
 use Rattle.cet_page.specs.Machine.{Machine, Starts, run}
+use Rattle.cet_own.specs.Along.{Along}
 use Rattle.cet_own.specs.Event.{book_of}
 use Rattle.cet_own.specs.ExitWord.{EndsRight}
+use Rattle.cet_own.specs.Restores.{TurnRestores}
 use Rattle.cet_own.specs.Safe.{Safe}
+use Rattle.cet_own.specs.Stands.{Stands}
 use Rattle.cet_top.specs.Outcome.{thread_out, process_end}
 use Rattle.cet_top.specs.Schedule.{IsComplete}
 use Rattle.cet_top.specs.Shown.{shown_stacks}
@@ -20,9 +23,11 @@ outcome_of m b = record {
   process = process_end (slice_index m.words exit_word) (map thread_out m.threads);
 }
 
--- A run of the job by this schedule, in which every thread ended, and its outcome. It is a safe one, as every run is, and its word
--- EXIT is one that a process may leave. Where the schedule may be any, this says of what some schedule led to.
+-- A run of the job by this schedule, in which every thread ended, and its outcome. It is a safe one, as every run is, the
+-- ownership invariant holds at each of its moments, and its word EXIT is one that a process may leave. Where the schedule may
+-- be any, this says of what some schedule led to.
 pub record SafeRun (job : JobData) (Schedule : Machine → List ℕ → Type 0) (outcome : Outcome) : Type 0 where
+  pub is_job : IsJob job
   pub start : Machine
   pub starts : Starts job start
   pub turns : List ℕ
@@ -32,4 +37,5 @@ pub record SafeRun (job : JobData) (Schedule : Machine → List ℕ → Type 0) 
   pub legal : book_of job start turns ≡ Some book
   pub is : outcome ≡ outcome_of (run job start turns) book
   pub safe : Safe job start first_book turns
+  pub stands : Along (Stands job) (TurnRestores job) job start first_book turns
   pub exit : EndsRight (run job start turns)

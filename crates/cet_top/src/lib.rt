@@ -15,19 +15,16 @@ mod programs;
 mod reader;
 mod reports;
 mod runs;
-mod stacks;
 mod status;
 #[cfg(test)]
 mod tests;
+mod told_stacks;
 mod traced_threads;
 mod transfers;
 mod turns;
 mod words;
 
 pub use laws::{answers_are_one, schedules_are_complete, schedules_are_one};
-pub use outcomes::{
-    Outcome, ProcessEnd, Records, Region, Shown, StackReport, StackReports, Style, ThreadOut,
-    ThreadOuts,
-};
+pub use outcomes::{Outcome, ProcessEnd, Records, Style, ThreadOut, ThreadOuts};
 pub use programs::plain;
 pub use status::Status;

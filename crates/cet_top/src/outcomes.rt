@@ -1,9 +1,10 @@
-//! What a run has come to: records, ends and shadow stacks, and how they are to be shown.
+//! What a run has come to: records, ends and shadow stacks, and how much of them is to be shown.
 
 ghost use Rattle.std.specs.Prelude.{◌≡◌, [], ◌∷◌, ◌++◌, length, OnOk, OnErr, slice_get};
 
+use cet_book::StackReports;
 use cet_isa::{End, Record};
-use cet_words::{Items, NoMemory, Words};
+use cet_words::{Items, NoMemory};
 use std::alloc::Global;
 use std::marker::Model;
 
@@ -54,6 +55,13 @@ impl Records {
     {
         self.records.get(at).copied()
     }
+
+    /// All records.
+    pub fn as_slice(&self) -> &[Record]
+        ensures { result.now ≡ self.now }
+    {
+        self.records.as_slice()
+    }
 }
 
 /// A thread of an outcome: its records, and how it ended.
@@ -76,37 +84,6 @@ pub enum ProcessEnd {
     /// By the limit of records, which this thread is the lowest to have reached.
     Limit(u8),
 }
-
-/// A shadow stack's place: the addresses of its first byte and past its last one.
-#[derive(Clone, Copy, Debug, PartialEq, Eq)]
-pub struct Region {
-    pub start: u64,
-    pub end: u64,
-}
-
-/// How a shadow stack is shown.
-#[derive(Clone, Copy, Debug, PartialEq, Eq)]
-pub enum Shown {
-    /// It is the stack of this thread.
-    Current(u8),
-    /// It waits with a token to be switched to.
-    Parked,
-    /// It was left for a stack that is shown with its entries.
-    Left,
-    /// No stack in view leads to it, or nothing has it. It is shown without entries.
-    Lost,
-}
-
-/// A shadow stack with the words of its entries, the newest first.
-#[derive(Debug, Drop)]
-pub struct StackReport {
-    pub region: Region,
-    pub shown: Shown,
-    pub words: Words,
-}
-
-/// The shadow stacks of an outcome, by start address.
-pub type StackReports = Items<StackReport>;
 
 /// What a run came to.
 #[derive(Debug, Drop)]

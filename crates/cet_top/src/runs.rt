@@ -1,41 +1,27 @@
 //! A run of a job by Robin.
 
 ghost use Rattle.std.specs.Prelude.{◌≡◌, ◌≤◌, length, slice_index, IfOk};
+ghost use Rattle.cet_words.specs.Job.{ImageData};
 ghost use Rattle.cet_words.specs.Layout.{exit_word};
+ghost use Rattle.cet_book.specs.Book.{Book};
+ghost use Rattle.cet_book.specs.View.{IsReadable};
 ghost use Rattle.cet_page.specs.Machine.{Starts, machine};
 ghost use Rattle.cet_own.specs.ExitWord.{IsExitWord};
-ghost use Rattle.cet_top.specs.FirstStack.{KeepsFirsts, first_stacks, read_outcome};
-ghost use Rattle.cet_top.specs.SafeRun.{SafeRun};
+ghost use Rattle.cet_own.specs.Told.{kept_pointers, told_spans};
+ghost use Rattle.cet_top.specs.SafeRun.{SafeRun, outcome_of};
 ghost use Rattle.cet_top.specs.Schedule.{ByRobin};
+ghost use Rattle.cet_top.specs.Shown.{TellsBook};
 ghost use Rattle.cet_top.specs.TracedThreads.{AllTraced, threads_of};
 
 use crate::ends::{process_end, thread_outs};
-use crate::outcomes::{Outcome, StackReports};
-use crate::stacks::first_stack;
+use crate::outcomes::Outcome;
+use crate::told_stacks::{kept_pointers, told_spans};
 use crate::traced_threads::TracedThread;
 use crate::turns::robin;
+use cet_book::report_of_words;
 use cet_cpu::first;
-use cet_isa::End;
 use cet_words::{Access, EXIT_WORD, Job, NoMemory, Perform, Plain};
 use std::alloc::Global;
-
-/// The shadow stacks after a run: that of thread 0.
-fn first_stacks<P: Perform>(
-    alloc: Global,
-    words: &mut P,
-    all_traced: &[TracedThread],
-) -> Result<StackReports, NoMemory>
-    requires { KeepsFirsts (threads_of all_traced.now) }
-    ensures same { P.words words.new ≡ P.words words.old }
-    ensures stacks { IfOk result (λ stacks. stacks ≡ first_stacks (P.words words.old) (threads_of all_traced.now)) }
-{
-    let mut stacks = StackReports::new(alloc);
-    if let [traced, ..] = all_traced {
-        let end = traced.end().unwrap_or(End::Group);
-        stacks.push(alloc, first_stack(alloc, words, end, traced.ssp())?)?;
-    }
-    Ok(stacks)
-}
 
 /// The outcome of a run that has left these words and threads.
 fn read_outcome<P: Perform>(
@@ -43,13 +29,15 @@ fn read_outcome<P: Perform>(
     words: &mut P,
     all_traced: Vec<TracedThread>,
 ) -> Result<Outcome, NoMemory>
-    requires keeps { KeepsFirsts (threads_of all_traced.items) }
+    requires readable { IsReadable (told_spans (threads_of all_traced.items)) (kept_pointers (threads_of all_traced.items)) }
     requires few { length all_traced.items ≤ 32 }
     requires word { IsExitWord (slice_index (P.words words.old) exit_word) }
-    ensures { IfOk result (λ outcome. outcome ≡ read_outcome (P.words words.old) (threads_of all_traced.items)) }
+    ensures { IfOk result (λ outcome. (image : ImageData) (b : Book) → TellsBook image (P.words words.old) (threads_of all_traced.items) b → outcome ≡ outcome_of (machine (P.words words.old) (threads_of all_traced.items)) b) }
 {
     let exit = words.perform(Access::Load(EXIT_WORD));
-    let stacks = first_stacks(alloc, words, all_traced.as_slice())?;
+    let spans = told_spans(alloc, &all_traced)?;
+    let pointers = kept_pointers(alloc, &all_traced)?;
+    let stacks = report_of_words(alloc, words, &spans, &pointers)?;
     let threads = thread_outs(alloc, all_traced)?;
     let process = process_end(exit, threads.as_slice());
     Ok(Outcome {

@@ -11,7 +11,7 @@ ghost use Rattle.cet_top.specs.Outcome.{thread_out};
 
 use crate::outcomes::{Records, ThreadOut};
 use cet_cpu::Cpu;
-use cet_isa::End;
+use cet_isa::{End, Record};
 use cet_words::{Job, NoMemory, Perform};
 use std::alloc::Global;
 use std::marker::Model;
@@ -47,6 +47,20 @@ impl TracedThread {
         ensures { result ≡ self.now.cpu.core.over }
     {
         self.cpu.end()
+    }
+
+    /// The thread's number.
+    pub fn number(&self) -> u8
+        ensures { result ≡ self.now.cpu.core.arch.number }
+    {
+        self.cpu.arch().number
+    }
+
+    /// The thread's records so far.
+    pub fn records(&self) -> &[Record]
+        ensures { result.now ≡ self.now.trace }
+    {
+        self.records.as_slice()
     }
 
     /// The thread's shadow stack pointer.

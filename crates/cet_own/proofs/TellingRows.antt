@@ -1,0 +1,266 @@
+-- No row draws a stack yet, and no record tells of one: each row pays what it owes. Source: own.
+use Rattle.std.proofs.Common.{◌≡◌, ℕ, zero, suc, ◌+◌, ◌%◌, Bool, true, false, cond, List, [], Option, Some, None, refl, subst, sym}
+use Rattle.std.specs.Prelude.{◌==◌}
+use Rattle.std.specs.Int.{cast_unsigned}
+use Rattle.cet_words.specs.Layout.{page_at}
+use Rattle.cet_words.specs.Job.{JobData}
+use Rattle.cet_words.specs.Change.{Change}
+use Rattle.cet_isa.specs.Address.{canonical}
+use Rattle.cet_isa.specs.Reading.{Decoding, Read, Short, Unknown}
+use Rattle.cet_isa.specs.declared.instructions.AluOp.{AluOp}
+use Rattle.cet_isa.specs.declared.instructions.AluOp.TheVariants as ops
+use Rattle.cet_isa.specs.declared.instructions.Reg.{Reg}
+use Rattle.cet_isa.specs.declared.instructions.Instr.{Instr}
+use Rattle.cet_isa.specs.declared.instructions.Instr.TheVariants as instr
+use Rattle.cet_isa.specs.declared.instructions.Operand.{Operand}
+use Rattle.cet_isa.specs.declared.instructions.Operand.TheVariants as operand
+use Rattle.cet_isa.specs.declared.instructions.Size.{Size}
+use Rattle.cet_isa.specs.declared.instructions.Size.TheVariants as size
+use Rattle.cet_isa.specs.declared.threads.Arch.{Arch}
+use Rattle.cet_isa.specs.declared.threads.Fault.{Fault}
+use Rattle.cet_isa.specs.declared.threads.Record.{Record}
+use Rattle.cet_page.specs.Script.{Script, done, fault, ask, tell, ◌>>=◌}
+use Rattle.cet_page.specs.Page.{allows, page_fault}
+use Rattle.cet_page.specs.Parts.{tested_as, look_in_as, look_as, probe_in, probe, peek, load_as, store_as, exchange_as, swap, fetch_add_as, stores, general_protection}
+use Rattle.cet_page.specs.Values.{limit, width}
+use Rattle.cet_page.specs.Finish.{Row, noted, above}
+use Rattle.cet_page.specs.Family.{family_of}
+use Rattle.cet_page.specs.Operands.{register, load_word, load_at, write_place, store_at, read_operand}
+use Rattle.cet_page.specs.Arithmetic.{operated, alu, test, imul, move, movzx, movsxd, cmov, xchg, lock_xadd, lock_cmpxchg, arithmetic}
+use Rattle.cet_page.specs.Flow.{call, call_next, call_indirect, ret, push, pop, leave, jump_indirect, flow}
+use Rattle.cet_page.specs.Gate.{gate_in, gate_out, freed, entered, exit, exit_group, syscall, kill, delivery, deliver}
+use Rattle.cet_page.specs.Fetch.{missing, missing_in}
+use Rattle.cet_page.specs.Row.{execute_family, fetched, instruction, boundary, row, row_from}
+use Rattle.cet_page.specs.declared.checks.Kind.{Kind}
+use Rattle.cet_page.specs.declared.checks.Who.{Who}
+use Rattle.cet_page.specs.declared.families.Family.{Family}
+use Rattle.cet_page.specs.declared.families.Family.TheVariants as families
+use Rattle.cet_page.specs.declared.finishes.Leaving.{Leaving}
+use Rattle.cet_page.specs.declared.finishes.Leaving.TheVariants as leaving
+use Rattle.cet_page.specs.declared.flags.Computed.{Computed}
+use Rattle.cet_own.proofs.Drawn.{Drawn, nothing_drawn, draws, tells_nothing, EndTells, RowTells, Telling}
+
+-- ---- one lemma for each part, with what follows it; changes that draw nothing
+
+record Tells {A : Type 0} (Q : Drawn → A → Type 0) (d : Drawn) (s : Script A) : Type 0 where
+  tells : Telling Q d s
+
+draws_if : (d : Drawn) (b : Bool) (s t : List Change) → draws s d ≡ d → draws t d ≡ d → draws (cond b s t) d ≡ d
+draws_if d true s t p q = p
+draws_if d false s t p q = q
+
+module _ {A : Type 0} {Q : Drawn → A → Type 0} {d : Drawn} where
+  tells_done : {x : A} → Q d x → Tells Q d (done x)
+  tells_done h = record { tells = h }
+
+  tells_fault : {e : Fault} → d.kept ≡ [] → Tells Q d (fault e)
+  tells_fault h = record { tells = h }
+
+  tells_if : (b : Bool) (s t : Script A) → Tells Q d s → Tells Q d t → Tells Q d (cond b s t)
+  tells_if true s t p q = p
+  tells_if false s t p q = q
+
+module _ {A B : Type 0} {Q : Drawn → A → Type 0} {d : Drawn} (f : B → Script A) where
+  tells_return : (x : B) → Tells Q d (f x) → Tells Q d (done x >>= f)
+  unfolding ◌>>=◌
+  tells_return x h = record { tells = h.tells }
+
+  tells_fault_then : (e : Fault) → d.kept ≡ [] → Tells Q d (fault e >>= f)
+  unfolding ◌>>=◌
+  tells_fault_then e h = record { tells = h }
+
+  tells_if_then : (b : Bool) (s t : Script B) → Tells Q d (s >>= f) → Tells Q d (t >>= f) → Tells Q d (cond b s t >>= f)
+  tells_if_then true s t p q = p
+  tells_if_then false s t p q = q
+
+module _ {A : Type 0} {Q : Drawn → A → Type 0} {d : Drawn} (f : ℕ → Script A) where
+  tells_peek : (page : ℕ) → ((v : ℕ) → Tells Q d (f v)) → Tells Q d (peek page >>= f)
+  unfolding ◌>>=◌ peek
+  tells_peek page h = record { tells = λ v. (h v).tells }
+
+  tells_load : (changes : ℕ → List Change) (word : ℕ) → ((v : ℕ) → draws (changes v) d ≡ d) → ((v : ℕ) → Tells Q d (f v)) → Tells Q d (load_as changes word >>= f)
+  unfolding ◌>>=◌ load_as
+  tells_load changes word n h = record { tells = λ v. subst (λ x. Telling Q x (f v)) (sym (n v)) (h v).tells }
+
+  tells_exchange : (changes : ℕ → List Change) (word expected value : ℕ) → ((v : ℕ) → draws (changes v) d ≡ d) → ((v : ℕ) → Tells Q d (f v)) → Tells Q d (exchange_as changes word expected value >>= f)
+  unfolding ◌>>=◌ exchange_as
+  tells_exchange changes word expected value n h = record { tells = λ v. subst (λ x. Telling Q x (f v)) (sym (n v)) (h v).tells }
+
+  tells_swap : (word value : ℕ) → ((v : ℕ) → Tells Q d (f v)) → Tells Q d (swap word value >>= f)
+  unfolding ◌>>=◌ swap
+  tells_swap word value h = record { tells = λ v. (h v).tells }
+
+  tells_fetch_add : (changes : ℕ → List Change) (word value : ℕ) → ((v : ℕ) → draws (changes v) d ≡ d) → ((v : ℕ) → Tells Q d (f v)) → Tells Q d (fetch_add_as changes word value >>= f)
+  unfolding ◌>>=◌ fetch_add_as
+  tells_fetch_add changes word value n h = record { tells = λ v. subst (λ x. Telling Q x (f v)) (sym (n v)) (h v).tells }
+
+stores_telling : {A : Type 0} (Q : Drawn → A → Type 0) (d : Drawn) (f : Unit {0} → Script A) (count word value step : ℕ) → Telling Q d (f tt) → Telling Q d (stores count word value step >>= f)
+unfolding ◌>>=◌ stores
+stores_telling Q d f zero word value step h = h
+stores_telling Q d f (suc count) word value step h = stores_telling Q d f count (word + 1) (value + step) step h
+
+module _ {A : Type 0} {Q : Drawn → A → Type 0} {d : Drawn} (f : Unit {0} → Script A) where
+  tells_store : (changes : List Change) (word value : ℕ) → draws changes d ≡ d → Tells Q d (f tt) → Tells Q d (store_as changes word value >>= f)
+  unfolding ◌>>=◌ store_as
+  tells_store changes word value n h = record { tells = subst (λ x. Telling Q x (f tt)) (sym n) h.tells }
+
+  tells_stores : (count word value step : ℕ) → Tells Q d (f tt) → Tells Q d (stores count word value step >>= f)
+  tells_stores count word value step h = record { tells = stores_telling Q d f count word value step h.tells }
+
+  tells_tested : (misaligned : Fault) (addr size : ℕ) → d.kept ≡ [] → Tells Q d (f tt) → Tells Q d (tested_as misaligned addr size >>= f)
+  unfolding tested_as
+  tells_tested misaligned addr size n h =
+      tells_if_then f (canonical addr) (cond (addr % size == 0) (done tt) (fault misaligned)) (fault general_protection)
+      (tells_if_then f (addr % size == 0) (done tt) (fault misaligned) (tells_return f tt h) (tells_fault_then f _ n)) (tells_fault_then f _ n)
+
+look_in_tells : {A : Type 0} (Q : Drawn → A → Type 0) (d : Drawn) (changes : ℕ → List Change) (at : Option ℕ) (kd : Kind) (w : Who) (addr : ℕ) (f : ℕ → Script A) → ((v : ℕ) → draws (changes v) d ≡ d) → d.kept ≡ [] → ((page : ℕ) → Tells Q d (f page)) → Tells Q d (look_in_as changes at kd w addr >>= f)
+unfolding ◌>>=◌ look_in_as
+look_in_tells Q d changes None kd w addr f c n h = tells_fault n
+look_in_tells Q d changes (Some page) kd w addr f c n h =
+    record { tells = λ v. subst (λ x. Telling Q x (cond (allows v kd w) (done page) (fault (page_fault v kd w addr)) >>= f)) (sym (c v)) (tells_if_then f (allows v kd w) (done page) (fault (page_fault v kd w addr)) (tells_return f page (h page)) (tells_fault_then f _ n)).tells }
+
+probe_in_tells : {A : Type 0} (Q : Drawn → A → Type 0) (d : Drawn) (at : Option ℕ) (kd : Kind) (w : Who) (f : Option ℕ → Script A) → ((found : Option ℕ) → Tells Q d (f found)) → Tells Q d (probe_in at kd w >>= f)
+unfolding ◌>>=◌ probe_in
+probe_in_tells Q d None kd w f h = h None
+probe_in_tells Q d (Some page) kd w f h = record { tells = λ v. (h (cond (allows v kd w) (Some page) None)).tells }
+
+assoc_telling : {A B C : Type 0} (Q : Drawn → A → Type 0) (d : Drawn) (m : Script C) (h : C → Script B) (f : B → Script A) → Telling Q d (m >>= (λ x. h x >>= f)) → Telling Q d ((m >>= h) >>= f)
+unfolding ◌>>=◌
+assoc_telling Q d (done x) h f w = w
+assoc_telling Q d (fault e) h f w = w
+assoc_telling Q d (ask a changes c) h f w = λ v. assoc_telling Q (draws (changes v) d) (c v) h f (w v)
+assoc_telling Q d (tell word value changes s) h f w = assoc_telling Q (draws changes d) s h f w
+
+module _ {A : Type 0} {Q : Drawn → A → Type 0} {d : Drawn} where
+  tells_look : (changes : ℕ → List Change) (w : Who) (kd : Kind) (addr : ℕ) (f : ℕ → Script A) → ((v : ℕ) → draws (changes v) d ≡ d) → d.kept ≡ [] → ((page : ℕ) → Tells Q d (f page)) → Tells Q d (look_as changes w kd addr >>= f)
+  unfolding look_as
+  tells_look changes w kd addr f c n h = look_in_tells Q d changes (page_at addr) kd w addr f c n h
+
+  tells_probe : (w : Who) (kd : Kind) (addr : ℕ) (f : Option ℕ → Script A) → ((found : Option ℕ) → Tells Q d (f found)) → Tells Q d (probe w kd addr >>= f)
+  unfolding probe
+  tells_probe w kd addr f h = probe_in_tells Q d (page_at addr) kd w f h
+
+module _ {A B C : Type 0} {Q : Drawn → A → Type 0} {d : Drawn} where
+  tells_assoc : (m : Script C) (h : C → Script B) (f : B → Script A) → Tells Q d (m >>= (λ x. h x >>= f)) → Tells Q d ((m >>= h) >>= f)
+  tells_assoc m h f w = record { tells = assoc_telling Q d m h f w.tells }
+
+ruleset tells_parts = (tells_done, tells_fault, tells_if, tells_return, tells_fault_then, tells_if_then, tells_assoc, tells_peek, tells_load, tells_exchange, tells_swap, tells_fetch_add, tells_store, tells_stores, tells_tested, tells_look, tells_probe, draws_if, tells_nothing)
+
+-- ---- operands and the gate
+
+module _ {A : Type 0} {Q : Drawn → A → Type 0} {d : Drawn} where
+  tells_load_at : (addr count : ℕ) (f : ℕ → Script A) → d.kept ≡ [] → ((v : ℕ) → Tells Q d (f v)) → Tells Q d (load_at addr count >>= f)
+  unfolding load_at load_word
+  tells_load_at addr count f n h = search tells_parts depth 12
+
+  tells_write_place : (addr : ℕ) (f : ℕ → Script A) → d.kept ≡ [] → ((word : ℕ) → Tells Q d (f word)) → Tells Q d (write_place addr >>= f)
+  unfolding write_place
+  tells_write_place addr f n h = search tells_parts depth 12
+
+  tells_store_at : (addr value : ℕ) (f : Unit {0} → Script A) → d.kept ≡ [] → Tells Q d (f tt) → Tells Q d (store_at addr value >>= f)
+  unfolding store_at
+  tells_store_at addr value f n h = search (tells_parts, tells_write_place) depth 12
+
+  tells_read : (arch : Arch) (s : Size) (o : Operand) (next : ℕ) (f : ℕ → Script A) → d.kept ≡ [] → ((v : ℕ) → Tells Q d (f v)) → Tells Q d (read_operand arch s o next >>= f)
+  unfolding read_operand
+  tells_read arch s (operand.Reg r) next f n h = tells_return f (register arch r % limit s) (h _)
+  tells_read arch s (operand.Imm z) next f n h = tells_return f (cast_unsigned (width s) z) (h _)
+  tells_read arch s (operand.Mem m) next f n h = tells_load_at _ _ f n h
+
+freed_draws : (d : Drawn) (ends : Leaving) (k : ℕ) → draws (freed ends k) d ≡ d
+freed_draws d leaving.Back k = refl
+freed_draws d leaving.Popped k = refl
+freed_draws d (leaving.Ended status) k = refl
+
+module _ {A : Type 0} {Q : Drawn → A → Type 0} {d : Drawn} where
+  tells_gate_in : (k : ℕ) (f : Option ℕ → Script A) → Tells Q d (f None) → ((found : ℕ) → Tells Q d (f (Some found))) → Tells Q d (gate_in k >>= f)
+  unfolding gate_in
+  tells_gate_in k f free busy = search tells_parts depth 20
+
+  tells_gate_out : (ends : Leaving) (k : ℕ) (f : Unit {0} → Script A) → Tells Q d (f tt) → Tells Q d (gate_out ends k >>= f)
+  unfolding gate_out
+  tells_gate_out ends k f h = search (tells_parts, freed_draws) depth 20
+
+-- ---- rows
+
+ends_if : (b : Bool) (x y : Arch × Record) → RowTells nothing_drawn x → RowTells nothing_drawn y → RowTells nothing_drawn (cond b x y)
+ends_if true x y p q = p
+ends_if false x y p q = q
+
+ruleset rules = (tells_parts, tells_load_at, tells_write_place, tells_store_at, tells_read, tells_gate_in, tells_gate_out, ends_if)
+
+tells_operated : (arch : Arch) (op : AluOp) (dst : Operand) (c : Computed) (next : ℕ) → Tells RowTells nothing_drawn (operated arch op dst c next)
+tells_operated arch ops.Cmp dst c next = search rules depth 99 fits 9000
+tells_operated arch op (operand.Reg r) c next = search rules depth 99 fits 9000
+tells_operated arch op dst c next = search rules depth 99 fits 9000
+
+tells_move : (arch : Arch) (s : Size) (dst src : Operand) (next : ℕ) → Tells RowTells nothing_drawn (move arch s dst src next)
+unfolding move
+tells_move arch s (operand.Reg r) src next = search rules depth 99 fits 9000
+tells_move arch size.Qword (operand.Mem m) src next = search rules depth 99 fits 9000
+tells_move arch s dst src next = search rules depth 99 fits 9000
+
+tells_xchg : (arch : Arch) (dst : Operand) (r : Reg) (next : ℕ) → Tells RowTells nothing_drawn (xchg arch dst r next)
+unfolding xchg
+tells_xchg arch (operand.Reg d) r next = search rules depth 99 fits 9000
+tells_xchg arch (operand.Mem m) r next = search rules depth 99 fits 9000
+tells_xchg arch (operand.Imm z) r next = search rules depth 99 fits 9000
+
+ruleset arithmetic_rules = (rules, tells_operated, tells_move, tells_xchg)
+
+tells_arithmetic : (arch : Arch) (i : Instr) (next : ℕ) → Tells RowTells nothing_drawn (arithmetic arch i next)
+unfolding alu test imul movzx movsxd cmov lock_xadd lock_cmpxchg
+tells_arithmetic arch (instr.Mov s dst src) next = search arithmetic_rules depth 99 fits 9000
+tells_arithmetic arch i next = search arithmetic_rules depth 99 fits 9000
+
+tells_flow : (arch : Arch) (i : Instr) (next : ℕ) → Tells RowTells nothing_drawn (flow arch i next)
+unfolding call call_next call_indirect ret push pop leave jump_indirect
+tells_flow arch (instr.CallRel disp) next = search rules depth 99 fits 9000
+tells_flow arch i next = search rules depth 99 fits 9000
+
+tells_syscall : (job : JobData) (arch : Arch) → Tells EndTells nothing_drawn (syscall job arch)
+unfolding entered exit exit_group
+tells_syscall job arch = search rules depth 99 fits 9000
+
+tells_deliver : (job : JobData) (arch : Arch) (e : Fault) → Tells EndTells nothing_drawn (deliver job arch e)
+unfolding entered delivery kill
+tells_deliver job arch e = search rules depth 99 fits 9000
+
+noted_telling : (d : Drawn) (m : Row) → Telling RowTells d m → Telling EndTells d (m >>= noted)
+unfolding ◌>>=◌
+noted_telling d (done x) h = h
+noted_telling d (fault e) h = h
+noted_telling d (ask a changes c) h = λ v. noted_telling (draws (changes v) d) (c v) (h v)
+noted_telling d (tell word value changes s) h = noted_telling (draws changes d) s h
+
+tells_family : (job : JobData) (arch : Arch) (i : Instr) (next : ℕ) (p : Family) → Tells EndTells nothing_drawn (execute_family job arch i next p)
+tells_family job arch i next families.Arithmetic = record { tells = noted_telling nothing_drawn _ (tells_arithmetic arch i next).tells }
+tells_family job arch i next families.Flow = record { tells = noted_telling nothing_drawn _ (tells_flow arch i next).tells }
+tells_family job arch i next families.SystemCall = tells_syscall job arch
+tells_family job arch i next families.Unbuilt = tells_fault refl
+
+tells_missing : (at : Option ℕ) (addr : ℕ) → Tells EndTells nothing_drawn (missing_in at addr)
+tells_missing None addr = tells_fault refl
+tells_missing (Some page) addr = record { tells = λ v. refl }
+
+tells_fetched : (job : JobData) (arch : Arch) (bytes : List ℕ) (d : Decoding) → Tells EndTells nothing_drawn (fetched job arch bytes d)
+unfolding missing
+tells_fetched job arch bytes (Read i len) = tells_family job arch i (above arch.rip len) (family_of i)
+tells_fetched job arch bytes Short = tells_missing _ _
+tells_fetched job arch bytes Unknown = tells_fault refl
+
+tells_instruction : (job : JobData) (arch : Arch) → Tells EndTells nothing_drawn (instruction job arch)
+unfolding instruction
+tells_instruction job arch = search (rules, tells_fetched) depth 99 fits 9000
+
+tells_boundary : (job : JobData) (arch : Arch) → Tells EndTells nothing_drawn (boundary job arch)
+unfolding boundary
+tells_boundary job arch = search (rules, tells_instruction) depth 99 fits 9000
+
+tells_from : (job : JobData) (arch : Arch) (due : Option Fault) → Tells EndTells nothing_drawn (row_from job arch due)
+tells_from job arch (Some e) = tells_deliver job arch e
+tells_from job arch None = tells_boundary job arch
+
+-- what each row owes at its end, whatever its accesses answer
+pub row_tells : (job : JobData) (arch : Arch) → Telling EndTells nothing_drawn (row job arch)
+row_tells job arch = (tells_from job arch arch.due).tells
