@@ -58,6 +58,10 @@ pub record HasCause {T E : Type 0} (before now : ℕ) (result : Result T E) : Ty
   pub later : before ≤ now
   pub failed : OnErr result (Rose before now)
 
+-- a call that doesn't fail leaves the count as it was
+abbrev pub Steady : {T E : Type 0} → (before now : ℕ) → Result T E → Type 0
+Steady before now result = IfOk result (λ x. now ≡ before)
+
 -- at most n known bytes were taken from the front
 abbrev pub TakesUpTo : ℕ → Option (List ℕ) → Option (List ℕ) → Type 0
 TakesUpTo n old new = (bytes : List ℕ) × (length bytes ≤ n) × Consumes old new bytes

@@ -2,7 +2,7 @@
 
 ghost use Rattle.std.specs.Prelude.{◌≡◌, ◌+◌, ◌<◌, ◌≤◌, List, [], ◌==◌, length, min, take, drop, IfOk, Some, None, OnErr, is_err};
 ghost use Rattle.std.specs.List.{list_any};
-ghost use Rattle.cet_io.specs.Stream.{CountsFaults, HasCause, Reads, Writes, tallied};
+ghost use Rattle.cet_io.specs.Stream.{CountsFaults, HasCause, Reads, Steady, Writes, tallied};
 ghost use Rattle.cet_io.specs.SureSource.{tally_of};
 ghost use Rattle.cet_io.specs.MemSource.{breaks, given, after_read};
 ghost use Rattle.cet_io.specs.MemSink.{refuses, taken, after_write};
@@ -216,6 +216,7 @@ impl Sink for SureSink {
     fn write(&mut self, piece: &[u8]) -> Result<usize, Failed>
         ensures bytes { Writes None None piece.now result }
         ensures cause { HasCause 0 0 result }
+        ensures steady { Steady 0 0 result }
         ensures whole { IfOk result (λ n. n ≡ length piece.now) }
     {
         Ok(piece.len())
@@ -295,6 +296,7 @@ impl Sink for MemSink {
     fn write(&mut self, piece: &[u8]) -> Result<usize, Failed>
         ensures bytes { Writes (Some self.old.written) (Some self.new.written) piece.now result }
         ensures cause { HasCause self.old.faults self.new.faults result }
+        ensures steady { Steady self.old.faults self.new.faults result }
         ensures refused { is_err result ≡ refuses self.old piece.now }
         ensures taken { IfOk result (λ n. n ≡ taken self.old piece.now) }
         ensures after { self.new ≡ after_write self.old piece.now }

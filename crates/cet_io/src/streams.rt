@@ -1,7 +1,7 @@
 //! What bytes are read from and written to.
 
 ghost use Rattle.std.specs.Prelude.{◌≡◌, ℕ, List, None, Option, length};
-ghost use Rattle.cet_io.specs.Stream.{CountsFaults, HasCause, Reads, Tally, Writes, tallied};
+ghost use Rattle.cet_io.specs.Stream.{CountsFaults, HasCause, Reads, Steady, Tally, Writes, tallied};
 
 use std::fmt;
 
@@ -47,8 +47,9 @@ pub trait Sink {
     ghost faults: { Self → ℕ };
 
     /// Writes the first bytes of the piece, and answers their number, which is at least 1 for a piece
-    /// that isn't empty.
+    /// that isn't empty. Where it doesn't fail the count of faults stays as it was.
     fn write(&mut self, piece: &[u8]) -> Result<usize, Failed>
         ensures bytes { Writes (written self.old) (written self.new) piece.now result }
-        ensures cause { HasCause (faults self.old) (faults self.new) result };
+        ensures cause { HasCause (faults self.old) (faults self.new) result }
+        ensures steady { Steady (faults self.old) (faults self.new) result };
 }

@@ -2,7 +2,7 @@
 use Rattle.std.proofs.Common.{ℕ, zero, suc, ◌+◌, ◌-◌, ◌^◌, ◌<◌, ◌≤◌, ◌≡◌, min, inl, inr, List, [], ◌∷◌, ◌++◌, length, take, drop, Option, Some, None, sym, ◌∙◌, ap, arith}
 use Rattle.std.proofs.Math.Nat.{min-eq_left, min-eq_right, min-le_left, min-le_right}
 use Rattle.std.proofs.lemmas.Bool.{cases_lt}
-use Rattle.std.proofs.lemmas.List.{append_assoc, length-drop, take_all}
+use Rattle.std.proofs.lemmas.List.{append-nil, append_assoc, length-drop, take_all}
 use Rattle.std.specs.Io.KnownBytes.{Consumes, Appends}
 use Rattle.cet_io.specs.Stream.{AppendsSome, Rose, RoseBy, added}
 
@@ -12,6 +12,10 @@ Consumes-more (Some p) None c xs ys first second = absurd first
 Consumes-more (Some p) (Some q) None xs ys first second = absurd second
 Consumes-more (Some p) (Some q) (Some r) xs ys first second =
     first ∙ ap (λ (l : List ℕ). xs ++ l) second ∙ sym (append_assoc xs ys r)
+
+pub appends_none : (a : Option (List ℕ)) → Appends a a []
+appends_none None = tt
+appends_none (Some xs) = sym (append-nil xs)
 
 -- so many and then so many more, below a last value
 min_more : (last count m n : ℕ) → min (min (count + m) last + n) last ≡ min (count + (m + n)) last

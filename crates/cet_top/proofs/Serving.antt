@@ -1,11 +1,10 @@
 -- What follows of a command that was served.
-use Rattle.std.proofs.Common.{◌≡◌, ℕ, ◌+◌, ◌<◌, ◌≤◌, arith, Bool, true, false, List, [], ◌∷◌, length, Option, Some, None, refl, sym, ap, ◌∙◌, subst, inl, inr, ◌⊎◌}
+use Rattle.std.proofs.Common.{◌≡◌, ℕ, ◌<◌, ◌≤◌, arith, Bool, true, false, List, [], ◌∷◌, length, Option, Some, None, refl, sym, ap, subst, inl, inr, ◌⊎◌}
 use Rattle.std.specs.Io.KnownBytes.{Appends}
-use Rattle.cet_top.specs.Answer.{Answers, Runs, reads, status_of}
-use Rattle.cet_top.specs.Serves.{Answering, Answered, Completes, Cut, GaveTooMuch, IsUntouched, Serves, SinkState, Takes, Wrote}
-use Rattle.cet_io.specs.Stream.{Rose, Tally}
-use Rattle.cet_top.specs.Reading.{CountsBy, ReadToEnd, ReadTooMuch, ReadUntilFault, SourceState, TalliesBy}
-use Rattle.cet_top.specs.Schedule.{ByRobin}
+use Rattle.cet_top.specs.Answer.{Answers, reads, status_of}
+use Rattle.cet_top.specs.Serves.{Answering, Answered, Completes, CountsTooMuch, Cut, GaveTooMuch, IsAnswered, LostTooMuch, Read, Serves, SinkState, Takes, Wrote}
+use Rattle.cet_io.specs.Stream.{AppendsSome, Rose, Tally}
+use Rattle.cet_top.specs.Reading.{ReadSome, ReadToEnd, ReadTooMuch, ReadUntilFault, SourceState, TakesAll, TalliesBy}
 use Rattle.cet_top.specs.Words.{Means}
 use Rattle.cet_top.specs.declared.outcomes.ProcessEnd.{ProcessEnd}
 use Rattle.cet_top.specs.declared.outcomes.ProcessEnd.TheVariants as process
@@ -46,6 +45,88 @@ served_no_usage c src src' sink sink' s n h e =
     let a = g.answered tt in
     no_usage c a.read.bytes a.output n a.read.answer
 
+-- an answer is none of the failures
+run_answered : (end : ProcessEnd) → IsAnswered (status_of end)
+run_answered (process.Exit s) = tt
+run_answered (process.Killed s) = tt
+run_answered (process.Limit t) = tt
+
+pub answer_is_answered : (c : Command) (bytes output : List ℕ) (s : Status) → Answers c bytes s output → IsAnswered s
+answer_is_answered (command.Run settings) bytes output s a = elim a [
+  | inl r ↦ subst IsAnswered (sym r.refused) tt
+  | inr r ↦ subst IsAnswered (sym r.reported.told.ends) (run_answered r.reported.outcome.process)
+]
+answer_is_answered command.Dis bytes output s a = elim a [
+  | inl r ↦ subst IsAnswered (sym r.refused) tt
+  | inr r ↦ subst IsAnswered (sym r.done) tt
+]
+answer_is_answered command.Asm bytes output s a = elim a [
+  | inl r ↦ subst IsAnswered (sym r.refused) tt
+  | inr r ↦ subst IsAnswered (sym r.done) tt
+]
+answer_is_answered command.Check bytes output s a = elim a [
+  | inl r ↦ subst IsAnswered (sym r.refused) tt
+  | inr r ↦ subst IsAnswered (sym r.done) tt
+]
+
+-- each way in which a command that reads ends, with its cause
+module _ (Answer : Answering) (src src' : SourceState) (sink : SinkState) where
+  pub serves_no_memory : ReadSome src src' → src.faults ≤ src'.faults → Serves true Answer src src' sink sink status.NoMemory
+  serves_no_memory some later = record {
+    answered = λ a. absurd a;
+    write_fault = λ e. absurd (let no : ⊥ = cc in no);
+    read_fault = λ e. absurd (let no : ⊥ = cc in no);
+    too_long = λ e. absurd (let no : ⊥ = cc in no);
+    no_memory = λ e. (some, refl);
+    src_later = later;
+    sink_later = omega arith;
+  }
+
+  pub serves_read_fault : ReadUntilFault src src' → src.faults ≤ src'.faults → Serves true Answer src src' sink sink status.ReadFault
+  serves_read_fault fault later = record {
+    answered = λ a. absurd a;
+    write_fault = λ e. absurd (let no : ⊥ = cc in no);
+    read_fault = λ e. (refl, fault, refl);
+    too_long = λ e. absurd (let no : ⊥ = cc in no);
+    no_memory = λ e. absurd (let no : ⊥ = cc in no);
+    src_later = later;
+    sink_later = omega arith;
+  }
+
+  pub serves_too_long : ReadTooMuch src src' → src.faults ≤ src'.faults → Serves true Answer src src' sink sink status.TooLong
+  serves_too_long much later = record {
+    answered = λ a. absurd a;
+    write_fault = λ e. absurd (let no : ⊥ = cc in no);
+    read_fault = λ e. absurd (let no : ⊥ = cc in no);
+    too_long = λ e. (refl, much, refl);
+    no_memory = λ e. absurd (let no : ⊥ = cc in no);
+    src_later = later;
+    sink_later = omega arith;
+  }
+
+module _ (Answer : Answering) (src src' : SourceState) (sink sink' : SinkState) (bytes output : List ℕ) (s : Status) where
+  pub serves_written : IsAnswered s → ReadToEnd src src' bytes → Answer bytes s output → Wrote sink sink' output → src.faults ≤ src'.faults → sink.faults ≤ sink'.faults → Serves true Answer src src' sink sink' s
+  serves_written is whole answer wrote src_later sink_later = record {
+    answered = λ a. record { output = output; read = record { bytes = bytes; whole = whole; answer = answer }; written = wrote };
+    write_fault = λ e. absurd (subst IsAnswered e is);
+    read_fault = λ e. absurd (subst IsAnswered e is);
+    too_long = λ e. absurd (subst IsAnswered e is);
+    no_memory = λ e. absurd (subst IsAnswered e is);
+    src_later = src_later;
+    sink_later = sink_later;
+  }
+
+  pub serves_cut : ReadToEnd src src' bytes → Answer bytes s output → 0 < length output → AppendsSome sink.written sink'.written output → Rose sink.faults sink'.faults → src.faults ≤ src'.faults → sink.faults ≤ sink'.faults → Serves true Answer src src' sink sink' status.WriteFault
+  serves_cut whole answer some part cause src_later sink_later = record {
+    answered = λ a. absurd a;
+    write_fault = λ e. record { status = s; output = output; read = record { bytes = bytes; whole = whole; answer = answer }; some = some; written = part; cause = cause };
+    read_fault = λ e. absurd (let no : ⊥ = cc in no);
+    too_long = λ e. absurd (let no : ⊥ = cc in no);
+    no_memory = λ e. absurd (let no : ⊥ = cc in no);
+    src_later = src_later;
+    sink_later = sink_later;
+  }
+
 -- each command reads
 pub reads_all : (c : Command) → reads c ≡ true
 reads_all (command.Run settings) = refl
@@ -56,10 +137,10 @@ reads_all command.Check = refl
 pub serves_all : (c : Command) (src src' : SourceState) (sink sink' : SinkState) (s : Status) → Serves true (Answers c) src src' sink sink' s → Serves (reads c) (Answers c) src src' sink sink' s
 serves_all c src src' sink sink' s h = subst (λ b. Serves b (Answers c) src src' sink sink' s) (sym (reads_all c)) h
 
--- output that was appended, where without any the sink wasn't used
-pub wrote_by : (sink sink' : SinkState) (output : List ℕ) → Appends sink.written sink'.written output → (length output ≡ 0 → sink' ≡ sink) → Wrote sink sink' output
-wrote_by sink sink' [] a n = n refl
-wrote_by sink sink' (b ∷ bs) a n = a
+-- output that was appended by writes that didn't fail, where without any the sink wasn't used
+pub wrote_by : (sink sink' : SinkState) (output : List ℕ) → Appends sink.written sink'.written output → sink'.faults ≡ sink.faults → (length output ≡ 0 → sink' ≡ sink) → Wrote sink sink' output
+wrote_by sink sink' [] a same n = n refl
+wrote_by sink sink' (b ∷ bs) a same n = (a, same)
 
 module _ (reads : Bool) (Answer : Answering) (src src' : SourceState) (sink sink' : SinkState) where
   -- the five ways in which a command ends
@@ -88,41 +169,56 @@ module _ (reads : Bool) (Answer : Answering) (src src' : SourceState) (sink sink
     | inr (inr (inr (inr all))) ↦ inr (inr all)
   ]
 
--- a tally that is there
-counts_of : (a b : Option Tally) (t u : Tally) (given ends : ℕ) → Some t ≡ a → Some u ≡ b → TalliesBy given ends a b → CountsBy given ends t u
-counts_of None b t u given ends e f c = cc
-counts_of (Some v) None t u given ends e f c = absurd c
-counts_of (Some v) (Some w) t u given ends e f c =
-    let x : v ≡ t = cc in
-    let y : w ≡ u = cc in
-    subst (λ (z : Tally). CountsBy given ends z u) x (subst (λ (z : Tally). CountsBy given ends v z) y c)
+-- counts that rose by few don't count too much
+few_counted : (a b : Option Tally) (given ends : ℕ) → TalliesBy given ends a b → given ≤ 8388608 → CountsTooMuch a b → ⊥
+few_counted None b given ends c few much = much
+few_counted (Some t) None given ends c few much = much
+few_counted (Some t) (Some u) given ends c few much = (let most = c.given.1 in omega arith)
 
--- reads that gave few bytes didn't give too much
-few_given : (src src' : SourceState) (given ends : ℕ) → TalliesBy given ends src.tally src'.tally → given ≤ 8388608 → GaveTooMuch src src' → ⊥
-few_given src src' given ends c few g =
-    let n = counts_of src.tally src'.tally g.before g.now given ends (sym g.old) (sym g.new) c in
-    let most = n.given.1 in
-    let long = g.long in
-    omega arith
+-- a source that gave all of few bytes hasn't lost too many
+few_lost : (a b : Option (List ℕ)) (bytes : List ℕ) → TakesAll a b bytes → length bytes ≤ 8388608 → LostTooMuch a b → ⊥
+few_lost None b bytes all few much = much
+few_lost (Some xs) None bytes all few much = much
+few_lost (Some xs) (Some ys) bytes all few much = (let e : length bytes ≡ length xs = ap (λ (l : List ℕ). length l) all.0 in omega arith)
+
+-- what was read to its end didn't give too much
+few_read : (src src' : SourceState) (bytes : List ℕ) → ReadToEnd src src' bytes → GaveTooMuch src src' → ⊥
+few_read src src' bytes r much = elim much [
+  | inl counted ↦ few_counted src.tally src'.tally (length bytes) 1 r.reads r.short counted
+  | inr told ↦ few_lost src.left src'.left bytes r.all r.short told.0
+]
+
+-- nor did what was read until a fault
+few_until : (src src' : SourceState) → ReadUntilFault src src' → GaveTooMuch src src' → ⊥
+few_until src src' r much = elim much [
+  | inl counted ↦ few_counted src.tally src'.tally (length r.bytes) 0 r.reads r.short counted
+  | inr told ↦ told.1 r.cause
+]
 
 -- nor did a source that wasn't read
+none_counted : (a : Option Tally) → CountsTooMuch a a → ⊥
+none_counted None much = much
+none_counted (Some t) much = omega arith
+
+none_lost : (a : Option (List ℕ)) → LostTooMuch a a → ⊥
+none_lost None much = much
+none_lost (Some xs) much = omega arith
+
 pub none_given : (src src' : SourceState) → src' ≡ src → GaveTooMuch src src' → ⊥
-none_given src src' same g =
-    let both : Some g.now ≡ Some g.before = sym g.new ∙ ap (λ (x : SourceState). x.tally) same ∙ g.old in
-    let e : g.now ≡ g.before = cc in
-    let n : g.now.given ≡ g.before.given = ap (λ (t : Tally). t.given) e in
-    let long = g.long in
-    omega arith
+none_given src src' same much = elim (subst (λ (x : SourceState). GaveTooMuch src x) same much) [
+  | inl counted ↦ none_counted src.tally counted
+  | inr told ↦ none_lost src.left told.0
+]
 
 few_taken : (reads : Bool) (src src' : SourceState) (bytes : List ℕ) → Takes reads src src' bytes → GaveTooMuch src src' → ⊥
-few_taken true src src' bytes r g = few_given src src' (length bytes) 1 r.reads r.short g
+few_taken true src src' bytes r g = few_read src src' bytes r g
 few_taken false src src' bytes r g = none_given src src' r.0 g
 
 pub served_too_long : (reads : Bool) (Answer : Answering) (src src' : SourceState) (sink sink' : SinkState) (s : Status) → Serves reads Answer src src' sink sink' s → GaveTooMuch src src' → (s ≡ status.TooLong) ⊎ (s ≡ status.NoMemory)
 served_too_long reads Answer src src' sink sink' s h g = elim (ways reads Answer src src' sink sink' s h) [
   | inl none ↦ inr none
   | inr (inl (is, much)) ↦ inl is
-  | inr (inr (inl (is, fault))) ↦ absurd (few_given src src' (length fault.bytes) 0 fault.reads fault.short g)
+  | inr (inr (inl (is, fault))) ↦ absurd (few_until src src' fault g)
   | inr (inr (inr (inl (is, cut)))) ↦ absurd (few_taken reads src src' cut.read.bytes cut.read.whole g)
   | inr (inr (inr (inr all))) ↦ absurd (few_taken reads src src' all.read.bytes all.read.whole g)
 ]

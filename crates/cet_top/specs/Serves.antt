@@ -1,5 +1,5 @@
 -- What serving a command does to a source and a sink, whatever its answers are. Source: own.
-use Rattle.std.specs.Prelude.{◌≡◌, ℕ, ◌+◌, ◌<◌, ◌≤◌, ◌⊎◌, Bool, true, false, List, [], ◌∷◌, length, Option, Some}
+use Rattle.std.specs.Prelude.{◌≡◌, ℕ, ◌+◌, ◌<◌, ◌≤◌, ◌⊎◌, Bool, true, false, List, [], ◌∷◌, length, Option, Some, None}
 use Rattle.std.specs.Io.KnownBytes.{Appends}
 use Rattle.cet_io.specs.Stream.{Rose, AppendsSome, Tally}
 use Rattle.cet_top.specs.Reading.{SourceState, ReadToEnd, ReadUntilFault, ReadTooMuch, ReadSome}
@@ -41,10 +41,10 @@ abbrev pub TakesSome : (reads : Bool) → SourceState → SourceState → Type 0
 TakesSome true src src' = ReadSome src src'
 TakesSome false src src' = src' ≡ src
 
--- the output was appended; where there is none, the sink wasn't used
+-- the output was appended, and the count of faults is as it was; where there is none, the sink wasn't used
 abbrev pub Wrote : SinkState → SinkState → (output : List ℕ) → Type 0
 Wrote sink sink' [] = sink' ≡ sink
-Wrote sink sink' (b ∷ bs) = Appends sink.written sink'.written (b ∷ bs)
+Wrote sink sink' (b ∷ bs) = Appends sink.written sink'.written (b ∷ bs) × (sink'.faults ≡ sink.faults)
 
 -- what was read, and what it is answered with
 pub record Read (reads : Bool) (Answer : Answering) (src src' : SourceState) (s : Status) (output : List ℕ) : Type 0 where
@@ -89,10 +89,19 @@ abbrev pub Completes : (reads : Bool) → Answering → (src src' : SourceState)
 Completes reads Answer src src' sink sink' s = ¬ Rose src.faults src'.faults → ¬ Rose sink.faults sink'.faults →
     (s ≡ status.NoMemory) ⊎ ((s ≡ status.TooLong) × ReadTooMuch src src') ⊎ Answered reads Answer src src' sink sink' s
 
--- the source counts the bytes that it gave, and they were more than 8,388,608
-pub record GaveTooMuch (src src' : SourceState) : Type 0 where
-  pub before : Tally
-  pub now : Tally
-  pub old : src.tally ≡ Some before
-  pub new : src'.tally ≡ Some now
-  pub long : before.given + 8388608 < now.given
+-- more than 8,388,608 of the known bytes have gone
+abbrev pub LostTooMuch : Option (List ℕ) → Option (List ℕ) → Type 0
+LostTooMuch None new = ⊥
+LostTooMuch (Some xs) None = ⊥
+LostTooMuch (Some xs) (Some ys) = length ys + 8388608 < length xs
+
+-- more than 8,388,608 bytes more are counted as given
+abbrev pub CountsTooMuch : Option Tally → Option Tally → Type 0
+CountsTooMuch None new = ⊥
+CountsTooMuch (Some t) None = ⊥
+CountsTooMuch (Some t) (Some u) = t.given + 8388608 < u.given
+
+-- The source gave more than 8,388,608 bytes, by its count of them, or by what is left of its bytes where no fault rose; for a
+-- read that fails may lose bytes that it doesn't give.
+abbrev pub GaveTooMuch : SourceState → SourceState → Type 0
+GaveTooMuch src src' = CountsTooMuch src.tally src'.tally ⊎ (LostTooMuch src.left src'.left × ¬ Rose src.faults src'.faults)

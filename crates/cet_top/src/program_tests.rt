@@ -62,17 +62,17 @@ fn keeps(
     Ok(())
 }
 
-/// The report of the exit with status 7 has 281 bytes, so it is five writes of at most 64.
+/// The report of the exit with status 7 has 281 bytes, so it is that many writes of one byte.
 #[test]
 fn each_write_that_fails_leaves_a_first_part(rt: HostRuntime) -> Result<(), Fail> {
-    for (failing, kept) in [(1, 0), (2, 64), (5, 256)] {
-        keeps(&rt, rt.alloc(), 64, failing, Status::WriteFault, kept)?;
+    for (failing, kept) in [(1, 0), (2, 1), (281, 280)] {
+        keeps(&rt, rt.alloc(), 1, failing, Status::WriteFault, kept)?;
     }
-    keeps(&rt, rt.alloc(), 64, 6, Status::Done, 281)?;
+    keeps(&rt, rt.alloc(), 1, 282, Status::Done, 281)?;
     keeps(&rt, rt.alloc(), 10, 2, Status::WriteFault, 10)
 }
 
-/// The answer where this read fails. Each gives at most 1,000 bytes.
+/// The answer where this read fails. Each gives one byte.
 fn reads(
     rt: &impl Abort,
     alloc: Global,
@@ -80,7 +80,7 @@ fn reads(
     status: Status,
     report: &str,
 ) -> Result<(), Fail> {
-    let mut src = MemSource::new(alloc, exit_seven(rt, alloc)?.bytes(), 1000, &[failing])?;
+    let mut src = MemSource::new(alloc, exit_seven(rt, alloc)?.bytes(), 1, &[failing])?;
     let mut sink = MemSink::new(alloc, ROOM, ROOM, &[])?;
     assert_eq!(rt; run(alloc, &mut src, &mut sink)?, status);
     assert_eq!(rt; src.faults() == 1, status == Status::ReadFault);
@@ -88,23 +88,24 @@ fn reads(
     Ok(())
 }
 
-/// The image is five reads of at most 1,000 bytes, and a sixth finds its end.
+/// The image is 4,108 reads of one byte, and one more finds its end.
 #[test]
 fn each_read_that_fails_is_a_read_fault(rt: HostRuntime) -> Result<(), Fail> {
-    for failing in [1, 2, 5, 6] {
+    for failing in [1, 2, 4108, 4109] {
         reads(&rt, rt.alloc(), failing, Status::ReadFault, "")?;
     }
-    reads(&rt, rt.alloc(), 7, Status::Done, EXIT_SEVEN)
+    reads(&rt, rt.alloc(), 4110, Status::Done, EXIT_SEVEN)
 }
 
-/// A source of one byte more than the most, one read of which fails. Each gives at most 4,096 bytes.
+/// A source of one byte more than the most, one read of which fails. Each gives one byte, so the last
+/// of them is the one that is too many.
 #[test]
 fn the_first_of_fault_and_length_decides(rt: HostRuntime) -> Result<(), Fail> {
     let alloc = rt.alloc();
     let mut bytes = Vec::new(alloc);
     bytes.resize(8_388_609, 0_u8)?;
-    for (failing, status) in [(2049, Status::ReadFault), (2050, Status::TooLong)] {
-        let mut src = MemSource::new(alloc, &bytes, 4096, &[failing])?;
+    for (failing, status) in [(8_388_609, Status::ReadFault), (8_388_610, Status::TooLong)] {
+        let mut src = MemSource::new(alloc, &bytes, 1, &[failing])?;
         let mut sink = MemSink::new(alloc, ROOM, ROOM, &[1])?;
         assert_eq!(rt; run(alloc, &mut src, &mut sink)?, status);
         assert_eq!(rt; sink.faults(), 0);

@@ -53,7 +53,7 @@ pub fn plain<S: Source, K: Sink>(
         (sink_state (K.written sink.old) (K.faults sink.old))
         (sink_state (K.written sink.new) (K.faults sink.new)) result }
 
-    // An input that is counted and too long is told so, but for want of memory.
+    // An input that is too long, as the source counts or tells its bytes, is told so, but for want of memory.
     ensures too_long { GaveTooMuch
         (source_state (S.left src.old) (S.faults src.old) (S.tally src.old))
         (source_state (S.left src.new) (S.faults src.new) (S.tally src.new)) →

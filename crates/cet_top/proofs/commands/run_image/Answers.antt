@@ -1,5 +1,9 @@
-use Rattle.std.proofs.Common.{subst, arith}
+use Rattle.std.proofs.Common.{IfOk, subst, arith}
 use Rattle.cet_words.specs.Job.{ImageData, IsImage}
+use Rattle.cet_top.specs.Answer.{Reports, job_with}
+use Rattle.cet_top.specs.Schedule.{ByRobin}
+use Rattle.cet_top.specs.Settings.{SettingsData}
+use Rattle.cet_top.specs.declared.outcomes.Style.TheVariants as style
 use Rattle.cet_top.proofs.commands.run_image.Goals as goal
 
 pub invariant_of-job : goal.invariant_of-job
@@ -12,3 +16,6 @@ invariant_of-job c = record {
   few = omega arith;
   signals = λ k x l. absurd (omega arith);
 }
+
+pub returns : goal.returns
+returns c = subst (λ (s : SettingsData). IfOk c.run_job.result (λ answer. Reports (job_with s c.args.image.now) (ByRobin (job_with s c.args.image.now)) style.Full answer.status answer.output)) c.settings.view_is c.run_job.ensures

@@ -6,7 +6,7 @@ use Rattle.cet_top.proofs.transfers.write_all.Given as goal
 abbrev pub invariant-writes : goal.invariant-writes
 invariant-writes g l = record {
   within : l.at ≤ length l.bytes;
-  later : g.K.Sink.faults l.initial.sink ≤ g.K.Sink.faults l.sink;
+  steady : g.K.Sink.faults l.sink ≡ g.K.Sink.faults l.initial.sink;
   written : Appends (g.K.Sink.written l.initial.sink) (g.K.Sink.written l.sink) (take l.at l.bytes);
   unused : l.at ≡ 0 → sink_state (g.K.Sink.written l.sink) (g.K.Sink.faults l.sink) ≡ sink_state (g.K.Sink.written l.initial.sink) (g.K.Sink.faults l.initial.sink);
 }
