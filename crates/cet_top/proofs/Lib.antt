@@ -7,6 +7,8 @@ mod WordSteps
 mod LineReads
 mod Faulty
 mod FaultyLines
+mod StopLaws
+mod Kept
 mod CommandWords
 mod EveryOption
 mod Listed

@@ -1,18 +1,14 @@
 -- A word up to its first `=`, and what stands behind it.
-use Rattle.std.proofs.Common.{ℕ, suc, ◌<◌, ◌≡◌, ◌≢◌, length, get_or, arith, Bool, true, false, ◌&&◌, cond, List, [], ◌∷◌, ◌++◌, Option, Some, None, refl, sym, ap, ◌∙◌, inl, inr}
+use Rattle.std.proofs.Common.{ℕ, suc, ◌<◌, ◌≡◌, ◌≢◌, length, get_or, arith, Bool, true, false, cond, List, [], ◌∷◌, ◌++◌, Some, None, refl, sym, ap, ◌∙◌, inl, inr}
 use Rattle.std.specs.Prelude.{not, ◌==◌}
 use Rattle.std.proofs.lemmas.Bool.{and_parts, ne_eqb}
 use Rattle.std.proofs.lemmas.Bool.Decides.{eqb_tells}
+use Rattle.cet_top.specs.GoodTable.{has_no_sign}
 use Rattle.cet_top.specs.Reader.{back, front}
 
 pub not_true : (b : Bool) → not b ≡ true → b ≡ false
 not_true true e = cc
 not_true false e = refl
-
--- no `=` stands in it
-abbrev pub has_no_sign : List ℕ → Bool
-has_no_sign [] = true
-has_no_sign (c ∷ cs) = not (c == 61) && has_no_sign cs
 
 pub front_whole : (cs : List ℕ) → has_no_sign cs ≡ true → front cs ≡ cs
 front_whole [] h = refl

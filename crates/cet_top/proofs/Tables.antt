@@ -1,29 +1,22 @@
--- What makes a table a good one: a test of all its rows, and what it tells.
-use Rattle.std.proofs.Common.{ℕ, ◌+◌, ◌≡◌, Bool, true, false, ◌&&◌, ◌||◌, cond, List, [], ◌∷◌, length, Option, Some, None, refl, sym, ap, ◌∙◌, subst, inl, inr}
-use Rattle.std.specs.Prelude.{not, ◌==◌, ◌⊎◌, find, slice_get, unwrap_or, nat_lt, map}
+-- What the test of a table tells of its rows.
+use Rattle.std.proofs.Common.{ℕ, ◌≡◌, Bool, true, false, ◌&&◌, ◌||◌, cond, List, [], ◌∷◌, Some, refl, sym, ap, ◌∙◌, subst, inl, inr}
+use Rattle.std.specs.Prelude.{not, ◌==◌, find, nat_lt}
 use Rattle.std.specs.List.{list_all, list_any}
 use Rattle.std.specs.Str.{bytes_eq}
 use Rattle.std.proofs.lemmas.Bool.{and_parts}
 use Rattle.std.proofs.lemmas.Bool.Decides.{eqb_tells}
 use Rattle.std.proofs.lemmas.Slice.Eq.{bytes_eq-Decides}
-use Rattle.cet_top.specs.Grammar.{AreValues, CommandRow, IsAmong, OptionRow, Value}
-use Rattle.cet_top.specs.Reader.{find_command, find_option, is_open, none_filled}
-use Rattle.cet_top.proofs.Signs.{has_no_sign, not_true}
+use Rattle.cet_top.specs.Grammar.{CommandRow, IsAmong, OptionRow}
+use Rattle.cet_top.specs.GoodTable.{differs, distinct, good_option, good_row, good_table, good_values, has_example, has_no_sign, has_rows}
+use Rattle.cet_top.specs.Reader.{find_command, find_option}
+use Rattle.cet_top.proofs.Signs.{not_true}
 
 -- ---- rows by their words
 module _ {A : Type 0} (word : A → List ℕ) where
-  abbrev pub differs : List ℕ → List A → Bool
-  differs w [] = true
-  differs w (r ∷ rs) = not (bytes_eq w (word r)) && differs w rs
-
-  abbrev pub distinct : List A → Bool
-  distinct [] = true
-  distinct (r ∷ rs) = differs (word r) rs && distinct rs
-
-  differs_among : (w : List ℕ) (o : A) (rs : List A) → differs w rs ≡ true → IsAmong o rs → bytes_eq w (word o) ≡ false
+  differs_among : (w : List ℕ) (o : A) (rs : List A) → differs word w rs ≡ true → IsAmong o rs → bytes_eq w (word o) ≡ false
   differs_among w o [] d m = absurd m
   differs_among w o (r ∷ rs) d m =
-      let p = and_parts (not (bytes_eq w (word r))) (differs w rs) d in
+      let p = and_parts (not (bytes_eq w (word r))) (differs word w rs) d in
       elim m [
         | inl e ↦ ap (λ (x : A). bytes_eq w (word x)) e ∙ not_true (bytes_eq w (word r)) p.0
         | inr more ↦ differs_among w o rs p.1 more
@@ -33,10 +26,10 @@ module _ {A : Type 0} (word : A → List ℕ) where
   same_word w = (bytes_eq-Decides w w).1 refl
 
   -- each row is found by its word
-  pub found : (rs : List A) (o : A) → distinct rs ≡ true → IsAmong o rs → find (λ r. bytes_eq (word r) (word o)) rs ≡ Some o
+  pub found : (rs : List A) (o : A) → distinct word rs ≡ true → IsAmong o rs → find (λ r. bytes_eq (word r) (word o)) rs ≡ Some o
   found [] o d m = absurd m
   found (r ∷ rs) o d m =
-      let p = and_parts (differs (word r) rs) (distinct rs) d in
+      let p = and_parts (differs word (word r) rs) (distinct word rs) d in
       elim m [
         | inl e ↦ subst (λ (x : A). find (λ q. bytes_eq (word q) (word x)) (r ∷ rs) ≡ Some x) (sym e) (rw (same_word (word r)) refl)
         | inr more ↦ rw (differs_among (word r) o rs p.0 more) (found rs o p.1 more)
@@ -67,27 +60,6 @@ this_or_more p r rs false q e more = (let m = more e in (m.0, inr m.1, m.2))
 any_among : {A : Type 0} (p : A → Bool) (rs : List A) → list_any p rs ≡ true → (o : A) × IsAmong o rs × (p o ≡ true)
 any_among p [] h = cc
 any_among p (r ∷ rs) h = this_or_more p r rs (p r) refl h (λ later. any_among p rs later)
-
--- ---- the test of a row
-
-abbrev pub has_example : Option Value → Bool
-has_example None = true
-has_example (Some v) = v.fits v.example
-
-abbrev pub good_option : {O : Type 0} → OptionRow O → Bool
-good_option o = has_no_sign o.word && (nat_lt o.part 8 && has_example o.value)
-
-abbrev pub good_values : List Value → Bool
-good_values [] = true
-good_values (v ∷ vs) = v.fits v.example && good_values vs
-
-abbrev pub good_row : {C O : Type 0} → CommandRow C O → Bool
-good_row row =
-    distinct (λ o. o.word) row.options && (list_all good_option row.options && (good_values row.operands
-    && list_all (λ p. list_any (λ o. o.part == p) row.options) row.needs))
-
-abbrev pub good_table : {C O : Type 0} → List (CommandRow C O) → Bool
-good_table rows = distinct (λ r. r.word) rows && list_all good_row rows
 
 -- ---- what it tells
 
@@ -125,15 +97,22 @@ row_good {O = O} row h =
           (a.0, a.1, part_is a.0.part n a.2);
     }
 
+first_among : {A : Type 0} (rs : List A) → has_rows rs ≡ true → (row : A) × IsAmong row rs
+first_among [] h = cc
+first_among (r ∷ rs) h = (r, inl refl)
+
 module _ {C O : Type 0} (table : List (CommandRow C O)) (good : good_table table ≡ true) where
   pub good_among : (row : CommandRow C O) → IsAmong row table → GoodRow row
   good_among row m =
-      let p = and_parts (distinct (λ (r : CommandRow C O). r.word) table) (list_all good_row table) good in
+      let p = and_parts (distinct (λ (r : CommandRow C O). r.word) table) (list_all good_row table) (and_parts (has_rows table) _ good).1 in
       row_good row (all_among good_row table row p.1 m)
+
+  pub first_row : (row : CommandRow C O) × IsAmong row table
+  first_row = first_among table (and_parts (has_rows table) _ good).0
 
   pub command_found : (row : CommandRow C O) → IsAmong row table → find_command table row.word ≡ Some row
   command_found row m =
-      let p = and_parts (distinct (λ (r : CommandRow C O). r.word) table) (list_all good_row table) good in
+      let p = and_parts (distinct (λ (r : CommandRow C O). r.word) table) (list_all good_row table) (and_parts (has_rows table) _ good).1 in
       found (λ (r : CommandRow C O). r.word) table row p.0 m
 
 pub option_found : {O : Type 0} (rows : List (OptionRow O)) (word : List ℕ) (o : OptionRow O) → find_option rows word ≡ Some o → IsAmong o rows × (o.word ≡ word)

@@ -1,10 +1,6 @@
 -- Grammars of words, as tables of commands and options, and the first faulty word of a list. Source: own.
-use Rattle.std.specs.Prelude.{ℕ, ◌+◌, ◌<◌, ◌≤◌, ◌≡◌, ◌≢◌, ◌⊎◌, Bool, true, List, [], ◌∷◌, ◌++◌, length, take, codes, Option, Some, None}
-
--- which texts are a value, and one of them
-pub record Value : Type 0 where
-  pub fits : List ℕ → Bool
-  pub example : List ℕ
+use Rattle.std.specs.Prelude.{ℕ, ◌+◌, ◌<◌, ◌≤◌, ◌≡◌, ◌≢◌, ◌⊎◌, true, List, [], ◌∷◌, ◌++◌, length, take, codes, Option, Some, None}
+use Rattle.cet_top.specs.Values.{Value, fits}
 
 -- An option: its name, its word, its value, where it has one, and its part. A line has at most one option of each part: an option
 -- that stands alone has a part of its own, and options that exclude each other have one part.
@@ -35,7 +31,7 @@ IsAmong row (r ∷ rs) = (row ≡ r) ⊎ IsAmong row rs
 -- the words of an option: its own, or that and its value, in the next word or behind `=` in the same
 abbrev pub IsSpelled : (word : List ℕ) → Option Value → (value : List ℕ) → (words : List (List ℕ)) → Type 0
 IsSpelled word None value words = (value ≡ []) × (words ≡ word ∷ [])
-IsSpelled word (Some v) value words = (v.fits value ≡ true) × ((words ≡ word ∷ value ∷ []) ⊎ (words ≡ (word ++ codes "=" ++ value) ∷ []))
+IsSpelled word (Some v) value words = (fits v value ≡ true) × ((words ≡ word ∷ value ∷ []) ⊎ (words ≡ (word ++ codes "=" ++ value) ∷ []))
 
 -- options, one after another
 abbrev pub AreOptions : {O : Type 0} → List (Given O) → (words : List (List ℕ)) → Type 0
@@ -47,7 +43,7 @@ abbrev pub AreValues : List Value → (words : List (List ℕ)) → Type 0
 AreValues [] [] = Unit {0}
 AreValues [] (w ∷ ws) = ⊥
 AreValues (v ∷ vs) [] = ⊥
-AreValues (v ∷ vs) (w ∷ ws) = (v.fits w ≡ true) × AreValues vs ws
+AreValues (v ∷ vs) (w ∷ ws) = (fits v w ≡ true) × AreValues vs ws
 
 -- each is an option of the table
 abbrev pub AreTaken : {O : Type 0} → List (OptionRow O) → List (Given O) → Type 0

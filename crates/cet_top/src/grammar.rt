@@ -3,7 +3,8 @@
 ghost use Rattle.std.specs.Prelude.{◌≡◌, map, option_map};
 ghost use Rattle.cet_top.specs.Reader.{find_command, find_option};
 ghost use Rattle.cet_top.specs.Table.{command_view, option_view, value_view};
-ghost use Rattle.cet_top.specs.Words.{commands, number_within};
+ghost use Rattle.cet_top.specs.Values.{fits, number_within};
+ghost use Rattle.cet_top.specs.Words.{commands};
 
 use crate::options::OptionName;
 use crate::words::CommandName;
@@ -16,7 +17,7 @@ pub(crate) const MOST_RECORDS: u32 = 100_000;
 #[derive(Clone, Copy, Debug, PartialEq, Eq)]
 pub(crate) enum Value {
     /// The numbers from `low` to `high`.
-    Number { low: u32, high: u32 },
+    Number { low: u64, high: u64 },
 }
 
 /// An option.
@@ -28,6 +29,13 @@ pub(crate) struct OptionRow {
     pub value: Option<Value>,
     /// Its part of a line, 0 to 7. A line has at most one option of each part.
     pub part: usize,
+}
+
+/// An option that is given, and its value, which is empty where the option has none.
+#[derive(Clone, Copy, Debug)]
+pub(crate) struct Given<'w> {
+    pub option: OptionRow,
+    pub value: &'w str,
 }
 
 /// A command.
@@ -48,7 +56,7 @@ const COMMON: [OptionRow; 1] = [OptionRow {
     word: "--limit",
     value: Some(Value::Number {
         low: 1,
-        high: MOST_RECORDS,
+        high: MOST_RECORDS as u64,
     }),
     part: 0,
 }];
@@ -85,12 +93,12 @@ const COMMANDS: [CommandRow; 4] = [
 ];
 
 /// The number that a text writes, where it is one from `low` to `high`.
-pub(crate) fn number_within(text: &str, low: u32, high: u32) -> Option<u32>
+pub(crate) fn number_within(text: &str, low: u64, high: u64) -> Option<u64>
     ensures { result ≡ number_within low high text.now }
 {
     let number = read_u64(text.as_bytes())?;
-    if u64::from(low) <= number && number <= u64::from(high) {
-        Some(number as u32)
+    if low <= number && number <= high {
+        Some(number)
     } else {
         None
     }
@@ -99,7 +107,7 @@ pub(crate) fn number_within(text: &str, low: u32, high: u32) -> Option<u32>
 impl Value {
     /// Whether a text is such a value.
     pub(crate) fn fits(self, text: &str) -> bool
-        ensures { result ≡ (value_view self).fits text.now }
+        ensures { result ≡ fits (value_view self) text.now }
     {
         match self {
             Value::Number { low, high } => number_within(text, low, high).is_some(),

@@ -24,7 +24,7 @@ mod transfers;
 mod turns;
 mod words;
 
-pub use laws::{answers_are_one, schedules_are_complete, schedules_are_one};
+pub use laws::{answers_are_one, schedules_are_complete, schedules_are_one, tables_are_read};
 pub use outcomes::{Outcome, ProcessEnd, Records, Style, ThreadOut, ThreadOuts};
 pub use programs::plain;
 pub use status::Status;

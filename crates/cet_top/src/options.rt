@@ -1,9 +1,11 @@
 //! The options of a command, and the settings that they make.
 
-ghost use Rattle.std.specs.Prelude.{◌≡◌};
-ghost use Rattle.cet_top.specs.Words.{defaults, with_option};
+ghost use Rattle.std.specs.Prelude.{◌≡◌, option_map};
+ghost use Rattle.cet_top.specs.Table.{given_view};
+ghost use Rattle.cet_top.specs.Values.{number_within};
+ghost use Rattle.cet_top.specs.Words.{defaults, with_any, with_option};
 
-use crate::grammar::{MOST_RECORDS, number_within};
+use crate::grammar::{Given, MOST_RECORDS, number_within};
 use std::marker::Model;
 
 /// An option, by its name.
@@ -32,6 +34,14 @@ impl Model for Settings {
     ghost inverse = { λ d. record { limit = d.limit } };
 }
 
+/// The limit that a text is.
+fn limit_of(text: &str) -> Option<u32>
+    ensures { result ≡ number_within 1 100000 text.now }
+{
+    let limit = number_within(text, 1, MOST_RECORDS.into())?;
+    Some(limit as u32)
+}
+
 impl Settings {
     /// The settings where no option is given.
     pub(crate) fn defaults() -> Settings
@@ -42,14 +52,24 @@ impl Settings {
         }
     }
 
-    /// The settings with one option's value. A value that the option can't have changes nothing.
-    pub(crate) fn with(self, option: OptionName, value: &str) -> Settings
+    /// The settings with an option's value. A value that the option can't have changes nothing.
+    fn with(self, option: OptionName, value: &str) -> Settings
         ensures { result ≡ with_option self option value.now }
     {
         match option {
             OptionName::Limit => Settings {
-                limit: number_within(value, 1, MOST_RECORDS).unwrap_or(self.limit),
+                limit: limit_of(value).unwrap_or(self.limit),
             },
+        }
+    }
+
+    /// The settings with an option, where one is given.
+    pub(crate) fn with_given(self, given: Option<Given>) -> Settings
+        ensures { result ≡ with_any self (option_map given_view given.entry) }
+    {
+        match given {
+            Some(given) => self.with(given.option.name, given.value),
+            None => self,
         }
     }
 }

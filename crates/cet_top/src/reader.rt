@@ -1,14 +1,11 @@
 //! How a line is read, one word after another.
 
-ghost use Rattle.std.specs.Prelude.{◌≡◌, true, option_map, slice_set};
+ghost use Rattle.std.specs.Prelude.{◌≡◌, true, [], option_map, slice_set};
 ghost use Rattle.std.specs.List.{list_all};
-ghost use Rattle.cet_top.specs.Reader.{back, filled_by, front, is_filled, is_open, may_end, option_begins, start, step, value_step};
-ghost use Rattle.cet_top.specs.Table.{command_view, option_view, reader_view, value_view};
-ghost use Rattle.cet_top.specs.Words.{command_of, defaults, with_operand, with_option};
+ghost use Rattle.cet_top.specs.Reader.{back, filled_by, forget, front, given_by, is_filled, is_open, may_end, option_begins, option_ends, start, step, value_step};
+ghost use Rattle.cet_top.specs.Table.{command_view, given_view, option_view, reader_view, value_view};
 
-use crate::grammar::{CommandRow, OptionRow, Value, find_option};
-use crate::options::Settings;
-use crate::words::Command;
+use crate::grammar::{CommandRow, Given, OptionRow, Value, find_option};
 
 /// What was read of a line, and what may still come.
 #[derive(Drop)]
@@ -20,7 +17,6 @@ pub(crate) struct Reader {
     wants: Option<OptionRow>,
     /// For each part of a line, whether there is an option of it.
     filled: [bool; 8],
-    settings: Settings,
 }
 
 /// A word up to its first `=`, and what stands behind that.
@@ -44,17 +40,27 @@ fn with_part(mut filled: [bool; 8], part: usize) -> [bool; 8]
     filled
 }
 
+/// An option by its word, and by what stands behind `=`, where its words end there.
+fn option_ends<'w>(option: OptionRow, text: Option<&'w str>) -> Option<Given<'w>>
+    ensures { option_map given_view result ≡ option_ends (option_view option) (option_map value_view option.value) (option_map (λ t. t.now) text.entry) }
+{
+    let value = match option.value {
+        None => "",
+        Some(_) => text?,
+    };
+    Some(Given { option, value })
+}
+
 impl Reader {
     /// The reader behind a command's word.
     pub(crate) fn new(row: CommandRow) -> Reader
-        ensures { reader_view result ≡ start (command_view row) defaults }
+        ensures { reader_view result ≡ start (command_view row) tt }
     {
         Reader {
             row,
             operands: row.operands,
             wants: None,
             filled: [false; 8],
-            settings: Settings::defaults(),
         }
     }
 
@@ -73,31 +79,30 @@ impl Reader {
     }
 
     /// With one option more.
-    fn filled_by(mut self, option: OptionRow, value: &str) -> Reader
-        ensures { reader_view result ≡ filled_by with_operand with_option (reader_view self) (option_view option) value.now }
+    fn filled_by(mut self, option: OptionRow) -> Reader
+        ensures { reader_view result ≡ filled_by forget (reader_view self) (option_view option) [] }
     {
         self.wants = None;
         self.filled = with_part(self.filled, option.part);
-        self.settings = self.settings.with(option.name, value);
         self
     }
 
     /// The value of an option.
     fn value_step(self, option: OptionRow, value: Option<Value>, word: &str) -> Option<Reader>
-        ensures { option_map reader_view result ≡ value_step with_operand with_option (reader_view self) (option_view option) (option_map value_view value) word.now }
+        ensures { option_map reader_view result ≡ value_step forget (reader_view self) (option_view option) (option_map value_view value) word.now }
     {
         match value {
-            Some(value) if value.fits(word) => Some(self.filled_by(option, word)),
+            Some(value) if value.fits(word) => Some(self.filled_by(option)),
             _ => None,
         }
     }
 
     /// An option's word, and what stands behind `=`.
     fn option_step(mut self, option: OptionRow, text: Option<&str>) -> Option<Reader>
-        ensures { option_map reader_view result ≡ option_begins with_operand with_option (reader_view self) (option_view option) (option_map value_view option.value) (option_map (λ t. t.now) text.entry) }
+        ensures { option_map reader_view result ≡ option_begins forget (reader_view self) (option_view option) (option_map value_view option.value) (option_map (λ t. t.now) text.entry) }
     {
         match (option.value, text) {
-            (None, None) => Some(self.filled_by(option, "")),
+            (None, None) => Some(self.filled_by(option)),
             (None, Some(_)) => None,
             (Some(_), None) => {
                 self.wants = Some(option);
@@ -109,7 +114,7 @@ impl Reader {
 
     /// With one word more, or none where no line goes on with it.
     pub(crate) fn step(mut self, word: &str) -> Option<Reader>
-        ensures { option_map reader_view result ≡ step with_operand with_option (reader_view self) word.now }
+        ensures { option_map reader_view result ≡ step forget (reader_view self) word.now }
     {
         if let Some(option) = self.wants {
             return self.value_step(option, option.value, word);
@@ -140,10 +145,21 @@ impl Reader {
         self.wants.is_none() && self.operands.is_empty() && self.has_all(self.row.needs)
     }
 
-    /// The command of the line.
-    pub(crate) fn command(self) -> Command
-        ensures { result ≡ command_of self.row.name self.settings }
+    /// The option whose words end with this word, where it is one.
+    pub(crate) fn given<'w>(&self, word: &'w str) -> Option<Given<'w>>
+        ensures { option_map given_view result ≡ given_by (reader_view self.now) word.now }
     {
-        self.row.name.with(self.settings)
+        if let Some(option) = self.wants {
+            return Some(Given {
+                option,
+                value: word,
+            });
+        }
+        if !self.operands.is_empty() {
+            return None;
+        }
+        let (front, text) = parted(word);
+        let option = find_option(self.row.options, front)?;
+        option_ends(option, text)
     }
 }

@@ -1,9 +1,10 @@
 //! The words of a command.
 
-ghost use Rattle.std.specs.Prelude.{◌≡◌, ◌∷◌, map, string_bytes, MatchResult};
-ghost use Rattle.cet_top.specs.Grammar.{FaultyWord, IsAmong};
+ghost use Rattle.std.specs.Prelude.{◌≡◌, ℕ, List, ◌∷◌, map, string_bytes, MatchResult};
+ghost use Rattle.cet_top.specs.Grammar.{FaultyWord, Given, IsAmong, IsLine};
 ghost use Rattle.cet_top.specs.Table.{command_view};
-ghost use Rattle.cet_top.specs.Words.{IsCommand, Means, command_of, commands};
+ghost use Rattle.cet_top.specs.Words.{IsCommand, Means, command_of, commands, settings_of};
+ghost use Rattle.cet_top.specs.declared.options.OptionName.{OptionName};
 
 use crate::grammar::{CommandRow, find_command};
 use crate::options::Settings;
@@ -32,9 +33,9 @@ pub(crate) enum CommandName {
 }
 
 impl CommandName {
-    /// The command of this name with these settings.
-    pub(crate) fn with(self, settings: Settings) -> Command
-        ensures { result ≡ command_of self settings }
+    /// The command of this name with these settings. None has words without a name yet.
+    fn with(self, settings: Settings) -> Command
+        ensures { (operands : List (List ℕ)) → result ≡ command_of self operands settings }
     {
         match self {
             CommandName::Run => Command::Run(settings),
@@ -45,10 +46,10 @@ impl CommandName {
     }
 }
 
-/// Reads the words behind a command's own. The error is the number of the first faulty word of all.
-fn read_line(row: CommandRow, words: &[String]) -> Result<Command, u32>
+/// Checks the words behind a command's own. The error is the number of the first faulty word of all. It takes no memory.
+fn check_line(row: CommandRow, words: &[String]) -> Result<(), u32>
     requires { IsAmong (command_view row) commands }
-    ensures { MatchResult result (Means (row.word.now ∷ map string_bytes words.now))
+    ensures { MatchResult result (λ u. IsCommand (row.word.now ∷ map string_bytes words.now))
         (FaultyWord IsCommand (row.word.now ∷ map string_bytes words.now)) }
 {
     let mut reader = Reader::new(row);
@@ -59,10 +60,42 @@ fn read_line(row: CommandRow, words: &[String]) -> Result<Command, u32>
         }
     }
     if reader.may_end() {
-        Ok(reader.command())
+        Ok(())
     } else {
         Err(words.len() as u32 + 2)
     }
+}
+
+/// The settings that the options of a line make, in the order in which they stand.
+fn settings_of(row: CommandRow, words: &[String]) -> Settings
+    requires { IsAmong (command_view row) commands }
+    ensures { (operands : List (List ℕ)) (given : List (Given OptionName)) →
+        IsLine (command_view row) operands given (row.word.now ∷ map string_bytes words.now) →
+        result ≡ settings_of given }
+{
+    let mut reader = Reader::new(row);
+    let mut settings = Settings::defaults();
+    'words: for at in 0..words.len() {
+        let word = words[at].as_str();
+        settings = settings.with_given(reader.given(word));
+        match reader.step(word) {
+            Some(next) => reader = next,
+            // Each word of a line is taken.
+            None => return settings,
+        }
+    }
+    settings
+}
+
+/// Reads the words behind a command's own. The error is the number of the first faulty word of all. Only where there is
+/// none, the settings are made, so that one which needs memory can't hide a faulty word. None needs memory yet.
+fn read_line(row: CommandRow, words: &[String]) -> Result<Command, u32>
+    requires { IsAmong (command_view row) commands }
+    ensures { MatchResult result (Means (row.word.now ∷ map string_bytes words.now))
+        (FaultyWord IsCommand (row.word.now ∷ map string_bytes words.now)) }
+{
+    check_line(row, words)?;
+    Ok(row.name.with(settings_of(row, words)))
 }
 
 /// Reads the words of a command. The error is the number of the first faulty word. It takes no memory.
