@@ -1,0 +1,50 @@
+#!/usr/bin/env python3
+"""Compares Bochs with the model, and cetvm with the model, as README.md says.
+
+    check.py CETVM WORK [SEED]      CETVM: the program, or a name without a file; WORK: a scratch folder
+"""
+import os
+import sys
+import time
+from pathlib import Path
+
+import differences
+import machine
+import worked
+from cases import all_cases
+from compare import Totals, compare_bochs
+from guest import compare_cetvm
+from sequences import sequences
+
+# The instructions that cetvm runs; programs with others are for Bochs alone. `syscall` is map_shadow_stack.
+BUILT = {
+    "call", "call_register", "call_memory", "ret", "ret_number", "push_register", "push_number", "push_memory", "pop",
+    "mov_number", "mov_number_32", "mov_load", "mov_store", "add_number", "stc", "clc", "nop", "jmp", "ud2", "wrssq",
+}
+SEQUENCES, LENGTH = 300, 300
+
+
+def main():
+    cetvm, work = Path(sys.argv[1]).resolve(), Path(sys.argv[2]).resolve()
+    seed = int(sys.argv[3]) if len(sys.argv) > 3 else time.time_ns() // 1000 % 1000000
+    print(f"bochs: seed {seed}", flush=True)
+    cases = [*all_cases(), *differences.examples(), *(case for case, _, _ in worked.programs())]
+    cases += sequences(seed, SEQUENCES, LENGTH)
+    totals = Totals()
+    for case, (lines, words) in zip(cases, machine.run(work, cases), strict=True):
+        compare_bochs(case, lines, words, totals)
+    mine = [case for case in cases if not case.planted and case.names() <= BUILT]
+    if os.access(cetvm, os.X_OK):
+        for case in mine:
+            compare_cetvm(cetvm, case, totals)
+    totals.print()
+    wrong = [f"the model has other records of {name}" for name in worked.check()]
+    wrong += [f"docs/differences.md has another example of {name}" for name in differences.missing()]
+    for line in wrong:
+        print(f"bochs: {line}")
+    print(f"bochs: {totals.reports} reports of cetvm with {totals.records} records, of {len(mine)} programs that it runs, "
+          f"in {len(cases)} cases")
+    sys.exit(bool(wrong) or totals.faulty())
+
+
+main()
