@@ -4,20 +4,20 @@ use Rattle.cet_isa.specs.declared.threads.Arch.{Arch}
 use Rattle.cet_page.specs.declared.cursors.Stop.{Stop}
 use Rattle.cet_page.specs.declared.finishes.Finish.{Finish}
 use Rattle.cet_page.specs.declared.finishes.Finish.TheVariants as finish
-use Rattle.cet_cpu.specs.declared.gate.Completed.{Completed}
-use Rattle.cet_cpu.specs.declared.gate.Completed.TheVariants as completed
+use Rattle.cet_cpu.specs.declared.gate.RowEnd.{RowEnd}
+use Rattle.cet_cpu.specs.declared.gate.RowEnd.TheVariants as row_end
 
 -- what a row comes to, by the state after it and what it completed
-abbrev pub finish_with : Arch → Completed → Finish
-finish_with after (completed.Noted noted) = finish.Noted after noted
-finish_with after completed.Posted = finish.Posted after
-finish_with after (completed.Exited noted status) = finish.Exited after noted status
-finish_with after completed.Stopped = finish.Stopped
+abbrev pub finish_with : Arch → RowEnd → Finish
+finish_with after (row_end.Noted noted) = finish.Noted after noted
+finish_with after row_end.Posted = finish.Posted after
+finish_with after (row_end.Exited noted status) = finish.Exited after noted status
+finish_with after row_end.Stopped = finish.Stopped
 
 -- the state is as it was where the row isn't over, or the process has ended
-abbrev pub Stays : (before after : Arch) → Result Completed Stop → Type 0
-Stays before after (Ok (completed.Noted noted)) = Unit {0}
-Stays before after (Ok completed.Posted) = Unit {0}
-Stays before after (Ok (completed.Exited noted status)) = Unit {0}
-Stays before after (Ok completed.Stopped) = after ≡ before
+abbrev pub Stays : (before after : Arch) → Result RowEnd Stop → Type 0
+Stays before after (Ok (row_end.Noted noted)) = Unit {0}
+Stays before after (Ok row_end.Posted) = Unit {0}
+Stays before after (Ok (row_end.Exited noted status)) = Unit {0}
+Stays before after (Ok row_end.Stopped) = after ≡ before
 Stays before after (Err stop) = after ≡ before

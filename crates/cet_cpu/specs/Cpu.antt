@@ -13,7 +13,7 @@ use Rattle.cet_page.specs.declared.finishes.Finish.{Finish}
 use Rattle.cet_cpu.specs.Changes.{finish_with, Stays}
 use Rattle.cet_cpu.specs.Code.{IsCode}
 use Rattle.cet_cpu.specs.declared.fetches.Code.{Code}
-use Rattle.cet_cpu.specs.declared.gate.Completed.{Completed}
+use Rattle.cet_cpu.specs.declared.gate.RowEnd.{RowEnd}
 
 -- the thread, the access that it waits for with its mark, and the code at RIP, once its row has read that
 pub record CpuData : Type 0 where
@@ -47,7 +47,7 @@ pub record IsNext (job : JobData) (core : Core) (next : Access × Mark) : Type 0
 
 -- What a row has come to, as a function returns it that changes the state in its place: where the row is over, the thread
 -- keeps its number and what it holds.
-abbrev pub CameTo : Came Finish → (before after : Arch) → Result Completed Stop → Type 0
+abbrev pub CameTo : Came Finish → (before after : Arch) → Result RowEnd Stop → Type 0
 CameTo came before after (Ok done) =
     (next : Arch) × (left : ℕ) × (values : List ℕ) × (after ≡ kept_by before before.held next)
     × (came ≡ Over (finish_with next done) left values) × Stays before after (Ok done)

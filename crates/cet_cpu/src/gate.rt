@@ -31,7 +31,7 @@ pub const SYSCALL_LENGTH: u64 = 2;
 
 /// What a row comes to beside the state after it, which is changed in its place.
 #[derive(Clone, Copy)]
-pub enum Completed {
+pub enum RowEnd {
     /// A record.
     Noted(Record),
     /// The posting of a listed signal, which gives no record.
@@ -131,7 +131,7 @@ pub fn counted(arch: &Arch) -> Arch
     after
 }
 
-fn found_busy(arch: &mut Arch, k: u8, found: u64) -> Completed
+fn found_busy(arch: &mut Arch, k: u8, found: u64) -> RowEnd
     requires stack { k < 8 }
     requires count { arch.old.count < 2 ^ 32 - 1 }
     ensures comes { finish_with arch.new result ≡ found_busy arch.old k found }
@@ -145,7 +145,7 @@ fn found_busy(arch: &mut Arch, k: u8, found: u64) -> Completed
         b: found,
     };
     arch.count += 1;
-    Completed::Noted(noted)
+    RowEnd::Noted(noted)
 }
 
 fn sys_record(arch: &Arch, outcome: u64) -> Record
@@ -318,20 +318,20 @@ fn work(arch: &Arch, entry: Entry, at: &mut Cursor) -> Result<(Arch, Record, Lea
 }
 
 /// What the row comes to after the way out: the state is changed.
-fn finish_of(arch: &mut Arch, next: Arch, noted: Record, ends: Leaving) -> Completed
+fn finish_of(arch: &mut Arch, next: Arch, noted: Record, ends: Leaving) -> RowEnd
     ensures comes { finish_with arch.new result ≡ finish_of next noted ends }
     ensures stays { Stays arch.old arch.new (Ok result) }
 {
     *arch = next;
     match ends {
-        Leaving::Back | Leaving::Popped => Completed::Noted(noted),
-        Leaving::Ended(status) => Completed::Exited(noted, status),
+        Leaving::Back | Leaving::Popped => RowEnd::Noted(noted),
+        Leaving::Ended(status) => RowEnd::Exited(noted, status),
     }
 }
 
 /// The kernel's entry: the way in, the work, and the way out.
 #[tactic(auto, using(cet_page::proofs::ScriptLaws::play_bind), unfolding(cet_page::specs::Gate::entered))]
-fn entered(job: &Job, arch: &mut Arch, entry: Entry, at: &mut Cursor) -> Result<Completed, Stop>
+fn entered(job: &Job, arch: &mut Arch, entry: Entry, at: &mut Cursor) -> Result<RowEnd, Stop>
     requires count { arch.old.count < 2 ^ 32 - 1 }
     requires made { IsMade arch.old.made }
     ensures comes { ComesBy (finish_with arch.new) (play (entered job.now arch.old (work_of arch.old entry)) at.old.left at.old.rest.now) result at.new.left at.new.rest.now }
@@ -347,7 +347,7 @@ fn entered(job: &Job, arch: &mut Arch, entry: Entry, at: &mut Cursor) -> Result<
 }
 
 /// SYSCALL.
-pub fn syscall(job: &Job, arch: &mut Arch, at: &mut Cursor) -> Result<Completed, Stop>
+pub fn syscall(job: &Job, arch: &mut Arch, at: &mut Cursor) -> Result<RowEnd, Stop>
     requires count { arch.old.count < 2 ^ 32 - 1 }
     requires made { IsMade arch.old.made }
     ensures comes { ComesBy (finish_with arch.new) (play (syscall job.now arch.old) at.old.left at.old.rest.now) result at.new.left at.new.rest.now }
@@ -362,7 +362,7 @@ pub fn deliver(
     arch: &mut Arch,
     fault: &Fault,
     at: &mut Cursor,
-) -> Result<Completed, Stop>
+) -> Result<RowEnd, Stop>
     requires count { arch.old.count < 2 ^ 32 - 1 }
     requires made { IsMade arch.old.made }
     ensures comes { ComesBy (finish_with arch.new) (play (deliver job.now arch.old fault.now) at.old.left at.old.rest.now) result at.new.left at.new.rest.now }

@@ -10,7 +10,7 @@ ghost use Rattle.cet_cpu.specs.Changes.{finish_with, Stays};
 ghost use Rattle.cet_cpu.specs.Code.{IsCode};
 
 use crate::fetches::{Code, code_at};
-use crate::gate::{Completed, deliver, syscall};
+use crate::gate::{RowEnd, deliver, syscall};
 use cet_decode::Decoded;
 use cet_isa::{Arch, Instr, is_canonical};
 use cet_page::{Cursor, Family, Stop, family_of, general_protection, invalid_opcode, missing};
@@ -24,7 +24,7 @@ fn execute(
     instr: &Instr,
     next: u64,
     at: &mut Cursor,
-) -> Result<Completed, Stop>
+) -> Result<RowEnd, Stop>
     requires count { arch.old.count < 2 ^ 32 - 1 }
     requires made { IsMade arch.old.made }
     ensures comes { ComesBy (finish_with arch.new) (play (execute job.now arch.old instr.now next) at.old.left at.old.rest.now) result at.new.left at.new.rest.now }
@@ -34,12 +34,12 @@ fn execute(
         Family::Arithmetic => {
             let (after, noted) = cet_alu::follow(arch, instr, next, at)?;
             *arch = after;
-            Ok(Completed::Noted(noted))
+            Ok(RowEnd::Noted(noted))
         }
         Family::Flow => {
             let (after, noted) = cet_flow::follow(arch, instr, next, at)?;
             *arch = after;
-            Ok(Completed::Noted(noted))
+            Ok(RowEnd::Noted(noted))
         }
         Family::SystemCall => syscall(job, arch, at),
         Family::Unbuilt => Err(invalid_opcode()),
@@ -47,7 +47,7 @@ fn execute(
 }
 
 /// The instruction that the code at RIP is.
-fn decoded(job: &Job, arch: &mut Arch, code: &Code, at: &mut Cursor) -> Result<Completed, Stop>
+fn decoded(job: &Job, arch: &mut Arch, code: &Code, at: &mut Cursor) -> Result<RowEnd, Stop>
     requires count { arch.old.count < 2 ^ 32 - 1 }
     requires made { IsMade arch.old.made }
     requires code { IsCode job.now.image.segments arch.old.rip code.now }
@@ -71,7 +71,7 @@ fn instruction(
     arch: &mut Arch,
     code: &mut Option<Code>,
     at: &mut Cursor,
-) -> Result<Completed, Stop>
+) -> Result<RowEnd, Stop>
     requires count { arch.old.count < 2 ^ 32 - 1 }
     requires made { IsMade arch.old.made }
     requires code { IfSome code.old (IsCode job.now.image.segments arch.old.rip) }
@@ -99,7 +99,7 @@ fn boundary(
     arch: &mut Arch,
     code: &mut Option<Code>,
     at: &mut Cursor,
-) -> Result<Completed, Stop>
+) -> Result<RowEnd, Stop>
     requires count { arch.old.count < 2 ^ 32 - 1 }
     requires made { IsMade arch.old.made }
     requires number { arch.old.number < 32 }
@@ -110,7 +110,7 @@ fn boundary(
 {
     let ending = at.load(EXIT_WORD)?;
     if ending != 0 {
-        return Ok(Completed::Stopped);
+        return Ok(RowEnd::Stopped);
     }
     at.load(pend_word(arch.number))?;
     instruction(job, arch, code, at)
@@ -123,7 +123,7 @@ pub fn row(
     arch: &mut Arch,
     code: &mut Option<Code>,
     at: &mut Cursor,
-) -> Result<Completed, Stop>
+) -> Result<RowEnd, Stop>
     requires count { arch.old.count < 2 ^ 32 - 1 }
     requires made { IsMade arch.old.made }
     requires number { arch.old.number < 32 }

@@ -15,7 +15,7 @@ ghost use Rattle.cet_cpu.specs.Code.{IsCode};
 ghost use Rattle.cet_cpu.specs.Cpu.{awaited, CameTo, CpuData, IsCpu, IsNext, KeepsCode};
 
 use crate::fetches::Code;
-use crate::gate::{Completed, R11, RAX, RCX, SYSCALL_LENGTH};
+use crate::gate::{RowEnd, R11, RAX, RCX, SYSCALL_LENGTH};
 use crate::rows::row;
 use cet_isa::{Arch, End, Fault, Record, What};
 use cet_page::{Mark, Stop, Vals};
@@ -261,7 +261,7 @@ impl Cpu {
 
     /// What the thread's row comes to after the accesses so far. Where it is over, the state is the one after
     /// it, but for the thread's number and the supervisor stack that it holds.
-    fn play(&mut self, job: &Job) -> Result<Completed, Stop>
+    fn play(&mut self, job: &Job) -> Result<RowEnd, Stop>
         requires count { self.old.core.arch.count < 2 ^ 32 - 1 }
         requires made { IsMade self.old.core.arch.made }
         requires number { self.old.core.arch.number < 32 }
@@ -307,19 +307,19 @@ impl Cpu {
                 self.settle(job);
                 Some(noted)
             }
-            Ok(Completed::Noted(noted)) => {
+            Ok(RowEnd::Noted(noted)) => {
                 self.settle(job);
                 Some(noted)
             }
-            Ok(Completed::Posted) => {
+            Ok(RowEnd::Posted) => {
                 self.begin(None);
                 None
             }
-            Ok(Completed::Exited(noted, status)) => {
+            Ok(RowEnd::Exited(noted, status)) => {
                 self.begin(Some(End::Exit(status)));
                 Some(noted)
             }
-            Ok(Completed::Stopped) => {
+            Ok(RowEnd::Stopped) => {
                 self.begin(Some(End::Group));
                 None
             }

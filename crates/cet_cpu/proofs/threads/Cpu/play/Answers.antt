@@ -8,18 +8,18 @@ use Rattle.cet_page.specs.declared.cursors.Stop.{Stop}
 use Rattle.cet_page.specs.declared.finishes.Finish.{Finish}
 use Rattle.cet_cpu.specs.Changes.{finish_with, Stays}
 use Rattle.cet_cpu.specs.Cpu.{CameTo, CpuData}
-use Rattle.cet_cpu.specs.declared.gate.Completed.{Completed}
-use Rattle.cet_cpu.specs.declared.gate.Completed.TheVariants as completed
+use Rattle.cet_cpu.specs.declared.gate.RowEnd.{RowEnd}
+use Rattle.cet_cpu.specs.declared.gate.RowEnd.TheVariants as row_end
 use Rattle.cet_cpu.proofs.threads.Cpu.play.Goals as goal
 
 -- the place of the cursor afterwards doesn't matter
-came_to : (before after : Arch) (came : Came Finish) (result : Result Completed Stop) (left : ℕ) (values : List ℕ)
+came_to : (before after : Arch) (came : Came Finish) (result : Result RowEnd Stop) (left : ℕ) (values : List ℕ)
     → ComesBy (finish_with after) came result left values → Stays (unheld before) after result
     → CameTo came before (kept_by before before.held after) result
-came_to before after came (Ok completed.Stopped) left values h s = (after, left, values, refl, h, ap (kept_by before before.held) s)
-came_to before after came (Ok (completed.Noted noted)) left values h s = (after, left, values, refl, h, tt)
-came_to before after came (Ok completed.Posted) left values h s = (after, left, values, refl, h, tt)
-came_to before after came (Ok (completed.Exited noted status)) left values h s = (after, left, values, refl, h, tt)
+came_to before after came (Ok row_end.Stopped) left values h s = (after, left, values, refl, h, ap (kept_by before before.held) s)
+came_to before after came (Ok (row_end.Noted noted)) left values h s = (after, left, values, refl, h, tt)
+came_to before after came (Ok row_end.Posted) left values h s = (after, left, values, refl, h, tt)
+came_to before after came (Ok (row_end.Exited noted status)) left values h s = (after, left, values, refl, h, tt)
 came_to before after came (Err stop) left values h s = (ap (kept_by before before.held) s, h)
 
 pub returns-clause-came : goal.returns-clause-came
