@@ -2,7 +2,7 @@
 
 ghost use Rattle.std.specs.Prelude.{◌≡◌, ◌-◌, ◌^◌, ◌<◌};
 ghost use Rattle.cet_page.specs.Script.{play};
-ghost use Rattle.cet_page.specs.Plays.{Comes};
+ghost use Rattle.cet_page.specs.Plays.{Refines};
 ghost use Rattle.cet_page.specs.Arithmetic.{xchg, lock_xadd, rax_found, lock_cmpxchg};
 
 use crate::values::{difference, sum};
@@ -21,7 +21,7 @@ pub fn xchg(
     at: &mut Cursor,
 ) -> Result<(Arch, Record), Stop>
     requires { arch.now.count < 2 ^ 32 - 1 }
-    ensures { Comes (play (xchg arch.now dst reg next) at.old.left at.old.rest.now) result at.new.left at.new.rest.now }
+    ensures { Refines (play (xchg arch.now dst reg next) at.old.left at.old.rest.now) result at.new.left at.new.rest.now }
 {
     match dst {
         Operand::Reg(other) => {
@@ -49,7 +49,7 @@ pub fn lock_xadd(
     at: &mut Cursor,
 ) -> Result<(Arch, Record), Stop>
     requires { arch.now.count < 2 ^ 32 - 1 }
-    ensures { Comes (play (lock_xadd arch.now mem reg next) at.old.left at.old.rest.now) result at.new.left at.new.rest.now }
+    ensures { Refines (play (lock_xadd arch.now mem reg next) at.old.left at.old.rest.now) result at.new.left at.new.rest.now }
 {
     let word = at.write_place(effective(arch, mem, next))?;
     let added = register(arch, reg);
@@ -80,7 +80,7 @@ pub fn lock_cmpxchg(
     at: &mut Cursor,
 ) -> Result<(Arch, Record), Stop>
     requires { arch.now.count < 2 ^ 32 - 1 }
-    ensures { Comes (play (lock_cmpxchg arch.now mem reg next) at.old.left at.old.rest.now) result at.new.left at.new.rest.now }
+    ensures { Refines (play (lock_cmpxchg arch.now mem reg next) at.old.left at.old.rest.now) result at.new.left at.new.rest.now }
 {
     let word = at.write_place(effective(arch, mem, next))?;
     let expected = register(arch, Reg::Rax);

@@ -2,7 +2,7 @@
 
 ghost use Rattle.std.specs.Prelude.{◌≡◌, ◌-◌, ◌%◌, ◌^◌, ◌<◌};
 ghost use Rattle.cet_page.specs.Script.{play};
-ghost use Rattle.cet_page.specs.Plays.{Comes};
+ghost use Rattle.cet_page.specs.Plays.{Refines};
 ghost use Rattle.cet_page.specs.Operands.{effective, assigned};
 ghost use Rattle.cet_page.specs.Values.{limit};
 ghost use Rattle.cet_page.specs.Arithmetic.{move, movzx, movsxd, cmov};
@@ -23,7 +23,7 @@ pub fn mov(
     at: &mut Cursor,
 ) -> Result<(Arch, Record), Stop>
     requires { arch.now.count < 2 ^ 32 - 1 }
-    ensures { Comes (play (move arch.now size dst src next) at.old.left at.old.rest.now) result at.new.left at.new.rest.now }
+    ensures { Refines (play (move arch.now size dst src next) at.old.left at.old.rest.now) result at.new.left at.new.rest.now }
 {
     match (size, dst) {
         (_, Operand::Reg(reg)) => {
@@ -49,7 +49,7 @@ pub fn movzx(
     at: &mut Cursor,
 ) -> Result<(Arch, Record), Stop>
     requires { arch.now.count < 2 ^ 32 - 1 }
-    ensures { Comes (play (movzx arch.now reg mem next) at.old.left at.old.rest.now) result at.new.left at.new.rest.now }
+    ensures { Refines (play (movzx arch.now reg mem next) at.old.left at.old.rest.now) result at.new.left at.new.rest.now }
 {
     let value = at.load_byte(effective(arch, mem, next))?;
     Ok(assigned(arch, reg, value, next))
@@ -65,7 +65,7 @@ pub fn movsxd(
     at: &mut Cursor,
 ) -> Result<(Arch, Record), Stop>
     requires { arch.now.count < 2 ^ 32 - 1 }
-    ensures { Comes (play (movsxd arch.now reg src next) at.old.left at.old.rest.now) result at.new.left at.new.rest.now }
+    ensures { Refines (play (movsxd arch.now reg src next) at.old.left at.old.rest.now) result at.new.left at.new.rest.now }
 {
     let value = at.read_operand(arch, Size::Dword, src, next)?;
     let extended = i64::from((value as u32).cast_signed()).cast_unsigned();
@@ -85,7 +85,7 @@ pub fn cmov(
     at: &mut Cursor,
 ) -> Result<(Arch, Record), Stop>
     requires { arch.now.count < 2 ^ 32 - 1 }
-    ensures { Comes (play (cmov arch.now cond size reg src next) at.old.left at.old.rest.now) result at.new.left at.new.rest.now }
+    ensures { Refines (play (cmov arch.now cond size reg src next) at.old.left at.old.rest.now) result at.new.left at.new.rest.now }
 {
     let value = at.read_operand(arch, size, src, next)?;
     let moved = if StatusFlags::of(arch.flags).holds(cond) {

@@ -3,7 +3,7 @@
 ghost use Rattle.std.specs.Prelude.{◌≡◌, ◌-◌, ◌%◌, ◌^◌, ◌<◌};
 ghost use Rattle.cet_page.specs.Flags.{rflags};
 ghost use Rattle.cet_page.specs.Script.{play};
-ghost use Rattle.cet_page.specs.Plays.{Comes};
+ghost use Rattle.cet_page.specs.Plays.{Refines};
 ghost use Rattle.cet_page.specs.Operands.{register, stepped, assigned, settled};
 ghost use Rattle.cet_page.specs.Values.{bits, limit, sum, difference, keeping, ones_complement, shifted_left, shifted_right, shifted_arithmetic};
 ghost use Rattle.cet_page.specs.Arithmetic.{carry, alu, test, imul, with_carry, shift_count, shift};
@@ -37,7 +37,7 @@ pub fn alu(
     at: &mut Cursor,
 ) -> Result<(Arch, Record), Stop>
     requires { arch.now.count < 2 ^ 32 - 1 }
-    ensures { Comes (play (alu arch.now op size dst src next) at.old.left at.old.rest.now) result at.new.left at.new.rest.now }
+    ensures { Refines (play (alu arch.now op size dst src next) at.old.left at.old.rest.now) result at.new.left at.new.rest.now }
 {
     let x = at.read_operand(arch, size, dst, next)?;
     let y = at.read_operand(arch, size, src, next)?;
@@ -60,7 +60,7 @@ pub fn test(
     at: &mut Cursor,
 ) -> Result<(Arch, Record), Stop>
     requires { arch.now.count < 2 ^ 32 - 1 }
-    ensures { Comes (play (test arch.now size dst src next) at.old.left at.old.rest.now) result at.new.left at.new.rest.now }
+    ensures { Refines (play (test arch.now size dst src next) at.old.left at.old.rest.now) result at.new.left at.new.rest.now }
 {
     let x = at.read_operand(arch, size, dst, next)?;
     let y = at.read_operand(arch, size, src, next)?;
@@ -78,7 +78,7 @@ pub fn imul(
     at: &mut Cursor,
 ) -> Result<(Arch, Record), Stop>
     requires { arch.now.count < 2 ^ 32 - 1 }
-    ensures { Comes (play (imul arch.now size reg src next) at.old.left at.old.rest.now) result at.new.left at.new.rest.now }
+    ensures { Refines (play (imul arch.now size reg src next) at.old.left at.old.rest.now) result at.new.left at.new.rest.now }
 {
     let y = at.read_operand(arch, size, src, next)?;
     let computed = product(size, register_of(arch, size, reg), y);

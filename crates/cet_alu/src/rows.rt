@@ -4,7 +4,7 @@ ghost use Rattle.std.specs.Prelude.{◌≡◌, ◌-◌, ◌^◌, ◌<◌, [], Al
 ghost use Rattle.cet_isa.specs.declared.threads.Fault.{Fault};
 ghost use Rattle.cet_page.specs.Script.{play};
 ghost use Rattle.cet_page.specs.Trail.{trail};
-ghost use Rattle.cet_page.specs.Plays.{Comes, NextInRange, next_of};
+ghost use Rattle.cet_page.specs.Plays.{Refines, NextInRange, next_of};
 ghost use Rattle.cet_page.specs.Faults.{KeepsWords};
 ghost use Rattle.cet_page.specs.Row.{next_address};
 ghost use Rattle.cet_page.specs.Arithmetic.{arithmetic};
@@ -27,7 +27,7 @@ pub fn follow(
     at: &mut Cursor,
 ) -> Result<(Arch, Record), Stop>
     requires { arch.now.count < 2 ^ 32 - 1 }
-    ensures { Comes (play (arithmetic arch.now instr.now next) at.old.left at.old.rest.now) result at.new.left at.new.rest.now }
+    ensures { Refines (play (arithmetic arch.now instr.now next) at.old.left at.old.rest.now) result at.new.left at.new.rest.now }
 {
     match *instr {
         Instr::Alu { op, size, dst, src } => alu(arch, op, size, dst, src, next, at),

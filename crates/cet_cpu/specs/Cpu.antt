@@ -3,9 +3,9 @@ use Rattle.std.specs.Prelude.{◌≡◌, ℕ, List, Option, Some, None, IfSome, 
 use Rattle.cet_words.specs.Job.{JobData}
 use Rattle.cet_words.specs.declared.accesses.Access.{Access}
 use Rattle.cet_isa.specs.declared.threads.Arch.{Arch}
-use Rattle.cet_page.specs.Core.{Core, come, kept_by, next_access}
+use Rattle.cet_page.specs.Core.{Core, row_played, kept_by, next_access}
 use Rattle.cet_page.specs.Plays.{Stopped, Wanted}
-use Rattle.cet_page.specs.Script.{Came, Over}
+use Rattle.cet_page.specs.Script.{Played, Completed}
 use Rattle.cet_page.specs.Within.{IsCore}
 use Rattle.cet_page.specs.declared.cursors.Mark.{Mark}
 use Rattle.cet_page.specs.declared.cursors.Stop.{Stop}
@@ -31,7 +31,7 @@ awaited (Some next) = Some next.0
 
 -- the row of the thread wants this access, with this mark
 abbrev pub IsWanted : JobData → Core → Access × Mark → Type 0
-IsWanted job core next = Wanted (come job core.arch core.seen) next.0 next.1
+IsWanted job core next = Wanted (row_played job core.arch core.seen) next.0 next.1
 
 -- a thread of the job, with its next access
 pub record IsCpu (job : JobData) (cpu : CpuData) : Type 0 where
@@ -47,8 +47,8 @@ pub record IsNext (job : JobData) (core : Core) (next : Access × Mark) : Type 0
 
 -- What a row has come to, as a function returns it that changes the state in its place: where the row is over, the thread
 -- keeps its number and what it holds.
-abbrev pub CameTo : Came Finish → (before after : Arch) → Result RowEnd Stop → Type 0
-CameTo came before after (Ok done) =
+abbrev pub RefinesRow : Played Finish → (before after : Arch) → Result RowEnd Stop → Type 0
+RefinesRow came before after (Ok done) =
     (next : Arch) × (left : ℕ) × (values : List ℕ) × (after ≡ kept_by before before.held next)
-    × (came ≡ Over (finish_with next done) left values) × Stays before after (Ok done)
-CameTo came before after (Err stop) = (after ≡ before) × Stopped came stop
+    × (came ≡ Completed (finish_with next done) left values) × Stays before after (Ok done)
+RefinesRow came before after (Err stop) = (after ≡ before) × Stopped came stop

@@ -4,7 +4,7 @@ ghost use Rattle.std.specs.Prelude.{◌≡◌, ◌+◌, ◌-◌, ◌*◌, ◌%�
 ghost use Rattle.cet_words.specs.Layout.{token, token_page, token_word};
 ghost use Rattle.cet_words.specs.Change.{Freed};
 ghost use Rattle.cet_page.specs.Script.{play};
-ghost use Rattle.cet_page.specs.Plays.{Comes, ComesBy};
+ghost use Rattle.cet_page.specs.Plays.{Refines, RefinesBy};
 ghost use Rattle.cet_page.specs.Parts.{exchange_as};
 ghost use Rattle.cet_page.specs.Finish.{IsMade, counted};
 ghost use Rattle.cet_page.specs.Gate.{busied_if, stack_of, gate_in, gate_out, finish_of, found_busy, entered, sys_record, served, serve, clears, made_page, exit_status, exit, exit_group, service, syscall, signal_of, is_masked, killed, kill, delivery, deliver};
@@ -63,7 +63,7 @@ fn stack_of(job: &Job, arch: &Arch) -> u8
 #[tactic(auto, unfolding(cet_page::specs::Parts::exchange_as))]
 fn take_stack(k: u8, at: &mut Cursor) -> Result<u64, Stop>
     requires { k < 8 }
-    ensures { Comes (play (exchange_as (busied_if k) (token_word k) (token k) (token k + 1)) at.old.left at.old.rest.now) result at.new.left at.new.rest.now }
+    ensures { Refines (play (exchange_as (busied_if k) (token_word k) (token k) (token k + 1)) at.old.left at.old.rest.now) result at.new.left at.new.rest.now }
 {
     let free = token(k);
     at.ask_as(
@@ -76,7 +76,7 @@ fn take_stack(k: u8, at: &mut Cursor) -> Result<u64, Stop>
 #[tactic(auto, unfolding(cet_page::specs::Parts::exchange_as))]
 fn give_stack(k: u8, at: &mut Cursor) -> Result<u64, Stop>
     requires { k < 8 }
-    ensures { Comes (play (exchange_as (λ found. Freed k ∷ []) (token_word k) (token k + 1) (token k)) at.old.left at.old.rest.now) result at.new.left at.new.rest.now }
+    ensures { Refines (play (exchange_as (λ found. Freed k ∷ []) (token_word k) (token k + 1) (token k)) at.old.left at.old.rest.now) result at.new.left at.new.rest.now }
 {
     let free = token(k);
     at.ask_as(
@@ -89,7 +89,7 @@ fn give_stack(k: u8, at: &mut Cursor) -> Result<u64, Stop>
 #[tactic(auto, using(cet_page::proofs::ScriptLaws::play_bind), unfolding(cet_page::specs::Gate::gate_in, cet_page::specs::Parts::exchange_as))]
 fn gate_in(k: u8, at: &mut Cursor) -> Result<Option<u64>, Stop>
     requires { k < 8 }
-    ensures { Comes (play (gate_in k) at.old.left at.old.rest.now) result at.new.left at.new.rest.now }
+    ensures { Refines (play (gate_in k) at.old.left at.old.rest.now) result at.new.left at.new.rest.now }
 {
     at.peek(token_page(k))?;
     let free = token(k);
@@ -105,7 +105,7 @@ fn gate_in(k: u8, at: &mut Cursor) -> Result<Option<u64>, Stop>
 #[tactic(auto, using(cet_page::proofs::ScriptLaws::play_bind), unfolding(cet_page::specs::Gate::gate_out))]
 fn way_out(k: u8, at: &mut Cursor) -> Result<(), Stop>
     requires { k < 8 }
-    ensures { Comes (play (gate_out Leaving.Back k) at.old.left at.old.rest.now) result at.new.left at.new.rest.now }
+    ensures { Refines (play (gate_out Leaving.Back k) at.old.left at.old.rest.now) result at.new.left at.new.rest.now }
 {
     at.load(token_word(k) - 1)?;
     give_stack(k, at)?;
@@ -116,7 +116,7 @@ fn way_out(k: u8, at: &mut Cursor) -> Result<(), Stop>
 #[tactic(auto, using(cet_page::proofs::GateLaws::comes_out))]
 fn gate_out(k: u8, ends: Leaving, at: &mut Cursor) -> Result<(), Stop>
     requires { k < 8 }
-    ensures { Comes (play (gate_out ends k) at.old.left at.old.rest.now) result at.new.left at.new.rest.now }
+    ensures { Refines (play (gate_out ends k) at.old.left at.old.rest.now) result at.new.left at.new.rest.now }
 {
     way_out(k, at)
 }
@@ -199,7 +199,7 @@ fn exit_status(arch: &Arch) -> u8
 fn exit(arch: &Arch, at: &mut Cursor) -> Result<(Arch, Record, Leaving), Stop>
     requires count { arch.now.count < 2 ^ 32 - 1 }
     requires made { IsMade arch.now.made }
-    ensures { Comes (play (exit arch.now) at.old.left at.old.rest.now) result at.new.left at.new.rest.now }
+    ensures { Refines (play (exit arch.now) at.old.left at.old.rest.now) result at.new.left at.new.rest.now }
 {
     let page = FIRST_SHADOW_PAGE + ((arch.made - SHADOW_START) / 4096) as u32;
     at.stores(8, FIRST_ENTRY_WORD + page, 0, 0)?;
@@ -212,7 +212,7 @@ fn exit(arch: &Arch, at: &mut Cursor) -> Result<(Arch, Record, Leaving), Stop>
 #[tactic(auto, using(cet_page::proofs::ScriptLaws::play_bind), unfolding(cet_page::specs::Gate::exit_group))]
 fn exit_group(arch: &Arch, at: &mut Cursor) -> Result<(Arch, Record, Leaving), Stop>
     requires { arch.now.count < 2 ^ 32 - 1 }
-    ensures { Comes (play (exit_group arch.now) at.old.left at.old.rest.now) result at.new.left at.new.rest.now }
+    ensures { Refines (play (exit_group arch.now) at.old.left at.old.rest.now) result at.new.left at.new.rest.now }
 {
     let status = u64::from(exit_status(arch));
     at.exchange(EXIT_WORD, 0, 0x100 + status)?;
@@ -222,7 +222,7 @@ fn exit_group(arch: &Arch, at: &mut Cursor) -> Result<(Arch, Record, Leaving), S
 fn service(arch: &Arch, at: &mut Cursor) -> Result<(Arch, Record, Leaving), Stop>
     requires count { arch.now.count < 2 ^ 32 - 1 }
     requires made { IsMade arch.now.made }
-    ensures { Comes (play (service arch.now) at.old.left at.old.rest.now) result at.new.left at.new.rest.now }
+    ensures { Refines (play (service arch.now) at.old.left at.old.rest.now) result at.new.left at.new.rest.now }
 {
     match arch.regs[RAX] {
         EXIT => exit(arch, at),
@@ -277,7 +277,7 @@ fn killed(arch: &Arch, signal: u8, before: u64) -> (Arch, Record, Leaving)
 fn kill(arch: &Arch, signal: u8, at: &mut Cursor) -> Result<(Arch, Record, Leaving), Stop>
     requires signal { signal < 32 }
     requires count { arch.now.count < 2 ^ 32 - 1 }
-    ensures { Comes (play (kill arch.now signal) at.old.left at.old.rest.now) result at.new.left at.new.rest.now }
+    ensures { Refines (play (kill arch.now signal) at.old.left at.old.rest.now) result at.new.left at.new.rest.now }
 {
     let before = at.exchange(EXIT_WORD, 0, 0x200 + u64::from(signal))?;
     Ok(killed(arch, signal, before))
@@ -289,7 +289,7 @@ fn delivery(arch: &Arch, signal: u8, at: &mut Cursor) -> Result<(Arch, Record, L
     requires low { 0 < signal }
     requires range { signal < 32 }
     requires count { arch.now.count < 2 ^ 32 - 1 }
-    ensures { Comes (play (delivery arch.now signal) at.old.left at.old.rest.now) result at.new.left at.new.rest.now }
+    ensures { Refines (play (delivery arch.now signal) at.old.left at.old.rest.now) result at.new.left at.new.rest.now }
 {
     if !is_masked(arch.mask, signal) {
         at.load(action_word(signal))?;
@@ -309,7 +309,7 @@ pub enum Entry {
 fn work(arch: &Arch, entry: Entry, at: &mut Cursor) -> Result<(Arch, Record, Leaving), Stop>
     requires count { arch.now.count < 2 ^ 32 - 1 }
     requires made { IsMade arch.now.made }
-    ensures { Comes (play (work_of arch.now entry) at.old.left at.old.rest.now) result at.new.left at.new.rest.now }
+    ensures { Refines (play (work_of arch.now entry) at.old.left at.old.rest.now) result at.new.left at.new.rest.now }
 {
     match entry {
         Entry::Service => service(arch, at),
@@ -334,7 +334,7 @@ fn finish_of(arch: &mut Arch, next: Arch, noted: Record, ends: Leaving) -> RowEn
 fn entered(job: &Job, arch: &mut Arch, entry: Entry, at: &mut Cursor) -> Result<RowEnd, Stop>
     requires count { arch.old.count < 2 ^ 32 - 1 }
     requires made { IsMade arch.old.made }
-    ensures comes { ComesBy (finish_with arch.new) (play (entered job.now arch.old (work_of arch.old entry)) at.old.left at.old.rest.now) result at.new.left at.new.rest.now }
+    ensures comes { RefinesBy (finish_with arch.new) (play (entered job.now arch.old (work_of arch.old entry)) at.old.left at.old.rest.now) result at.new.left at.new.rest.now }
     ensures stays { Stays arch.old arch.new result }
 {
     let k = stack_of(job, arch);
@@ -350,7 +350,7 @@ fn entered(job: &Job, arch: &mut Arch, entry: Entry, at: &mut Cursor) -> Result<
 pub fn syscall(job: &Job, arch: &mut Arch, at: &mut Cursor) -> Result<RowEnd, Stop>
     requires count { arch.old.count < 2 ^ 32 - 1 }
     requires made { IsMade arch.old.made }
-    ensures comes { ComesBy (finish_with arch.new) (play (syscall job.now arch.old) at.old.left at.old.rest.now) result at.new.left at.new.rest.now }
+    ensures comes { RefinesBy (finish_with arch.new) (play (syscall job.now arch.old) at.old.left at.old.rest.now) result at.new.left at.new.rest.now }
     ensures stays { Stays arch.old arch.new result }
 {
     entered(job, arch, Entry::Service, at)
@@ -365,7 +365,7 @@ pub fn deliver(
 ) -> Result<RowEnd, Stop>
     requires count { arch.old.count < 2 ^ 32 - 1 }
     requires made { IsMade arch.old.made }
-    ensures comes { ComesBy (finish_with arch.new) (play (deliver job.now arch.old fault.now) at.old.left at.old.rest.now) result at.new.left at.new.rest.now }
+    ensures comes { RefinesBy (finish_with arch.new) (play (deliver job.now arch.old fault.now) at.old.left at.old.rest.now) result at.new.left at.new.rest.now }
     ensures stays { Stays arch.old arch.new result }
 {
     entered(job, arch, Entry::Delivery(fault.name), at)

@@ -3,7 +3,7 @@
 ghost use Rattle.std.specs.Prelude.{◌≡◌, ◌+◌, ◌-◌, ◌^◌, ◌<◌, IfSome};
 ghost use Rattle.cet_isa.specs.Reading.{decoded};
 ghost use Rattle.cet_page.specs.Script.{play};
-ghost use Rattle.cet_page.specs.Plays.{ComesBy};
+ghost use Rattle.cet_page.specs.Plays.{RefinesBy};
 ghost use Rattle.cet_page.specs.Finish.{IsMade};
 ghost use Rattle.cet_page.specs.Row.{row, row_from, boundary, instruction, fetched, instruction_bytes, execute};
 ghost use Rattle.cet_cpu.specs.Changes.{finish_with, Stays};
@@ -27,7 +27,7 @@ fn execute(
 ) -> Result<RowEnd, Stop>
     requires count { arch.old.count < 2 ^ 32 - 1 }
     requires made { IsMade arch.old.made }
-    ensures comes { ComesBy (finish_with arch.new) (play (execute job.now arch.old instr.now next) at.old.left at.old.rest.now) result at.new.left at.new.rest.now }
+    ensures comes { RefinesBy (finish_with arch.new) (play (execute job.now arch.old instr.now next) at.old.left at.old.rest.now) result at.new.left at.new.rest.now }
     ensures stays { Stays arch.old arch.new result }
 {
     match family_of(instr) {
@@ -51,7 +51,7 @@ fn decoded(job: &Job, arch: &mut Arch, code: &Code, at: &mut Cursor) -> Result<R
     requires count { arch.old.count < 2 ^ 32 - 1 }
     requires made { IsMade arch.old.made }
     requires code { IsCode job.now.image.segments arch.old.rip code.now }
-    ensures comes { ComesBy (finish_with arch.new) (play (fetched job.now arch.old (instruction_bytes job.now arch.old) (decoded (instruction_bytes job.now arch.old))) at.old.left at.old.rest.now) result at.new.left at.new.rest.now }
+    ensures comes { RefinesBy (finish_with arch.new) (play (fetched job.now arch.old (instruction_bytes job.now arch.old) (decoded (instruction_bytes job.now arch.old))) at.old.left at.old.rest.now) result at.new.left at.new.rest.now }
     ensures stays { Stays arch.old arch.new result }
 {
     match &code.decoded {
@@ -75,7 +75,7 @@ fn instruction(
     requires count { arch.old.count < 2 ^ 32 - 1 }
     requires made { IsMade arch.old.made }
     requires code { IfSome code.old (IsCode job.now.image.segments arch.old.rip) }
-    ensures comes { ComesBy (finish_with arch.new) (play (instruction job.now arch.old) at.old.left at.old.rest.now) result at.new.left at.new.rest.now }
+    ensures comes { RefinesBy (finish_with arch.new) (play (instruction job.now arch.old) at.old.left at.old.rest.now) result at.new.left at.new.rest.now }
     ensures stays { Stays arch.old arch.new result }
     ensures code { IfSome code.new (IsCode job.now.image.segments arch.old.rip) }
 {
@@ -104,7 +104,7 @@ fn boundary(
     requires made { IsMade arch.old.made }
     requires number { arch.old.number < 32 }
     requires code { IfSome code.old (IsCode job.now.image.segments arch.old.rip) }
-    ensures comes { ComesBy (finish_with arch.new) (play (boundary job.now arch.old) at.old.left at.old.rest.now) result at.new.left at.new.rest.now }
+    ensures comes { RefinesBy (finish_with arch.new) (play (boundary job.now arch.old) at.old.left at.old.rest.now) result at.new.left at.new.rest.now }
     ensures stays { Stays arch.old arch.new result }
     ensures code { IfSome code.new (IsCode job.now.image.segments arch.old.rip) }
 {
@@ -128,7 +128,7 @@ pub fn row(
     requires made { IsMade arch.old.made }
     requires number { arch.old.number < 32 }
     requires code { IfSome code.old (IsCode job.now.image.segments arch.old.rip) }
-    ensures comes { ComesBy (finish_with arch.new) (play (row job.now arch.old) at.old.left at.old.rest.now) result at.new.left at.new.rest.now }
+    ensures comes { RefinesBy (finish_with arch.new) (play (row job.now arch.old) at.old.left at.old.rest.now) result at.new.left at.new.rest.now }
     ensures stays { Stays arch.old arch.new result }
     ensures code { IfSome code.new (IsCode job.now.image.segments arch.old.rip) }
 {

@@ -7,12 +7,12 @@ ghost use Rattle.cet_isa.specs.declared.threads.End.{End};
 ghost use Rattle.cet_isa.specs.declared.threads.FaultName.{FaultName};
 ghost use Rattle.cet_page.specs.Faults.{Faults};
 ghost use Rattle.cet_page.specs.Within.{IsCore};
-ghost use Rattle.cet_page.specs.Core.{come, core_at, first_core, child_core, next_access, taken, recorded, fault_record};
+ghost use Rattle.cet_page.specs.Core.{row_played, core_at, first_core, child_core, next_access, taken, recorded, fault_record};
 ghost use Rattle.cet_page.specs.Plays.{held_by};
 ghost use Rattle.cet_page.specs.Finish.{IsMade};
 ghost use Rattle.cet_page.specs.Seen.{nothing_seen};
 ghost use Rattle.cet_cpu.specs.Code.{IsCode};
-ghost use Rattle.cet_cpu.specs.Cpu.{awaited, CameTo, CpuData, IsCpu, IsNext, KeepsCode};
+ghost use Rattle.cet_cpu.specs.Cpu.{awaited, RefinesRow, CpuData, IsCpu, IsNext, KeepsCode};
 
 use crate::fetches::Code;
 use crate::gate::{RowEnd, R11, RAX, RCX, SYSCALL_LENGTH};
@@ -266,7 +266,7 @@ impl Cpu {
         requires made { IsMade self.old.core.arch.made }
         requires number { self.old.core.arch.number < 32 }
         requires code { KeepsCode job.now self.old }
-        ensures came { CameTo (come job.now self.old.core.arch self.old.core.seen) self.old.core.arch self.new.core.arch result }
+        ensures came { RefinesRow (row_played job.now self.old.core.arch self.old.core.seen) self.old.core.arch self.new.core.arch result }
         ensures core { self.new.core ≡ record self.old.core { arch = self.new.core.arch } }
         ensures waits { self.new.next ≡ self.old.next }
         ensures code { IfSome self.new.code (IsCode job.now.image.segments self.old.core.arch.rip) }

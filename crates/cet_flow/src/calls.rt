@@ -2,7 +2,7 @@
 
 ghost use Rattle.std.specs.Prelude.{◌≡◌, ◌-◌, ◌^◌, ◌<◌};
 ghost use Rattle.cet_page.specs.Script.{play};
-ghost use Rattle.cet_page.specs.Plays.{Comes};
+ghost use Rattle.cet_page.specs.Plays.{Refines};
 ghost use Rattle.cet_page.specs.Flow.{called, call, call_next, call_relative, call_to, call_indirect};
 
 use crate::RSP;
@@ -33,7 +33,7 @@ fn called(arch: &Arch, target: u64, sp: u64, ssp: u64) -> (Arch, Record)
 #[tactic(auto, using(cet_page::proofs::ScriptLaws::play_bind), unfolding(cet_page::specs::Flow::call, cet_page::specs::Parts::store_as))]
 fn call(arch: &Arch, back: u64, target: u64, at: &mut Cursor) -> Result<(Arch, Record), Stop>
     requires { arch.now.count < 2 ^ 32 - 1 }
-    ensures { Comes (play (call arch.now back target) at.old.left at.old.rest.now) result at.new.left at.new.rest.now }
+    ensures { Refines (play (call arch.now back target) at.old.left at.old.rest.now) result at.new.left at.new.rest.now }
 {
     let sp = arch.regs[RSP].wrapping_sub(8);
     let ssp = arch.ssp.wrapping_sub(8);
@@ -49,7 +49,7 @@ fn call(arch: &Arch, back: u64, target: u64, at: &mut Cursor) -> Result<(Arch, R
 #[tactic(auto, using(cet_page::proofs::ScriptLaws::play_bind), unfolding(cet_page::specs::Flow::call_next))]
 fn call_next(arch: &Arch, back: u64, at: &mut Cursor) -> Result<(Arch, Record), Stop>
     requires { arch.now.count < 2 ^ 32 - 1 }
-    ensures { Comes (play (call_next arch.now back) at.old.left at.old.rest.now) result at.new.left at.new.rest.now }
+    ensures { Refines (play (call_next arch.now back) at.old.left at.old.rest.now) result at.new.left at.new.rest.now }
 {
     let sp = arch.regs[RSP].wrapping_sub(8);
     at.tested(sp, 8)?;
@@ -66,7 +66,7 @@ pub fn call_relative(
     at: &mut Cursor,
 ) -> Result<(Arch, Record), Stop>
     requires { arch.now.count < 2 ^ 32 - 1 }
-    ensures { Comes (play (call_relative arch.now disp next) at.old.left at.old.rest.now) result at.new.left at.new.rest.now }
+    ensures { Refines (play (call_relative arch.now disp next) at.old.left at.old.rest.now) result at.new.left at.new.rest.now }
 {
     if disp == 0 {
         return call_next(arch, next, at);
@@ -76,7 +76,7 @@ pub fn call_relative(
 
 fn call_to(arch: &Arch, back: u64, target: u64, at: &mut Cursor) -> Result<(Arch, Record), Stop>
     requires { arch.now.count < 2 ^ 32 - 1 }
-    ensures { Comes (play (call_to arch.now back target) at.old.left at.old.rest.now) result at.new.left at.new.rest.now }
+    ensures { Refines (play (call_to arch.now back target) at.old.left at.old.rest.now) result at.new.left at.new.rest.now }
 {
     if !is_canonical(target) {
         return Err(general_protection());
@@ -93,7 +93,7 @@ pub fn call_indirect(
     at: &mut Cursor,
 ) -> Result<(Arch, Record), Stop>
     requires { arch.now.count < 2 ^ 32 - 1 }
-    ensures { Comes (play (call_indirect arch.now target next) at.old.left at.old.rest.now) result at.new.left at.new.rest.now }
+    ensures { Refines (play (call_indirect arch.now target next) at.old.left at.old.rest.now) result at.new.left at.new.rest.now }
 {
     let target = at.read_operand(arch, Size::Qword, target, next)?;
     call_to(arch, next, target, at)

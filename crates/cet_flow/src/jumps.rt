@@ -2,7 +2,7 @@
 
 ghost use Rattle.std.specs.Prelude.{◌≡◌, ◌-◌, ◌^◌, ◌<◌, ℕ, List};
 ghost use Rattle.cet_page.specs.Script.{play};
-ghost use Rattle.cet_page.specs.Plays.{Comes};
+ghost use Rattle.cet_page.specs.Plays.{Refines};
 ghost use Rattle.cet_page.specs.Flow.{relative, jumped, jump_to, jump_indirect, jump_target};
 
 use cet_isa::{Arch, Cond, Operand, Record, Size, is_canonical};
@@ -25,7 +25,7 @@ pub fn jumped(arch: &Arch, target: u64) -> (Arch, Record)
 
 fn jump_to(arch: &Arch, target: u64) -> Result<(Arch, Record), Stop>
     requires { arch.now.count < 2 ^ 32 - 1 }
-    ensures { (left : ℕ) (values : List ℕ) → Comes (play (jump_to arch.now target) left values) result left values }
+    ensures { (left : ℕ) (values : List ℕ) → Refines (play (jump_to arch.now target) left values) result left values }
 {
     if !is_canonical(target) {
         return Err(general_protection());
@@ -42,7 +42,7 @@ pub fn jump_indirect(
     at: &mut Cursor,
 ) -> Result<(Arch, Record), Stop>
     requires { arch.now.count < 2 ^ 32 - 1 }
-    ensures { Comes (play (jump_indirect arch.now target next) at.old.left at.old.rest.now) result at.new.left at.new.rest.now }
+    ensures { Refines (play (jump_indirect arch.now target next) at.old.left at.old.rest.now) result at.new.left at.new.rest.now }
 {
     let target = at.read_operand(arch, Size::Qword, target, next)?;
     jump_to(arch, target)

@@ -2,7 +2,7 @@
 
 ghost use Rattle.std.specs.Prelude.{◌≡◌, ◌-◌, ◌^◌, ◌<◌};
 ghost use Rattle.cet_page.specs.Script.{play};
-ghost use Rattle.cet_page.specs.Plays.{Comes};
+ghost use Rattle.cet_page.specs.Plays.{Refines};
 ghost use Rattle.cet_page.specs.Flow.{returned, ret, return_differs};
 
 use crate::RSP;
@@ -45,7 +45,7 @@ fn return_differs(word: u64, shadow_word: u64) -> Fault
 #[tactic(auto, using(cet_page::proofs::ScriptLaws::play_bind), unfolding(cet_page::specs::Flow::ret, cet_page::specs::Parts::load_as))]
 pub fn ret(arch: &Arch, bytes: u16, at: &mut Cursor) -> Result<(Arch, Record), Stop>
     requires { arch.now.count < 2 ^ 32 - 1 }
-    ensures { Comes (play (ret arch.now bytes) at.old.left at.old.rest.now) result at.new.left at.new.rest.now }
+    ensures { Refines (play (ret arch.now bytes) at.old.left at.old.rest.now) result at.new.left at.new.rest.now }
 {
     let sp = arch.regs[RSP];
     at.tested(sp, 8)?;

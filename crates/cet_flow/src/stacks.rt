@@ -2,7 +2,7 @@
 
 ghost use Rattle.std.specs.Prelude.{◌≡◌, ◌-◌, ◌^◌, ◌<◌};
 ghost use Rattle.cet_page.specs.Script.{play};
-ghost use Rattle.cet_page.specs.Plays.{Comes};
+ghost use Rattle.cet_page.specs.Plays.{Refines};
 ghost use Rattle.cet_page.specs.Flow.{push, pop, leave};
 
 use crate::{RBP, RSP};
@@ -13,7 +13,7 @@ use cet_page::{Cursor, Stop, stepped};
 #[tactic(auto, using(cet_page::proofs::ScriptLaws::play_bind), unfolding(cet_page::specs::Flow::push))]
 pub fn push(arch: &Arch, src: Operand, next: u64, at: &mut Cursor) -> Result<(Arch, Record), Stop>
     requires { arch.now.count < 2 ^ 32 - 1 }
-    ensures { Comes (play (push arch.now src next) at.old.left at.old.rest.now) result at.new.left at.new.rest.now }
+    ensures { Refines (play (push arch.now src next) at.old.left at.old.rest.now) result at.new.left at.new.rest.now }
 {
     let value = at.read_operand(arch, Size::Qword, src, next)?;
     let sp = arch.regs[RSP].wrapping_sub(8);
@@ -27,7 +27,7 @@ pub fn push(arch: &Arch, src: Operand, next: u64, at: &mut Cursor) -> Result<(Ar
 #[tactic(auto, using(cet_page::proofs::ScriptLaws::play_bind), unfolding(cet_page::specs::Flow::pop))]
 pub fn pop(arch: &Arch, reg: Reg, next: u64, at: &mut Cursor) -> Result<(Arch, Record), Stop>
     requires { arch.now.count < 2 ^ 32 - 1 }
-    ensures { Comes (play (pop arch.now reg next) at.old.left at.old.rest.now) result at.new.left at.new.rest.now }
+    ensures { Refines (play (pop arch.now reg next) at.old.left at.old.rest.now) result at.new.left at.new.rest.now }
 {
     let sp = arch.regs[RSP];
     let value = at.load_at(sp, Size::Qword)?;
@@ -41,7 +41,7 @@ pub fn pop(arch: &Arch, reg: Reg, next: u64, at: &mut Cursor) -> Result<(Arch, R
 #[tactic(auto, using(cet_page::proofs::ScriptLaws::play_bind), unfolding(cet_page::specs::Flow::leave))]
 pub fn leave(arch: &Arch, next: u64, at: &mut Cursor) -> Result<(Arch, Record), Stop>
     requires { arch.now.count < 2 ^ 32 - 1 }
-    ensures { Comes (play (leave arch.now next) at.old.left at.old.rest.now) result at.new.left at.new.rest.now }
+    ensures { Refines (play (leave arch.now next) at.old.left at.old.rest.now) result at.new.left at.new.rest.now }
 {
     let frame = arch.regs[RBP];
     let value = at.load_at(frame, Size::Qword)?;

@@ -6,7 +6,7 @@ use Rattle.cet_words.specs.declared.accesses.Access.TheVariants as access
 use Rattle.cet_isa.specs.declared.threads.Arch.{Arch}
 use Rattle.cet_isa.specs.declared.threads.Record.{Record}
 use Rattle.cet_book.specs.View.{Span}
-use Rattle.cet_page.specs.Script.{Script, done, fault, ask, tell, Came, Over, Faulted, Wants, play}
+use Rattle.cet_page.specs.Script.{Script, done, fault, ask, tell, Played, Completed, Faulted, Wants, play}
 use Rattle.cet_page.specs.Trail.{Visit, visit, trail}
 use Rattle.cet_page.specs.declared.finishes.Finish.{Finish}
 use Rattle.cet_page.specs.declared.finishes.Finish.TheVariants.{Noted, Posted, Exited, Stopped}
@@ -61,8 +61,8 @@ Telling Q d (ask a changes f) = (v : ℕ) → Telling Q (draws (changes v) d) (f
 Telling Q d (tell word value changes s) = Telling Q (draws changes d) s
 
 -- what holds where the script has come to its end
-abbrev pub CameTells : {A : Type 0} → (Q : Drawn → A → Type 0) → Drawn → Came A → Type 0
-CameTells Q d (Over x n vs) = Q d x
+abbrev pub CameTells : {A : Type 0} → (Q : Drawn → A → Type 0) → Drawn → Played A → Type 0
+CameTells Q d (Completed x n vs) = Q d x
 CameTells Q d (Faulted e) = d.kept ≡ []
 CameTells Q d (Wants a changes) = Unit {0}
 

@@ -6,7 +6,7 @@ use Rattle.cet_words.specs.Change.{Change}
 use Rattle.cet_words.specs.declared.accesses.Access.{Access}
 use Rattle.cet_words.specs.declared.accesses.Access.TheVariants as access
 use Rattle.cet_isa.specs.declared.threads.Fault.{Fault}
-use Rattle.cet_page.specs.Script.{Script, done, fault, ask, tell, ◌>>=◌, Came, Over, Faulted, Wants, play}
+use Rattle.cet_page.specs.Script.{Script, done, fault, ask, tell, ◌>>=◌, Played, Completed, Faulted, Wants, play}
 use Rattle.cet_page.specs.Seen.{keeps, kept_after}
 use Rattle.cet_page.specs.Trail.{Visit, visit, trail}
 use Rattle.cet_page.proofs.Walk.{acted, Walks}
@@ -143,8 +143,8 @@ module _ {A B : Type 0} (rules : Rules B) (During : List Visit → B → Type 0)
       record { owed = h.owed; next = h.next; is = h.is; left = h.left; grown = h.grown }
 
   -- what holds where the script has come to its end
-  abbrev pub OnCame : (past : List Visit) → (before b : B) → Came A → Type 0
-  OnCame past before b (Over x n vs) = Q past before b x
+  abbrev pub OnCame : (past : List Visit) → (before b : B) → Played A → Type 0
+  OnCame past before b (Completed x n vs) = Q past before b x
   OnCame past before b (Faulted e) = F past b e
   OnCame past before b (Wants a changes) = Unit {0}
 

@@ -19,7 +19,7 @@ use Rattle.cet_page.specs.Core.{Core, unheld, core_by}
 use Rattle.cet_page.specs.Machine.{Thread}
 use Rattle.cet_page.proofs.Walk.{OnOver}
 use Rattle.cet_page.proofs.WalkRows.{Ends}
-use Rattle.cet_page.specs.Script.{Came, Over, Faulted, Wants}
+use Rattle.cet_page.specs.Script.{Played, Completed, Faulted, Wants}
 use Rattle.cet_page.specs.Seen.{Seen}
 use Rattle.cet_page.specs.declared.finishes.Finish.{Finish}
 use Rattle.cet_page.specs.declared.finishes.Finish.TheVariants.{Noted, Posted, Exited, Stopped}
@@ -104,7 +104,7 @@ pub record Pays (job : JobData) (arch : Arch) (past : List Visit) (next : Core) 
   pub count : next.arch.count ≤ arch.count + 1
   pub made : next.arch.made ≡ arch.made
 
-pub came_pays : (job : JobData) (arch : Arch) (held : Option ℕ) (seen : Seen) (before s : State) (c : Came Finish) → OnCame (rules job arch.number) (During (unheld arch)) (calls.Ends job (unheld arch)) (λ p. Fails job (unheld arch)) (row_trail job arch seen) before s c → OnOver (Ends (unheld arch)) c → Pays job arch (row_trail job arch seen) (core_by job arch held seen c)
+pub came_pays : (job : JobData) (arch : Arch) (held : Option ℕ) (seen : Seen) (before s : State) (c : Played Finish) → OnCame (rules job arch.number) (During (unheld arch)) (calls.Ends job (unheld arch)) (λ p. Fails job (unheld arch)) (row_trail job arch seen) before s c → OnOver (Ends (unheld arch)) c → Pays job arch (row_trail job arch seen) (core_by job arch held seen c)
 came_pays job arch held seen before s (Wants a changes) o k = record { draws = omega arith; nexts = omega arith; count = omega arith; made = refl }
 came_pays job arch held seen before s (Faulted e) o k = record {
   draws = (let l = one_most (drew (row_trail job arch seen)) in omega arith);
@@ -112,7 +112,7 @@ came_pays job arch held seen before s (Faulted e) o k = record {
   count = omega arith;
   made = refl;
 }
-came_pays job arch held seen before s (Over (Noted next r) left values) o k =
+came_pays job arch held seen before s (Completed (Noted next r) left values) o k =
     let same : next.count ≡ arch.count + 1 = k.count in
     record {
       draws = (let l = one_most (drew (row_trail job arch seen)) in omega arith);
@@ -120,8 +120,8 @@ came_pays job arch held seen before s (Over (Noted next r) left values) o k =
       count = omega arith;
       made = k.made;
     }
-came_pays job arch held seen before s (Over (Posted next) left values) o k = absurd k
-came_pays job arch held seen before s (Over (Exited next r status) left values) o k =
+came_pays job arch held seen before s (Completed (Posted next) left values) o k = absurd k
+came_pays job arch held seen before s (Completed (Exited next r status) left values) o k =
     let same : next.count ≡ arch.count + 1 = k.count in
     record {
       draws = (let l = one_most (drew (row_trail job arch seen)) in omega arith);
@@ -129,7 +129,7 @@ came_pays job arch held seen before s (Over (Exited next r status) left values) 
       count = omega arith;
       made = k.made;
     }
-came_pays job arch held seen before s (Over Stopped left values) o k =
+came_pays job arch held seen before s (Completed Stopped left values) o k =
     let none : one (drew (row_trail job arch seen)) ≡ 0 = ap one o.1 in
     let none' : one (numbered (row_trail job arch seen)) ≡ 0 = ap one o.2 in
     record { draws = omega arith; nexts = omega arith; count = omega arith; made = refl }

@@ -7,7 +7,7 @@ use Rattle.cet_isa.specs.declared.threads.End.{End}
 use Rattle.cet_isa.specs.declared.threads.End.TheVariants as ending
 use Rattle.cet_book.specs.Book.{Book}
 use Rattle.cet_book.proofs.Relies.{Relies}
-use Rattle.cet_page.specs.Script.{Came, Over, Faulted, Wants}
+use Rattle.cet_page.specs.Script.{Played, Completed, Faulted, Wants}
 use Rattle.cet_page.specs.Seen.{Seen, nothing_seen}
 use Rattle.cet_page.specs.Row.{row}
 use Rattle.cet_page.specs.Core.{Core, After, unheld, kept_by, faulted, core_by, noted_by}
@@ -86,27 +86,27 @@ recorded_stands job next s true j rest w = (rest, refl, w, refl)
 recorded_stands job next s false j rest w = record { waits = w; number = refl; before = s; left = row_claim job j (unheld next) s s w.state.made rest }
 
 -- the thread and its record, by what its row has come to
-abbrev pub left_by : JobData → Arch → Option ℕ → Seen → Came Finish → Option Core → After
+abbrev pub left_by : JobData → Arch → Option ℕ → Seen → Played Finish → Option Core → After
 left_by job arch held seen c child = record { core = core_by job arch held seen c; noted = noted_by arch c; child = child }
 
-pub came_stands : (job : JobData) (core : Core) (held : Option ℕ) (seen : Seen) (past : List Visit) (before s : State) (child : Option Core) (c : Came Finish) → IsJob job → Left job (unheld core.arch) before s seen → OnCame (rules job core.arch.number) (During (unheld core.arch)) (Ends job (unheld core.arch)) (λ p. Fails job (unheld core.arch)) past before s c → IsCore job (core_by job core.arch held seen c) → CoreStands job core.arch.number s (core_by job core.arch held seen c) (core_by job core.arch held seen c).over × NotedReturns job (entries_of core.arch.number before.book) core (left_by job core.arch held seen c child) (noted_by core.arch c) × NotedRestores before.book s.book (noted_by core.arch c)
+pub came_stands : (job : JobData) (core : Core) (held : Option ℕ) (seen : Seen) (past : List Visit) (before s : State) (child : Option Core) (c : Played Finish) → IsJob job → Left job (unheld core.arch) before s seen → OnCame (rules job core.arch.number) (During (unheld core.arch)) (Ends job (unheld core.arch)) (λ p. Fails job (unheld core.arch)) past before s c → IsCore job (core_by job core.arch held seen c) → CoreStands job core.arch.number s (core_by job core.arch held seen c) (core_by job core.arch held seen c).over × NotedReturns job (entries_of core.arch.number before.book) core (left_by job core.arch held seen c child) (noted_by core.arch c) × NotedRestores before.book s.book (noted_by core.arch c)
 came_stands job core held seen past before s child (Wants a changes) j l o w = (record { waits = w; number = refl; before = before; left = l }, tt, tt)
 came_stands job core held seen past before s child (Faulted e) j l o w =
     (recorded_stands job (kept_by core.arch held (faulted core.arch e)) s (core.arch.count + 1 == job.limit) j o.0 w, λ r. (o.1 r, refl, refl), o.2)
-came_stands job core held seen past before s child (Over (Noted next r) left values) j l o w =
+came_stands job core held seen past before s child (Completed (Noted next r) left values) j l o w =
     (recorded_stands job (kept_by core.arch held next) s (next.count == job.limit) j o.0 w, o.1 core.arch.held held, o.2)
-came_stands job core held seen past before s child (Over (Posted next) left values) j l o w = (recorded_stands job (kept_by core.arch held next) s false j o.0 w, tt, tt)
-came_stands job core held seen past before s child (Over (Exited next r status) left values) j l o w = ((o.0, w, refl), o.1 core.arch.held held, o.2)
-came_stands job core held seen past before s child (Over Stopped left values) j l o w = ((o.0, refl, w, refl), tt, tt)
+came_stands job core held seen past before s child (Completed (Posted next) left values) j l o w = (recorded_stands job (kept_by core.arch held next) s false j o.0 w, tt, tt)
+came_stands job core held seen past before s child (Completed (Exited next r status) left values) j l o w = ((o.0, w, refl), o.1 core.arch.held held, o.2)
+came_stands job core held seen past before s child (Completed Stopped left values) j l o w = ((o.0, refl, w, refl), tt, tt)
 
 -- a row that goes on has its trail, and one that is over leaves none
-pub came_still : (job : JobData) (arch : Arch) (held : Option ℕ) (seen : Seen) (c : Came Finish) (words : List ℕ) (t : ℕ) (b : Book) → Still words t b (trail seen.count (row job (unheld arch)) seen.kept []) → Still words t b (trail_of job (core_by job arch held seen c))
+pub came_still : (job : JobData) (arch : Arch) (held : Option ℕ) (seen : Seen) (c : Played Finish) (words : List ℕ) (t : ℕ) (b : Book) → Still words t b (trail seen.count (row job (unheld arch)) seen.kept []) → Still words t b (trail_of job (core_by job arch held seen c))
 came_still job arch held seen (Wants a changes) words t b h = h
 came_still job arch held seen (Faulted e) words t b h = still_none words t b
-came_still job arch held seen (Over (Noted next r) left values) words t b h = still_none words t b
-came_still job arch held seen (Over (Posted next) left values) words t b h = still_none words t b
-came_still job arch held seen (Over (Exited next r status) left values) words t b h = still_none words t b
-came_still job arch held seen (Over Stopped left values) words t b h = still_none words t b
+came_still job arch held seen (Completed (Noted next r) left values) words t b h = still_none words t b
+came_still job arch held seen (Completed (Posted next) left values) words t b h = still_none words t b
+came_still job arch held seen (Completed (Exited next r status) left values) words t b h = still_none words t b
+came_still job arch held seen (Completed Stopped left values) words t b h = still_none words t b
 
 pub after_book : (t : ℕ) (s next : State) (o : Option Book) → option_map (λ b. record s { book = b }) o ≡ Some next → o ≡ Some next.book
 after_book t s next None e = cc

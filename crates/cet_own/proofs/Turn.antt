@@ -7,12 +7,12 @@ use Rattle.cet_book.specs.Book.{Book, books_after}
 use Rattle.cet_book.proofs.Kept.{NoneBorn, others_rely}
 use Rattle.cet_book.proofs.Relies.{Relies}
 use Rattle.cet_isa.specs.declared.threads.Arch.{Arch}
-use Rattle.cet_page.specs.Script.{Came, Over, Faulted, Wants, held_after}
+use Rattle.cet_page.specs.Script.{Played, Completed, Faulted, Wants, held_after}
 use Rattle.cet_page.specs.declared.finishes.Finish.{Finish}
 use Rattle.cet_page.specs.declared.finishes.Finish.TheVariants.{Noted, Posted, Exited, Stopped}
 use Rattle.cet_page.specs.Seen.{Seen, seen_after}
 use Rattle.cet_page.specs.Row.{row}
-use Rattle.cet_page.specs.Core.{Core, After, unheld, come, changes_of, next_changes, core_by, answered, taken, child_of}
+use Rattle.cet_page.specs.Core.{Core, After, unheld, row_played, changes_of, next_changes, core_by, answered, taken, child_of}
 use Rattle.cet_page.proofs.WalkRows.{Ends, walk_row}
 use Rattle.std.specs.Prelude.{slice_index, ◌||◌}
 use Rattle.cet_book.specs.Facts.{one}
@@ -77,20 +77,20 @@ pub record LedBy (job : JobData) (words : List ℕ) (s : State) (core : Core) (a
   pub restores : NotedRestores s.book next.book left.noted
 
 -- a thread holds what its access left it
-held_by : (job : JobData) (arch : Arch) (held : Option ℕ) (seen : Seen) (c : Came Finish) → (core_by job arch held seen c).arch.held ≡ held
+held_by : (job : JobData) (arch : Arch) (held : Option ℕ) (seen : Seen) (c : Played Finish) → (core_by job arch held seen c).arch.held ≡ held
 held_by job arch held seen (Wants a changes) = refl
 held_by job arch held seen (Faulted e) = refl
-held_by job arch held seen (Over (Noted next r) left values) = refl
-held_by job arch held seen (Over (Posted next) left values) = refl
-held_by job arch held seen (Over (Exited next r status) left values) = refl
-held_by job arch held seen (Over Stopped left values) = refl
+held_by job arch held seen (Completed (Noted next r) left values) = refl
+held_by job arch held seen (Completed (Posted next) left values) = refl
+held_by job arch held seen (Completed (Exited next r status) left values) = refl
+held_by job arch held seen (Completed Stopped left values) = refl
 
 -- what a thread has seen after an access, and what its row has come to
 abbrev pub seen_by : Core → List ℕ → Access → Seen
 seen_by core words a = seen_after core.seen a (answer words a)
 
-abbrev pub come_to : JobData → Core → List ℕ → Access → Came Finish
-come_to job core words a = come job core.arch (seen_by core words a)
+abbrev pub come_to : JobData → Core → List ℕ → Access → Played Finish
+come_to job core words a = row_played job core.arch (seen_by core words a)
 
 -- the thread that makes the access isn't born by it
 own_unborn : {t v : ℕ} {past : List Visit} {b : Book} {a : Access} {changes : List Change} (words : List ℕ) → v ≡ answer words a → CountersTell words t b → CountsBy t past b a v changes → NoneBorn changes t
@@ -101,7 +101,7 @@ own_unborn {t = t} {v = v} {a = a} words is counters_tell (bears_child s start e
     subst (λ cs. NoneBorn cs t) (sym ev) (λ z. counters_tell.other (omega arith) (sym z ∙ w), tt)
 own_unborn {t = t} {changes = changes} words is counters_tell (bears_nobody e many once none) = none_born changes t none
 
-led_wants : (job : JobData) (j : IsJob job) (words : List ℕ) (s : State) (core : Core) (a : Access) (own : ℕ → List Change) → CountersTell words core.arch.number s.book → Holds job.image words s.book → Still words core.arch.number s.book (trail_of job core) → Held core.arch.number s.book core.arch.held → InRow job core.arch.number s core → come job core.arch core.seen ≡ Wants a own → IsCore job (answered job core (answer words a) (Wants a own)).core → LedBy job words s core a (own (answer words a)) (answered job core (answer words a) (Wants a own))
+led_wants : (job : JobData) (j : IsJob job) (words : List ℕ) (s : State) (core : Core) (a : Access) (own : ℕ → List Change) → CountersTell words core.arch.number s.book → Holds job.image words s.book → Still words core.arch.number s.book (trail_of job core) → Held core.arch.number s.book core.arch.held → InRow job core.arch.number s core → row_played job core.arch core.seen ≡ Wants a own → IsCore job (answered job core (answer words a) (Wants a own)).core → LedBy job words s core a (own (answer words a)) (answered job core (answer words a) (Wants a own))
 led_wants job j words s core a own few h still held r w is_core =
     let changes = own (answer words a) in
     let holding = held_after changes core.arch.held in
@@ -154,14 +154,14 @@ led_wants job j words s core a own few h still held r w is_core =
       restores = k.2;
     }
 
-led_come : (job : JobData) (j : IsJob job) (words : List ℕ) (s : State) (core : Core) (a : Access) (own : ℕ → List Change) → CountersTell words core.arch.number s.book → Holds job.image words s.book → Still words core.arch.number s.book (trail_of job core) → Held core.arch.number s.book core.arch.held → InRow job core.arch.number s core → come job core.arch core.seen ≡ Wants a own → LedBy job words s core a (own (answer words a)) (taken job core (answer words a))
+led_come : (job : JobData) (j : IsJob job) (words : List ℕ) (s : State) (core : Core) (a : Access) (own : ℕ → List Change) → CountersTell words core.arch.number s.book → Holds job.image words s.book → Still words core.arch.number s.book (trail_of job core) → Held core.arch.number s.book core.arch.held → InRow job core.arch.number s core → row_played job core.arch core.seen ≡ Wants a own → LedBy job words s core a (own (answer words a)) (taken job core (answer words a))
 unfolding taken
 led_come job j words s core a own few h still held r w =
     let is_core : IsCore job (answered job core (answer words a) (Wants a own)).core = subst (λ c. IsCore job (answered job core (answer words a) c).core) w (taken_is job core (answer words a) r.waits) in
     subst (λ c. LedBy job words s core a (own (answer words a)) (answered job core (answer words a) c)) (sym w) (led_wants job j words s core a own few h still held r w is_core)
 
 -- an access of a thread that waits for it
-pub led : (job : JobData) (j : IsJob job) (words : List ℕ) (t : ℕ) (s : State) (core : Core) (a : Access) (own : ℕ → List Change) → CountersTell words t s.book → Holds job.image words s.book → Still words t s.book (trail_of job core) → Held t s.book core.arch.held → InRow job t s core → come job core.arch core.seen ≡ Wants a own → Led job words t s core a
+pub led : (job : JobData) (j : IsJob job) (words : List ℕ) (t : ℕ) (s : State) (core : Core) (a : Access) (own : ℕ → List Change) → CountersTell words t s.book → Holds job.image words s.book → Still words t s.book (trail_of job core) → Held t s.book core.arch.held → InRow job t s core → row_played job core.arch core.seen ≡ Wants a own → Led job words t s core a
 led job j words t s core a own few h still held r w =
     let same : own (answer words a) ≡ next_changes job core (answer words a) = sym (ap (λ c. changes_of c (answer words a)) w) in
     subst (λ n. Led job words n s core a) r.number

@@ -24,7 +24,7 @@ use Rattle.cet_book.proofs.Kept.{NoneBorn}
 use Rattle.cet_book.proofs.Relies.{Relies}
 use Rattle.cet_book.proofs.Hand.{hand, Made}
 use Rattle.cet_book.proofs.Ways.{born_way}
-use Rattle.cet_page.specs.Core.{Core, unheld, come, taken, next_changes, child_core, child_of, born}
+use Rattle.cet_page.specs.Core.{Core, unheld, row_played, taken, next_changes, child_core, child_of, born}
 use Rattle.cet_page.specs.Row.{row}
 use Rattle.cet_page.specs.Script.{Wants, birth}
 use Rattle.cet_page.specs.Machine.{Thread, Machine, machine, thread_after, with_child, act, step_by}
@@ -331,7 +331,7 @@ module _ (job : JobData) (j : IsJob job) (m : Machine) (t : ℕ) (s : State) (th
       made_by d p y x (other n q none) = p.bounds x.core.arch.made (st.made y x q)
       made_by d p y x (newcomer c) = c.made
 
-  pub acts : (changes : ℕ → List Change) → ThreadStands job t s (Some thread) → InRow job t s thread.core → come job thread.core.arch thread.core.seen ≡ Wants a changes → TurnedBy job m t s thread (Some a)
+  pub acts : (changes : ℕ → List Change) → ThreadStands job t s (Some thread) → InRow job t s thread.core → row_played job thread.core.arch thread.core.seen ≡ Wants a changes → TurnedBy job m t s thread (Some a)
   acts changes at r w =
       let inside = slice_get_within m.threads t thread e in
       let before = counters_tell job m.words m.threads t thread s.book j st.paid e (λ y q. subst (ThreadStands job y s) q (st.threads y)) in

@@ -14,14 +14,14 @@ use Rattle.cet_isa.specs.declared.threads.Fault.{Fault}
 use Rattle.cet_isa.specs.declared.threads.FaultName.{FaultName}
 use Rattle.cet_isa.specs.declared.threads.Record.{Record}
 use Rattle.cet_isa.specs.declared.threads.What.TheVariants as what
-use Rattle.cet_page.specs.Script.{Script, done, fault, ask, tell, Came, Over, Faulted, Wants, play, held_after}
+use Rattle.cet_page.specs.Script.{Script, done, fault, ask, tell, Played, Completed, Faulted, Wants, play, held_after}
 use Rattle.cet_page.specs.Seen.{seen_after, kept_after}
 use Rattle.cet_page.specs.Within.{Waits, IsCore}
 use Rattle.cet_page.proofs.WithinLaws.{spent, shows_next, waiting}
 use Rattle.cet_page.specs.Trail.{Visit, visit, trail, seen_of, row_trail}
 use Rattle.cet_page.specs.Faults.{KeepsWords, Faults}
 use Rattle.cet_page.specs.Row.{row}
-use Rattle.cet_page.specs.Core.{Core, unheld, come, wanted, access_of, next_access, core_by, noted_by, answered, taken}
+use Rattle.cet_page.specs.Core.{Core, unheld, row_played, wanted, access_of, next_access, core_by, noted_by, answered, taken}
 use Rattle.cet_page.proofs.Walk.{Walks, OnOver, over_play, writes, moves, acted, unacted, none_written, still_at, held_still}
 use Rattle.cet_page.proofs.WalkRows.{EndsRow, Ends, tells, walk_row, walk_arithmetic, walk_flow}
 use Rattle.cet_page.specs.Arithmetic.{arithmetic}
@@ -73,13 +73,13 @@ flow_clean arch i next n values e h = fault_clean (EndsRow arch) (flow arch i ne
 
 -- ---- what the answer to an access leaves
 
-same_access : (job : JobData) (core : Core) (over : Option End) (a b : Access) (own : ℕ → List Change) → come job core.arch core.seen ≡ Wants b own → access_of job core over ≡ Some a → a ≡ b
+same_access : (job : JobData) (core : Core) (over : Option End) (a b : Access) (own : ℕ → List Change) → row_played job core.arch core.seen ≡ Wants b own → access_of job core over ≡ Some a → a ≡ b
 same_access job core (Some e) a b own w h = cc
 same_access job core None a b own w h =
-    let o : wanted (come job core.arch core.seen) ≡ Some b = ap wanted w in
+    let o : wanted (row_played job core.arch core.seen) ≡ Some b = ap wanted w in
     cc
 
-came_faults : (job : JobData) (core : Core) (answer : ℕ) (b : Access) (own : ℕ → List Change) (r : Record) (name : FaultName) (c : Came Finish) → Waits job core → come job core.arch core.seen ≡ Wants b own → come job core.arch (seen_after core.seen b answer) ≡ c → OnOver (Ends (unheld core.arch)) c → noted_by core.arch c ≡ Some r → r.what ≡ what.Fault name → Faults job core (core_by job core.arch (held_after (own answer) core.arch.held) (seen_after core.seen b answer) c) answer r
+came_faults : (job : JobData) (core : Core) (answer : ℕ) (b : Access) (own : ℕ → List Change) (r : Record) (name : FaultName) (c : Played Finish) → Waits job core → row_played job core.arch core.seen ≡ Wants b own → row_played job core.arch (seen_after core.seen b answer) ≡ c → OnOver (Ends (unheld core.arch)) c → noted_by core.arch c ≡ Some r → r.what ≡ what.Fault name → Faults job core (core_by job core.arch (held_after (own answer) core.arch.held) (seen_after core.seen b answer) c) answer r
 unfolding next_access
 came_faults job core answer b own r name (Wants a changes) h w e o n f = cc
 came_faults job core answer b own r name (Faulted x) h w e o n f = record {
@@ -98,21 +98,21 @@ came_faults job core answer b own r name (Faulted x) h w e o n f = record {
       let clean = fault_clean (Ends start) (row job start) 0 0 (seen_after core.seen b answer).count (seen_after core.seen b answer).kept x (walk_row job start).walks e in
       subst (λ y. All KeepsWords (row_trail job core.arch (seen_after core.seen y answer))) (sym (same_access job core core.over a b own w next)) clean;
 }
-came_faults job core answer b own r name (Over (Noted next noted) left values) h w e o n f = let t : tells noted.what ≡ false = (let same : noted ≡ r = cc in ap (λ (x : Record). tells x.what) same ∙ ap tells f) in let u = o.tells in cc
-came_faults job core answer b own r name (Over (Posted next) left values) h w e o n f = cc
-came_faults job core answer b own r name (Over (Exited next noted status) left values) h w e o n f = let t : tells noted.what ≡ false = (let same : noted ≡ r = cc in ap (λ (x : Record). tells x.what) same ∙ ap tells f) in let u = o.tells in cc
-came_faults job core answer b own r name (Over Stopped left values) h w e o n f = cc
+came_faults job core answer b own r name (Completed (Noted next noted) left values) h w e o n f = let t : tells noted.what ≡ false = (let same : noted ≡ r = cc in ap (λ (x : Record). tells x.what) same ∙ ap tells f) in let u = o.tells in cc
+came_faults job core answer b own r name (Completed (Posted next) left values) h w e o n f = cc
+came_faults job core answer b own r name (Completed (Exited next noted status) left values) h w e o n f = let t : tells noted.what ≡ false = (let same : noted ≡ r = cc in ap (λ (x : Record). tells x.what) same ∙ ap tells f) in let u = o.tells in cc
+came_faults job core answer b own r name (Completed Stopped left values) h w e o n f = cc
 
-answered_faults : (job : JobData) (core : Core) (answer : ℕ) (r : Record) (name : FaultName) (c : Came Finish) → Waits job core → come job core.arch core.seen ≡ c → (answered job core answer c).noted ≡ Some r → r.what ≡ what.Fault name → Faults job core (answered job core answer c).core answer r
+answered_faults : (job : JobData) (core : Core) (answer : ℕ) (r : Record) (name : FaultName) (c : Played Finish) → Waits job core → row_played job core.arch core.seen ≡ c → (answered job core answer c).noted ≡ Some r → r.what ≡ what.Fault name → Faults job core (answered job core answer c).core answer r
 answered_faults job core answer r name (Wants b own) h w n f =
     let seen = seen_after core.seen b answer in
-    came_faults job core answer b own r name (come job core.arch seen) h w refl (over_play (Ends (unheld core.arch)) false (row job (unheld core.arch)) 0 0 seen.count seen.kept (walk_row job (unheld core.arch)).walks) n f
+    came_faults job core answer b own r name (row_played job core.arch seen) h w refl (over_play (Ends (unheld core.arch)) false (row job (unheld core.arch)) 0 0 seen.count seen.kept (walk_row job (unheld core.arch)).walks) n f
 answered_faults job core answer r name (Faulted e) h w n f = cc
-answered_faults job core answer r name (Over x left values) h w n f = cc
+answered_faults job core answer r name (Completed x left values) h w n f = cc
 
 taken_faults : (job : JobData) (core : Core) (answer : ℕ) (r : Record) (name : FaultName) → Waits job core → (taken job core answer).noted ≡ Some r → r.what ≡ what.Fault name → Faults job core (taken job core answer).core answer r
 unfolding taken
-taken_faults job core answer r name h n f = answered_faults job core answer r name (come job core.arch core.seen) h refl n f
+taken_faults job core answer r name h n f = answered_faults job core answer r name (row_played job core.arch core.seen) h refl n f
 
 -- the same of a thread and a record by other names
 pub faults_of : (job : JobData) (core new : Core) (answer : ℕ) (noted : Option Record) → IsCore job core → core.over ≡ None → new ≡ (taken job core answer).core → noted ≡ (taken job core answer).noted → (r : Record) (name : FaultName) → noted ≡ Some r → r.what ≡ what.Fault name → Faults job core new answer r

@@ -4,20 +4,20 @@ use Rattle.std.specs.Prelude.{◌≡◌, ℕ, ◌+◌, ◌-◌, ◌*◌, ◌<◌
 use Rattle.cet_words.specs.declared.accesses.Access.TheVariants as access
 use Rattle.cet_words.specs.Change.{Change}
 use Rattle.cet_words.specs.Layout.{page_at}
-use Rattle.cet_page.specs.Plays.{Comes, Marks}
+use Rattle.cet_page.specs.Plays.{Refines, Marks}
 use Rattle.cet_page.specs.declared.checks.Kind.{Kind}
 use Rattle.cet_page.specs.declared.checks.Who.{Who}
 use Rattle.cet_page.specs.declared.cursors.Mark.TheVariants as marks
 use Rattle.cet_page.specs.declared.cursors.Stop.{Stop}
 use Rattle.cet_page.specs.declared.cursors.Stop.TheVariants as stop
-use Rattle.cet_page.specs.Script.{play, silent, Came, Over, Wants}
+use Rattle.cet_page.specs.Script.{play, silent, Played, Completed, Wants}
 use Rattle.cet_page.specs.Parts.{stores, store_each, look, look_as, look_in_as}
 
-abbrev pub wants_store : (word value : ℕ) → Came (Unit {0})
+abbrev pub wants_store : (word value : ℕ) → Played (Unit {0})
 wants_store word value = Wants (access.Store word value) silent
 
-abbrev pub stored : (left : ℕ) → List ℕ → Came (Unit {0})
-stored left values = Over tt left values
+abbrev pub stored : (left : ℕ) → List ℕ → Played (Unit {0})
+stored left values = Completed tt left values
 
 -- a run of stores that is over
 pub play_stores_over : (count word value step n : ℕ) (values : List ℕ) → count ≤ n → play (stores count word value step) n values ≡ stored (n - count) values
@@ -64,8 +64,8 @@ play_each_wants word (value ∷ rest) (suc n) values l =
 
 -- a look that comes to something without changes comes to the same with changes that its mark needn't tell
 look_in_changes : (changes : ℕ → List Change) (at : Option ℕ) (k : Kind) (w : Who) (addr : ℕ) (n : ℕ) (values : List ℕ) (result : Result ℕ Stop) (left : ℕ) (rest : List ℕ)
-    → Marks marks.Plain changes → Comes (play (look_in_as silent at k w addr) n values) result left rest
-    → Comes (play (look_in_as changes at k w addr) n values) result left rest
+    → Marks marks.Plain changes → Refines (play (look_in_as silent at k w addr) n values) result left rest
+    → Refines (play (look_in_as changes at k w addr) n values) result left rest
 unfolding look_in_as
 look_in_changes changes None k w addr n values result left rest m h = h
 look_in_changes changes (Some page) k w addr zero values (Ok x) left rest m h = cc
@@ -77,7 +77,7 @@ look_in_changes changes (Some page) k w addr (suc n) [] (Err (stop.Fault e)) lef
 look_in_changes changes (Some page) k w addr (suc n) (value ∷ values) result left rest m h = h
 
 pub look_changes : (changes : ℕ → List Change) (w : Who) (k : Kind) (addr : ℕ) (n : ℕ) (values : List ℕ) (result : Result ℕ Stop) (left : ℕ) (rest : List ℕ)
-    → Marks marks.Plain changes → Comes (play (look w k addr) n values) result left rest
-    → Comes (play (look_as changes w k addr) n values) result left rest
+    → Marks marks.Plain changes → Refines (play (look w k addr) n values) result left rest
+    → Refines (play (look_as changes w k addr) n values) result left rest
 unfolding look_as
 look_changes changes w k addr n values result left rest m h = look_in_changes changes (page_at addr) k w addr n values result left rest m h

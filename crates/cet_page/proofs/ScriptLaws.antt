@@ -1,10 +1,10 @@
 -- A script after another comes to what the second comes to where the first is over. Source: own.
 use Rattle.std.proofs.Common.{zero, suc}
 use Rattle.std.specs.Prelude.{◌≡◌, ℕ, List, [], ◌∷◌, refl}
-use Rattle.cet_page.specs.Script.{Script, ◌>>=◌, Came, play, done, fault, ask, tell, Over, Faulted, Wants}
+use Rattle.cet_page.specs.Script.{Script, ◌>>=◌, Played, play, done, fault, ask, tell, Completed, Faulted, Wants}
 
-abbrev pub resume : {A B : Type 0} → Came A → (A → Script B) → Came B
-resume (Over x n values) f = play (f x) n values
+abbrev pub resume : {A B : Type 0} → Played A → (A → Script B) → Played B
+resume (Completed x n values) f = play (f x) n values
 resume (Faulted e) f = Faulted e
 resume (Wants a changes) f = Wants a changes
 

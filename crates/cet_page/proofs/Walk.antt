@@ -14,7 +14,7 @@ use Rattle.cet_isa.specs.declared.instructions.Operand.TheVariants as operand
 use Rattle.cet_isa.specs.declared.instructions.Size.{Size}
 use Rattle.cet_isa.specs.declared.threads.Arch.{Arch}
 use Rattle.cet_isa.specs.declared.threads.Fault.{Fault}
-use Rattle.cet_page.specs.Script.{Script, done, fault, ask, tell, ◌>>=◌, Came, Over, Faulted, Wants, play, birth, held_after}
+use Rattle.cet_page.specs.Script.{Script, done, fault, ask, tell, ◌>>=◌, Played, Completed, Faulted, Wants, play, birth, held_after}
 use Rattle.cet_page.specs.Seen.{keeps, kept_after}
 use Rattle.cet_page.specs.Page.{allows, page_fault}
 use Rattle.cet_page.specs.Parts.{tested_as, look_in_as, look_as, probe_in, probe, peek, load_as, store_as, exchange_as, swap, fetch_add_as, stores, store_each, general_protection}
@@ -420,8 +420,8 @@ module _ {A : Type 0} (P : A → Type 0) where
   births wrote (tell word value own s) n k (suc i) vs a changes answer f w = births true s (n + 1) k i vs a changes answer f.1 w
 
 -- what holds of a result
-abbrev pub OnOver : {A : Type 0} → (A → Type 0) → Came A → Type 0
-OnOver P (Over x left values) = P x
+abbrev pub OnOver : {A : Type 0} → (A → Type 0) → Played A → Type 0
+OnOver P (Completed x left values) = P x
 OnOver P (Faulted e) = Unit {0}
 OnOver P (Wants a changes) = Unit {0}
 

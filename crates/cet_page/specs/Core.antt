@@ -10,7 +10,7 @@ use Rattle.cet_isa.specs.declared.threads.Arch.{Arch}
 use Rattle.cet_isa.specs.declared.threads.End.{End}
 use Rattle.cet_isa.specs.declared.threads.End.TheVariants as ending
 use Rattle.cet_words.specs.Change.{Change}
-use Rattle.cet_page.specs.Script.{Came, Over, Faulted, Wants, play, birth, held_after}
+use Rattle.cet_page.specs.Script.{Played, Completed, Faulted, Wants, play, birth, held_after}
 use Rattle.cet_page.specs.Seen.{Seen, nothing_seen, seen_after}
 use Rattle.cet_page.specs.Gate.{after_syscall}
 use Rattle.cet_page.specs.Row.{row}
@@ -61,30 +61,30 @@ abbrev pub unheld : Arch → Arch
 unheld arch = record arch { held = None }
 
 -- what a row has come to
-abbrev pub come : JobData → Arch → Seen → Came Finish
-come job arch seen = play (row job (unheld arch)) seen.count seen.kept
+abbrev pub row_played : JobData → Arch → Seen → Played Finish
+row_played job arch seen = play (row job (unheld arch)) seen.count seen.kept
 
-abbrev pub wanted : Came Finish → Option Access
+abbrev pub wanted : Played Finish → Option Access
 wanted (Wants a changes) = Some a
 wanted (Faulted e) = None
-wanted (Over x left values) = None
+wanted (Completed x left values) = None
 
 abbrev pub access_of : JobData → Core → Option End → Option Access
 access_of job core (Some e) = None
-access_of job core None = wanted (come job core.arch core.seen)
+access_of job core None = wanted (row_played job core.arch core.seen)
 
 -- the next access; none where the thread has ended, and some where it waits in a row
 unfoldable pub next_access : JobData → Core → Option Access
 next_access job core = access_of job core core.over
 
 -- the changes that come with a wanted access, where it gives this answer
-abbrev pub changes_of : Came Finish → (answer : ℕ) → List Change
+abbrev pub changes_of : Played Finish → (answer : ℕ) → List Change
 changes_of (Wants a changes) answer = changes answer
 changes_of (Faulted e) answer = []
-changes_of (Over x left values) answer = []
+changes_of (Completed x left values) answer = []
 
 abbrev pub next_changes : JobData → Core → (answer : ℕ) → List Change
-next_changes job core answer = changes_of (come job core.arch core.seen) answer
+next_changes job core answer = changes_of (row_played job core.arch core.seen) answer
 
 -- the child of a clone: the parent's registers after SYSCALL with RAX 0 and the stack of RSI, and its own shadow stack
 abbrev pub child_arch : Arch → (child start : ℕ) → Arch
@@ -127,34 +127,34 @@ abbrev pub faulted : Arch → Fault → Arch
 faulted arch e = record arch { due = Some e; count = arch.count + 1 }
 
 -- the thread, by what its row has come to
-abbrev pub core_by : JobData → Arch → Option ℕ → Seen → Came Finish → Core
+abbrev pub core_by : JobData → Arch → Option ℕ → Seen → Played Finish → Core
 core_by job arch held seen (Wants a changes) = record { arch = kept_by arch held arch; seen = seen; over = None }
 core_by job arch held seen (Faulted e) = recorded job (kept_by arch held (faulted arch e))
-core_by job arch held seen (Over (Noted next noted) left values) = recorded job (kept_by arch held next)
-core_by job arch held seen (Over (Posted next) left values) = record { arch = kept_by arch held next; seen = nothing_seen; over = None }
-core_by job arch held seen (Over (Exited next noted status) left values) =
+core_by job arch held seen (Completed (Noted next noted) left values) = recorded job (kept_by arch held next)
+core_by job arch held seen (Completed (Posted next) left values) = record { arch = kept_by arch held next; seen = nothing_seen; over = None }
+core_by job arch held seen (Completed (Exited next noted status) left values) =
     record { arch = kept_by arch held next; seen = nothing_seen; over = Some (ending.Exit status) }
-core_by job arch held seen (Over Stopped left values) = record { arch = kept_by arch held arch; seen = nothing_seen; over = Some ending.Group }
+core_by job arch held seen (Completed Stopped left values) = record { arch = kept_by arch held arch; seen = nothing_seen; over = Some ending.Group }
 
 -- the record that came with it
-abbrev pub noted_by : Arch → Came Finish → Option Record
+abbrev pub noted_by : Arch → Played Finish → Option Record
 noted_by arch (Wants a changes) = None
 noted_by arch (Faulted e) = Some (fault_record arch e)
-noted_by arch (Over (Noted next noted) left values) = Some noted
-noted_by arch (Over (Posted next) left values) = None
-noted_by arch (Over (Exited next noted status) left values) = Some noted
-noted_by arch (Over Stopped left values) = None
+noted_by arch (Completed (Noted next noted) left values) = Some noted
+noted_by arch (Completed (Posted next) left values) = None
+noted_by arch (Completed (Exited next noted status) left values) = Some noted
+noted_by arch (Completed Stopped left values) = None
 
 -- what the answer to a wanted access leaves
-abbrev pub answered : JobData → Core → (answer : ℕ) → Came Finish → After
+abbrev pub answered : JobData → Core → (answer : ℕ) → Played Finish → After
 answered job core answer (Wants a changes) = record {
-  core = core_by job core.arch (held_after (changes answer) core.arch.held) (seen_after core.seen a answer) (come job core.arch (seen_after core.seen a answer));
-  noted = noted_by core.arch (come job core.arch (seen_after core.seen a answer));
+  core = core_by job core.arch (held_after (changes answer) core.arch.held) (seen_after core.seen a answer) (row_played job core.arch (seen_after core.seen a answer));
+  noted = noted_by core.arch (row_played job core.arch (seen_after core.seen a answer));
   child = child_of core.arch (changes answer);
 }
 answered job core answer (Faulted e) = record { core = core; noted = None; child = None }
-answered job core answer (Over x left values) = record { core = core; noted = None; child = None }
+answered job core answer (Completed x left values) = record { core = core; noted = None; child = None }
 
 -- what the answer to its next access makes of a thread that hasn't ended
 unfoldable pub taken : JobData → Core → (answer : ℕ) → After
-taken job core answer = answered job core answer (come job core.arch core.seen)
+taken job core answer = answered job core answer (row_played job core.arch core.seen)

@@ -6,7 +6,7 @@ use Rattle.cet_words.specs.declared.accesses.Access.{Access}
 use Rattle.cet_isa.specs.declared.threads.Arch.{Arch}
 use Rattle.cet_isa.specs.declared.threads.Record.{Record}
 use Rattle.cet_words.specs.Access.{InRange}
-use Rattle.cet_page.specs.Script.{Came, Over, Faulted, Wants, ask, done, play, silent, birth, held_after}
+use Rattle.cet_page.specs.Script.{Played, Completed, Faulted, Wants, ask, done, play, silent, birth, held_after}
 use Rattle.cet_page.specs.declared.cursors.Mark.{Mark}
 use Rattle.cet_page.specs.declared.cursors.Mark.TheVariants as marks
 use Rattle.cet_page.specs.declared.cursors.Stop.{Stop}
@@ -35,41 +35,41 @@ Marks mark changes =
     ((answer : ℕ) (held : Option ℕ) → held_after (changes answer) held ≡ held_by mark answer held) × ((answer : ℕ) → birth (changes answer) ≡ birth_by mark answer)
 
 -- the script wants this access, which is in range, with changes that the mark tells
-abbrev pub Wanted : {A : Type 0} → Came A → Access → Mark → Type 0
+abbrev pub Wanted : {A : Type 0} → Played A → Access → Mark → Type 0
 Wanted (Wants b changes) a mark = (b ≡ a) × Marks mark changes × InRange a
 Wanted (Faulted e) a mark = ⊥
-Wanted (Over x left values) a mark = ⊥
+Wanted (Completed x left values) a mark = ⊥
 
 -- a stop at a wanted access or at a fault
-abbrev pub Stopped : {A : Type 0} → Came A → Stop → Type 0
+abbrev pub Stopped : {A : Type 0} → Played A → Stop → Type 0
 Stopped came (stop.Access a mark) = Wanted came a mark
 Stopped came (stop.Fault e) = came ≡ Faulted e
 
 -- what was returned, seen by view, and the place of the cursor afterwards
-abbrev pub ComesBy : {A B : Type 0} → (A → B) → Came B → Result A Stop → (left : ℕ) → List ℕ → Type 0
-ComesBy view came (Ok x) left values = came ≡ Over (view x) left values
-ComesBy view came (Err s) left values = Stopped came s
+abbrev pub RefinesBy : {A B : Type 0} → (A → B) → Played B → Result A Stop → (left : ℕ) → List ℕ → Type 0
+RefinesBy view came (Ok x) left values = came ≡ Completed (view x) left values
+RefinesBy view came (Err s) left values = Stopped came s
 
-abbrev pub Comes : {A : Type 0} → Came A → Result A Stop → (left : ℕ) → List ℕ → Type 0
-Comes came result left values = ComesBy (λ x. x) came result left values
+abbrev pub Refines : {A : Type 0} → Played A → Result A Stop → (left : ℕ) → List ℕ → Type 0
+Refines came result left values = RefinesBy (λ x. x) came result left values
 
 -- what an access comes to whose value is kept, whatever its changes are: its value, or a stop at it with this mark
 abbrev pub Asks : Access → Mark → (before : ℕ) → List ℕ → Result ℕ Stop → (left : ℕ) → List ℕ → Type 0
-Asks a mark before seen (Ok value) left values = play (ask a silent done) before seen ≡ Over value left values
+Asks a mark before seen (Ok value) left values = play (ask a silent done) before seen ≡ Completed value left values
 Asks a mark before seen (Err s) left values = (play (ask a silent done) before seen ≡ Wants a silent) × (s ≡ stop.Access a mark) × InRange a
 
 -- What a part of a row does next: an access, its fault, or its result. The view tells the state after it and its record, if
 -- there is one.
-abbrev pub next_by : {A : Type 0} → (A → Arch × Option Record) → Came A → Next
+abbrev pub next_by : {A : Type 0} → (A → Arch × Option Record) → Played A → Next
 next_by view (Wants a changes) = nexts.Access a
 next_by view (Faulted e) = nexts.Fault e
-next_by view (Over x left values) = nexts.Done (view x).0 (view x).1
+next_by view (Completed x left values) = nexts.Done (view x).0 (view x).1
 
 -- an instruction ends with a record
 abbrev pub with_record : Arch × Record → Arch × Option Record
 with_record x = (x.0, Some x.1)
 
-abbrev pub next_of : Came (Arch × Record) → Next
+abbrev pub next_of : Played (Arch × Record) → Next
 next_of came = next_by with_record came
 
 -- the page or word of an access is in range

@@ -26,16 +26,16 @@ unfoldable pub ◌>>=◌ : {A B : Type 0} → Script A → (A → Script B) → 
 (tell word value changes k) >>= f = tell word value changes (k >>= f)
 
 -- what a script has come to after some accesses
-pub data Came (A : Type 0) : Type 0 where
+pub data Played (A : Type 0) : Type 0 where
   -- it was over before this number of accesses and these answers were used
-  Over : A → (left : ℕ) → List ℕ → Came A
-  Faulted : Fault → Came A
+  Completed : A → (left : ℕ) → List ℕ → Played A
+  Faulted : Fault → Played A
   -- it wants this access next, which comes with these changes for each answer
-  Wants : Access → (ℕ → List Change) → Came A
+  Wants : Access → (ℕ → List Change) → Played A
 
 -- what a script has come to after so many accesses, of which those that are no store gave these answers
-abbrev pub play : {A : Type 0} → Script A → ℕ → List ℕ → Came A
-play (done x) n values = Over x n values
+abbrev pub play : {A : Type 0} → Script A → ℕ → List ℕ → Played A
+play (done x) n values = Completed x n values
 play (fault e) n values = Faulted e
 play (ask a changes k) zero values = Wants a changes
 play (ask a changes k) (suc n) [] = Wants a changes

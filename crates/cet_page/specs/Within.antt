@@ -8,7 +8,7 @@ use Rattle.cet_isa.specs.declared.threads.End.{End}
 use Rattle.cet_page.specs.Script.{Wants}
 use Rattle.cet_page.specs.Seen.{nothing_seen}
 use Rattle.cet_page.specs.Finish.{IsMade}
-use Rattle.cet_page.specs.Core.{Core, come}
+use Rattle.cet_page.specs.Core.{Core, row_played}
 use Rattle.cet_page.specs.Trail.{seen_of, trail_of}
 
 -- the thread has a number, and eight pages that the kernel made for it
@@ -22,7 +22,7 @@ pub record Waits (job : JobData) (core : Core) : Type 0 where
   pub count : core.arch.count < job.limit
   pub limit : job.limit ≤ 100000
   pub seen : seen_of (trail_of job core) ≡ core.seen
-  pub waits : (a : Access) × (changes : ℕ → List Change) × (come job core.arch core.seen ≡ Wants a changes)
+  pub waits : (a : Access) × (changes : ℕ → List Change) × (row_played job core.arch core.seen ≡ Wants a changes)
 
 -- the thread is at an end: it has made at most as many records as the limit says, and has seen nothing of a further row
 pub record Rests (job : JobData) (core : Core) : Type 0 where

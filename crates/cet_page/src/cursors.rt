@@ -4,7 +4,7 @@ ghost use Rattle.std.specs.Prelude.{◌≡◌, ◌+◌, ◌*◌, ◌/◌, ◌%�
 ghost use Rattle.cet_words.specs.Access.{InRange};
 ghost use Rattle.cet_words.specs.Layout.{word_in, page_count, word_count};
 ghost use Rattle.cet_page.specs.Script.{play, ask, tell, done, silent};
-ghost use Rattle.cet_page.specs.Plays.{Comes, Asks, Marks};
+ghost use Rattle.cet_page.specs.Plays.{Refines, Asks, Marks};
 ghost use Rattle.cet_words.specs.Change.{Change};
 ghost use Rattle.cet_page.specs.Parts.{general_protection, invalid_opcode, tested, tested_as, look, look_as, look_in_as, probe, probe_in, peek, load, store, stores, store_each, exchange, swap, fetch_add, fetch_or, fetch_and};
 
@@ -77,7 +77,7 @@ impl<'a> Cursor<'a> {
     /// An access whose value is kept.
     pub fn ask(&mut self, access: Access) -> Result<u64, Stop>
         requires { InRange access }
-        ensures { Comes (play (ask access silent done) self.old.left self.old.rest.now) result self.new.left self.new.rest.now }
+        ensures { Refines (play (ask access silent done) self.old.left self.old.rest.now) result self.new.left self.new.rest.now }
     {
         self.ask_as(access, Mark::Plain)
     }
@@ -102,7 +102,7 @@ impl<'a> Cursor<'a> {
     #[tactic(auto, unfolding(crate::specs::Parts::store_as))]
     pub fn store(&mut self, word: u32, value: u64) -> Result<(), Stop>
         requires { word < word_count }
-        ensures { Comes (play (store word value) self.old.left self.old.rest.now) result self.new.left self.new.rest.now }
+        ensures { Refines (play (store word value) self.old.left self.old.rest.now) result self.new.left self.new.rest.now }
     {
         if self.left == 0 {
             return Err(Stop::Access(Access::Store(word, value), Mark::Plain));
@@ -115,7 +115,7 @@ impl<'a> Cursor<'a> {
     #[tactic(auto, unfolding(crate::specs::Parts::load_as))]
     pub fn load(&mut self, word: u32) -> Result<u64, Stop>
         requires { word < word_count }
-        ensures { Comes (play (load word) self.old.left self.old.rest.now) result self.new.left self.new.rest.now }
+        ensures { Refines (play (load word) self.old.left self.old.rest.now) result self.new.left self.new.rest.now }
     {
         self.ask(Access::Load(word))
     }
@@ -124,7 +124,7 @@ impl<'a> Cursor<'a> {
     #[tactic(auto, unfolding(crate::specs::Parts::exchange_as))]
     pub fn exchange(&mut self, word: u32, expected: u64, value: u64) -> Result<u64, Stop>
         requires { word < word_count }
-        ensures { Comes (play (exchange word expected value) self.old.left self.old.rest.now) result self.new.left self.new.rest.now }
+        ensures { Refines (play (exchange word expected value) self.old.left self.old.rest.now) result self.new.left self.new.rest.now }
     {
         self.ask(Access::CompareExchange(word, expected, value))
     }
@@ -133,7 +133,7 @@ impl<'a> Cursor<'a> {
     #[tactic(auto, unfolding(crate::specs::Parts::swap))]
     pub fn swap(&mut self, word: u32, value: u64) -> Result<u64, Stop>
         requires { word < word_count }
-        ensures { Comes (play (swap word value) self.old.left self.old.rest.now) result self.new.left self.new.rest.now }
+        ensures { Refines (play (swap word value) self.old.left self.old.rest.now) result self.new.left self.new.rest.now }
     {
         self.ask(Access::Swap(word, value))
     }
@@ -142,7 +142,7 @@ impl<'a> Cursor<'a> {
     #[tactic(auto, unfolding(crate::specs::Parts::fetch_add_as))]
     pub fn fetch_add(&mut self, word: u32, value: u64) -> Result<u64, Stop>
         requires { word < word_count }
-        ensures { Comes (play (fetch_add word value) self.old.left self.old.rest.now) result self.new.left self.new.rest.now }
+        ensures { Refines (play (fetch_add word value) self.old.left self.old.rest.now) result self.new.left self.new.rest.now }
     {
         self.ask(Access::FetchAdd(word, value))
     }
@@ -151,7 +151,7 @@ impl<'a> Cursor<'a> {
     #[tactic(auto, unfolding(crate::specs::Parts::fetch_or))]
     pub fn fetch_or(&mut self, word: u32, value: u64) -> Result<u64, Stop>
         requires { word < word_count }
-        ensures { Comes (play (fetch_or word value) self.old.left self.old.rest.now) result self.new.left self.new.rest.now }
+        ensures { Refines (play (fetch_or word value) self.old.left self.old.rest.now) result self.new.left self.new.rest.now }
     {
         self.ask(Access::FetchOr(word, value))
     }
@@ -160,7 +160,7 @@ impl<'a> Cursor<'a> {
     #[tactic(auto, unfolding(crate::specs::Parts::fetch_and))]
     pub fn fetch_and(&mut self, word: u32, value: u64) -> Result<u64, Stop>
         requires { word < word_count }
-        ensures { Comes (play (fetch_and word value) self.old.left self.old.rest.now) result self.new.left self.new.rest.now }
+        ensures { Refines (play (fetch_and word value) self.old.left self.old.rest.now) result self.new.left self.new.rest.now }
     {
         self.ask(Access::FetchAnd(word, value))
     }
@@ -171,7 +171,7 @@ impl<'a> Cursor<'a> {
     pub fn stores(&mut self, count: u32, word: u32, value: u64, step: u64) -> Result<(), Stop>
         requires words { word + count ≤ word_count }
         requires values { value + step * count < 2 ^ 64 }
-        ensures { Comes (play (stores count word value step) self.old.left self.old.rest.now) result self.new.left self.new.rest.now }
+        ensures { Refines (play (stores count word value step) self.old.left self.old.rest.now) result self.new.left self.new.rest.now }
     {
         if self.left >= count {
             self.left -= count;
@@ -188,7 +188,7 @@ impl<'a> Cursor<'a> {
     #[tactic(auto, using(crate::proofs::PartLaws::play_each_over, crate::proofs::PartLaws::play_each_wants))]
     pub fn store_each(&mut self, word: u32, values: &[u64]) -> Result<(), Stop>
         requires { word + length values.now ≤ word_count }
-        ensures { Comes (play (store_each word values.now) self.old.left self.old.rest.now) result self.new.left self.new.rest.now }
+        ensures { Refines (play (store_each word values.now) self.old.left self.old.rest.now) result self.new.left self.new.rest.now }
     {
         let count = values.len() as u32;
         if self.left >= count {
@@ -203,7 +203,7 @@ impl<'a> Cursor<'a> {
     #[tactic(auto, unfolding(crate::specs::Parts::peek))]
     pub fn peek(&mut self, page: u32) -> Result<u64, Stop>
         requires { page < page_count }
-        ensures { Comes (play (peek page) self.old.left self.old.rest.now) result self.new.left self.new.rest.now }
+        ensures { Refines (play (peek page) self.old.left self.old.rest.now) result self.new.left self.new.rest.now }
     {
         self.ask(Access::Look(page))
     }
@@ -212,7 +212,7 @@ impl<'a> Cursor<'a> {
     #[tactic(auto, unfolding(crate::specs::Parts::tested_as))]
     pub fn tested(&mut self, addr: u64, size: u64) -> Result<(), Stop>
         requires { 0 < size }
-        ensures { Comes (play (tested addr size) self.old.left self.old.rest.now) result self.new.left self.new.rest.now }
+        ensures { Refines (play (tested addr size) self.old.left self.old.rest.now) result self.new.left self.new.rest.now }
     {
         if !is_canonical(addr) {
             return Err(general_protection());
@@ -232,7 +232,7 @@ impl<'a> Cursor<'a> {
     #[tactic(auto, unfolding(crate::specs::Parts::tested_as))]
     pub fn tested_gp(&mut self, addr: u64, size: u64) -> Result<(), Stop>
         requires { 0 < size }
-        ensures { Comes (play (tested_as general_protection addr size) self.old.left self.old.rest.now) result self.new.left self.new.rest.now }
+        ensures { Refines (play (tested_as general_protection addr size) self.old.left self.old.rest.now) result self.new.left self.new.rest.now }
     {
         if !is_canonical(addr) || addr % size != 0 {
             return Err(general_protection());
@@ -243,7 +243,7 @@ impl<'a> Cursor<'a> {
     /// The look at the page of an address, with the page check; the answer is the page's number.
     #[tactic(auto, unfolding(crate::specs::Parts::look_as, crate::specs::Parts::look_in_as))]
     pub fn look(&mut self, who: Who, kind: Kind, addr: u64) -> Result<u32, Stop>
-        ensures comes { Comes (play (look who kind addr) self.old.left self.old.rest.now) result self.new.left self.new.rest.now }
+        ensures comes { Refines (play (look who kind addr) self.old.left self.old.rest.now) result self.new.left self.new.rest.now }
         ensures range { IfOk result (λ page. page < page_count) }
     {
         let Some(page) = page_of(addr) else {
@@ -255,7 +255,7 @@ impl<'a> Cursor<'a> {
     /// The same look, where it has changes that its mark needn't tell.
     #[tactic(auto, using(crate::proofs::PartLaws::look_changes))]
     pub fn look_as(&mut self, who: Who, kind: Kind, addr: u64) -> Result<u32, Stop>
-        ensures comes { (changes : ℕ → List Change) → Marks Mark.Plain changes → Comes (play (look_as changes who kind addr) self.old.left self.old.rest.now) result self.new.left self.new.rest.now }
+        ensures comes { (changes : ℕ → List Change) → Marks Mark.Plain changes → Refines (play (look_as changes who kind addr) self.old.left self.old.rest.now) result self.new.left self.new.rest.now }
         ensures range { IfOk result (λ page. page < page_count) }
     {
         self.look(who, kind, addr)
@@ -264,7 +264,7 @@ impl<'a> Cursor<'a> {
     #[tactic(auto, using(crate::proofs::ScriptLaws::play_bind), unfolding(crate::specs::Parts::look_in_as))]
     fn look_in(&mut self, page: u32, who: Who, kind: Kind, addr: u64) -> Result<u32, Stop>
         requires { page < page_count }
-        ensures comes { Comes (play (look_in_as silent (Some page) kind who addr) self.old.left self.old.rest.now) result self.new.left self.new.rest.now }
+        ensures comes { Refines (play (look_in_as silent (Some page) kind who addr) self.old.left self.old.rest.now) result self.new.left self.new.rest.now }
         ensures range { IfOk result (λ page. page < page_count) }
     {
         let entry = self.ask(Access::Look(page))?;
@@ -278,7 +278,7 @@ impl<'a> Cursor<'a> {
     /// page check fails.
     #[tactic(auto, unfolding(crate::specs::Parts::probe, crate::specs::Parts::probe_in))]
     pub fn probe(&mut self, who: Who, kind: Kind, addr: u64) -> Result<Option<u32>, Stop>
-        ensures comes { Comes (play (probe who kind addr) self.old.left self.old.rest.now) result self.new.left self.new.rest.now }
+        ensures comes { Refines (play (probe who kind addr) self.old.left self.old.rest.now) result self.new.left self.new.rest.now }
         ensures range { IfOk result (λ found. IfSome found (λ page. page < page_count)) }
     {
         let Some(page) = page_of(addr) else {
@@ -290,7 +290,7 @@ impl<'a> Cursor<'a> {
     #[tactic(auto, using(crate::proofs::ScriptLaws::play_bind), unfolding(crate::specs::Parts::probe_in))]
     fn probe_in(&mut self, page: u32, who: Who, kind: Kind, addr: u64) -> Result<Option<u32>, Stop>
         requires { page < page_count }
-        ensures comes { Comes (play (probe_in (Some page) kind who) self.old.left self.old.rest.now) result self.new.left self.new.rest.now }
+        ensures comes { Refines (play (probe_in (Some page) kind who) self.old.left self.old.rest.now) result self.new.left self.new.rest.now }
         ensures range { IfOk result (λ found. IfSome found (λ page. page < page_count)) }
     {
         let entry = self.ask(Access::Look(page))?;

@@ -4,7 +4,7 @@ ghost use Rattle.std.specs.Prelude.{◌≡◌, ◌+◌, ◌-◌, ◌*◌, ◌%�
 ghost use Rattle.std.specs.Int.{cast_unsigned};
 ghost use Rattle.cet_words.specs.Layout.{word_count};
 ghost use Rattle.cet_page.specs.Script.{play};
-ghost use Rattle.cet_page.specs.Plays.{Comes};
+ghost use Rattle.cet_page.specs.Plays.{Refines};
 ghost use Rattle.cet_page.specs.Values.{limit, width};
 ghost use Rattle.cet_page.specs.Operands.{register, with_register, base_address, index_value, effective, byte_count, bytes_at, load_word, load_at, write_place, store_at, read_operand, stepped, assigned, settled, compared};
 
@@ -100,7 +100,7 @@ impl<'a> Cursor<'a> {
     #[tactic(auto, using(crate::proofs::ScriptLaws::play_bind), unfolding(crate::specs::Operands::load_word))]
     fn load_word(&mut self, addr: u64, count: u64) -> Result<u64, Stop>
         requires { 0 < count }
-        ensures { Comes (play (load_word addr count) self.old.left self.old.rest.now) result self.new.left self.new.rest.now }
+        ensures { Refines (play (load_word addr count) self.old.left self.old.rest.now) result self.new.left self.new.rest.now }
     {
         self.tested(addr, count)?;
         let page = self.look(Who::User, Kind::Load, addr)?;
@@ -110,7 +110,7 @@ impl<'a> Cursor<'a> {
     /// The load of a byte.
     #[tactic(auto, using(crate::proofs::ScriptLaws::play_bind), unfolding(crate::specs::Operands::load_at))]
     pub fn load_byte(&mut self, addr: u64) -> Result<u64, Stop>
-        ensures comes { Comes (play (load_at addr 1) self.old.left self.old.rest.now) result self.new.left self.new.rest.now }
+        ensures comes { Refines (play (load_at addr 1) self.old.left self.old.rest.now) result self.new.left self.new.rest.now }
     {
         let word = self.load_word(addr, 1)?;
         Ok((word >> (8 * (addr % 8))) % 256)
@@ -119,7 +119,7 @@ impl<'a> Cursor<'a> {
     /// The load of as many bytes as the size has.
     #[tactic(auto, using(crate::proofs::ScriptLaws::play_bind), unfolding(crate::specs::Operands::load_at))]
     pub fn load_at(&mut self, addr: u64, size: Size) -> Result<u64, Stop>
-        ensures comes { Comes (play (load_at addr (byte_count size)) self.old.left self.old.rest.now) result self.new.left self.new.rest.now }
+        ensures comes { Refines (play (load_at addr (byte_count size)) self.old.left self.old.rest.now) result self.new.left self.new.rest.now }
         ensures range { IfOk result (λ value. value < limit size) }
     {
         let word = self.load_word(addr, byte_count(size))?;
@@ -129,7 +129,7 @@ impl<'a> Cursor<'a> {
     /// The tests and the look before a write of 8 bytes; the answer is the word's number.
     #[tactic(auto, using(crate::proofs::ScriptLaws::play_bind), unfolding(crate::specs::Operands::write_place))]
     pub fn write_place(&mut self, addr: u64) -> Result<u32, Stop>
-        ensures comes { Comes (play (write_place addr) self.old.left self.old.rest.now) result self.new.left self.new.rest.now }
+        ensures comes { Refines (play (write_place addr) self.old.left self.old.rest.now) result self.new.left self.new.rest.now }
         ensures range { IfOk result (λ word. word < word_count) }
     {
         self.tested(addr, 8)?;
@@ -140,7 +140,7 @@ impl<'a> Cursor<'a> {
     /// The store of 8 bytes.
     #[tactic(auto, using(crate::proofs::ScriptLaws::play_bind), unfolding(crate::specs::Operands::store_at))]
     pub fn store_at(&mut self, addr: u64, value: u64) -> Result<(), Stop>
-        ensures { Comes (play (store_at addr value) self.old.left self.old.rest.now) result self.new.left self.new.rest.now }
+        ensures { Refines (play (store_at addr value) self.old.left self.old.rest.now) result self.new.left self.new.rest.now }
     {
         let word = self.write_place(addr)?;
         self.store(word, value)
@@ -155,7 +155,7 @@ impl<'a> Cursor<'a> {
         operand: Operand,
         next: u64,
     ) -> Result<u64, Stop>
-        ensures comes { Comes (play (read_operand arch.now size operand next) self.old.left self.old.rest.now) result self.new.left self.new.rest.now }
+        ensures comes { Refines (play (read_operand arch.now size operand next) self.old.left self.old.rest.now) result self.new.left self.new.rest.now }
         ensures range { IfOk result (λ value. value < limit size) }
     {
         match operand {

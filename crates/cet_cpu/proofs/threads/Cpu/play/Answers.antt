@@ -1,21 +1,21 @@
 use Rattle.std.proofs.Common.{ℕ, List, Ok, Err, Result, subst, ap, refl}
 use Rattle.cet_isa.specs.declared.threads.Arch.{Arch}
-use Rattle.cet_page.specs.Core.{come, kept_by, unheld}
-use Rattle.cet_page.specs.Plays.{ComesBy}
+use Rattle.cet_page.specs.Core.{row_played, kept_by, unheld}
+use Rattle.cet_page.specs.Plays.{RefinesBy}
 use Rattle.cet_page.specs.Row.{row}
-use Rattle.cet_page.specs.Script.{Came, play}
+use Rattle.cet_page.specs.Script.{Played, play}
 use Rattle.cet_page.specs.declared.cursors.Stop.{Stop}
 use Rattle.cet_page.specs.declared.finishes.Finish.{Finish}
 use Rattle.cet_cpu.specs.Changes.{finish_with, Stays}
-use Rattle.cet_cpu.specs.Cpu.{CameTo, CpuData}
+use Rattle.cet_cpu.specs.Cpu.{RefinesRow, CpuData}
 use Rattle.cet_cpu.specs.declared.gate.RowEnd.{RowEnd}
 use Rattle.cet_cpu.specs.declared.gate.RowEnd.TheVariants as row_end
 use Rattle.cet_cpu.proofs.threads.Cpu.play.Goals as goal
 
 -- the place of the cursor afterwards doesn't matter
-came_to : (before after : Arch) (came : Came Finish) (result : Result RowEnd Stop) (left : ℕ) (values : List ℕ)
-    → ComesBy (finish_with after) came result left values → Stays (unheld before) after result
-    → CameTo came before (kept_by before before.held after) result
+came_to : (before after : Arch) (came : Played Finish) (result : Result RowEnd Stop) (left : ℕ) (values : List ℕ)
+    → RefinesBy (finish_with after) came result left values → Stays (unheld before) after result
+    → RefinesRow came before (kept_by before before.held after) result
 came_to before after came (Ok row_end.Stopped) left values h s = (after, left, values, refl, h, ap (kept_by before before.held) s)
 came_to before after came (Ok (row_end.Noted noted)) left values h s = (after, left, values, refl, h, tt)
 came_to before after came (Ok row_end.Posted) left values h s = (after, left, values, refl, h, tt)
@@ -28,10 +28,10 @@ returns-clause-came c =
     let after = kept_by before before.held c.row-came.new.arch in
     let result = c.row-came.result in
     let script = row c.args.job.now (unheld before) in
-    let from_start : CameTo (play script c.start.result.left c.start.result.rest.now) before after result =
+    let from_start : RefinesRow (play script c.start.result.left c.start.result.rest.now) before after result =
     came_to before c.row-came.new.arch _ result _ _ c.row-came.ensures.comes c.row-came.ensures.stays in
-    let with_count : CameTo (play script c.self.inside.vals.count c.start.result.rest.now) before after result =
-    subst (λ (n : ℕ). CameTo (play script n c.start.result.rest.now) before after result) c.start.ensures.left from_start in
-    let with_kept : CameTo (play script c.self.inside.vals.count c.self.inside.vals.kept) before after result =
-    subst (λ (values : List ℕ). CameTo (play script c.self.inside.vals.count values) before after result) c.start.ensures.rest with_count in
-    subst (λ (v : CpuData). CameTo (come c.args.job.now v.core.arch v.core.seen) v.core.arch after result) c.self.view_is with_kept
+    let with_count : RefinesRow (play script c.self.inside.vals.count c.start.result.rest.now) before after result =
+    subst (λ (n : ℕ). RefinesRow (play script n c.start.result.rest.now) before after result) c.start.ensures.left from_start in
+    let with_kept : RefinesRow (play script c.self.inside.vals.count c.self.inside.vals.kept) before after result =
+    subst (λ (values : List ℕ). RefinesRow (play script c.self.inside.vals.count values) before after result) c.start.ensures.rest with_count in
+    subst (λ (v : CpuData). RefinesRow (row_played c.args.job.now v.core.arch v.core.seen) v.core.arch after result) c.self.view_is with_kept
