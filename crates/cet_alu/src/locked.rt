@@ -8,7 +8,7 @@ ghost use Rattle.cet_page.specs.Arithmetic.{xchg, lock_xadd, rax_found, lock_cmp
 use crate::values::{difference, sum};
 use cet_isa::{Arch, Mem, Operand, Record, Reg, Size};
 use cet_page::{
-    Cursor, Stop, assigned, effective, invalid_opcode, register, stepped, with_register,
+    Cursor, Suspended, assigned, effective, invalid_opcode, register, stepped, with_register,
 };
 
 /// XCHG of two registers, or of a register with memory.
@@ -19,7 +19,7 @@ pub fn xchg(
     reg: Reg,
     next: u64,
     at: &mut Cursor,
-) -> Result<(Arch, Record), Stop>
+) -> Result<(Arch, Record), Suspended>
     requires { arch.now.count < 2 ^ 32 - 1 }
     ensures { Refines (play (xchg arch.now dst reg next) at.old.left at.old.rest.now) result at.new.left at.new.rest.now }
 {
@@ -47,7 +47,7 @@ pub fn lock_xadd(
     reg: Reg,
     next: u64,
     at: &mut Cursor,
-) -> Result<(Arch, Record), Stop>
+) -> Result<(Arch, Record), Suspended>
     requires { arch.now.count < 2 ^ 32 - 1 }
     ensures { Refines (play (lock_xadd arch.now mem reg next) at.old.left at.old.rest.now) result at.new.left at.new.rest.now }
 {
@@ -78,7 +78,7 @@ pub fn lock_cmpxchg(
     reg: Reg,
     next: u64,
     at: &mut Cursor,
-) -> Result<(Arch, Record), Stop>
+) -> Result<(Arch, Record), Suspended>
     requires { arch.now.count < 2 ^ 32 - 1 }
     ensures { Refines (play (lock_cmpxchg arch.now mem reg next) at.old.left at.old.rest.now) result at.new.left at.new.rest.now }
 {

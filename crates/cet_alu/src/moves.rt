@@ -9,7 +9,7 @@ ghost use Rattle.cet_page.specs.Arithmetic.{move, movzx, movsxd, cmov};
 
 use cet_isa::{Arch, Cond, Mem, Operand, Record, Reg, Size};
 use cet_page::{
-    Cursor, StatusFlags, Stop, assigned, effective, invalid_opcode, register_of, stepped, truncated,
+    Cursor, StatusFlags, Suspended, assigned, effective, invalid_opcode, register_of, stepped, truncated,
 };
 
 /// MOV to a register, or of 64 bits to memory.
@@ -21,7 +21,7 @@ pub fn mov(
     src: Operand,
     next: u64,
     at: &mut Cursor,
-) -> Result<(Arch, Record), Stop>
+) -> Result<(Arch, Record), Suspended>
     requires { arch.now.count < 2 ^ 32 - 1 }
     ensures { Refines (play (move arch.now size dst src next) at.old.left at.old.rest.now) result at.new.left at.new.rest.now }
 {
@@ -47,7 +47,7 @@ pub fn movzx(
     mem: Mem,
     next: u64,
     at: &mut Cursor,
-) -> Result<(Arch, Record), Stop>
+) -> Result<(Arch, Record), Suspended>
     requires { arch.now.count < 2 ^ 32 - 1 }
     ensures { Refines (play (movzx arch.now reg mem next) at.old.left at.old.rest.now) result at.new.left at.new.rest.now }
 {
@@ -63,7 +63,7 @@ pub fn movsxd(
     src: Operand,
     next: u64,
     at: &mut Cursor,
-) -> Result<(Arch, Record), Stop>
+) -> Result<(Arch, Record), Suspended>
     requires { arch.now.count < 2 ^ 32 - 1 }
     ensures { Refines (play (movsxd arch.now reg src next) at.old.left at.old.rest.now) result at.new.left at.new.rest.now }
 {
@@ -83,7 +83,7 @@ pub fn cmov(
     src: Operand,
     next: u64,
     at: &mut Cursor,
-) -> Result<(Arch, Record), Stop>
+) -> Result<(Arch, Record), Suspended>
     requires { arch.now.count < 2 ^ 32 - 1 }
     ensures { Refines (play (cmov arch.now cond size reg src next) at.old.left at.old.rest.now) result at.new.left at.new.rest.now }
 {

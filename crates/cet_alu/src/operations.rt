@@ -14,7 +14,7 @@ use crate::values::{
 };
 use cet_isa::{AluOp, Arch, Count, Operand, Record, Reg, Size};
 use cet_page::{
-    Cursor, StatusFlags, Stop, assigned, compared, invalid_opcode, register, register_of, settled,
+    Cursor, StatusFlags, Suspended, assigned, compared, invalid_opcode, register, register_of, settled,
     stepped,
 };
 
@@ -35,7 +35,7 @@ pub fn alu(
     src: Operand,
     next: u64,
     at: &mut Cursor,
-) -> Result<(Arch, Record), Stop>
+) -> Result<(Arch, Record), Suspended>
     requires { arch.now.count < 2 ^ 32 - 1 }
     ensures { Refines (play (alu arch.now op size dst src next) at.old.left at.old.rest.now) result at.new.left at.new.rest.now }
 {
@@ -58,7 +58,7 @@ pub fn test(
     src: Operand,
     next: u64,
     at: &mut Cursor,
-) -> Result<(Arch, Record), Stop>
+) -> Result<(Arch, Record), Suspended>
     requires { arch.now.count < 2 ^ 32 - 1 }
     ensures { Refines (play (test arch.now size dst src next) at.old.left at.old.rest.now) result at.new.left at.new.rest.now }
 {
@@ -76,7 +76,7 @@ pub fn imul(
     src: Operand,
     next: u64,
     at: &mut Cursor,
-) -> Result<(Arch, Record), Stop>
+) -> Result<(Arch, Record), Suspended>
     requires { arch.now.count < 2 ^ 32 - 1 }
     ensures { Refines (play (imul arch.now size reg src next) at.old.left at.old.rest.now) result at.new.left at.new.rest.now }
 {

@@ -14,7 +14,7 @@ use crate::moves::{cmov, lea, mov, movsxd, movzx};
 use crate::operations::{alu, dec, imul, inc, neg, not, sar, set_carry, shl, shr, test};
 use cet_decode::instruction_length;
 use cet_isa::{Arch, Instr, Record};
-use cet_page::{Cursor, Next, Stop, Vals, assigned, invalid_opcode, next_address, stepped};
+use cet_page::{Cursor, Next, Suspended, Vals, assigned, invalid_opcode, next_address, stepped};
 use cet_words::Job;
 
 /// What an instruction of this crate comes to over the accesses that were made: the state after it and
@@ -25,7 +25,7 @@ pub fn follow(
     instr: &Instr,
     next: u64,
     at: &mut Cursor,
-) -> Result<(Arch, Record), Stop>
+) -> Result<(Arch, Record), Suspended>
     requires { arch.now.count < 2 ^ 32 - 1 }
     ensures { Refines (play (arithmetic arch.now instr.now next) at.old.left at.old.rest.now) result at.new.left at.new.rest.now }
 {

@@ -6,7 +6,7 @@ ghost use Rattle.std.specs.Prelude.{◌≡◌, ◌-◌, ◌^◌, ◌<◌, ◌≤
 use super::*;
 use cet_isa::Size::Qword;
 use cet_isa::{Arch, Base, Fault, FaultName, Instr, Mem, Operand, Reg};
-use cet_page::{Cursor, Mark, Next, Stop, Vals, with_register};
+use cet_page::{Cursor, Mark, Next, Suspended, Vals, with_register};
 use cet_words::{Access, Bytes, Image, Job, NoMemory, Segment, Segments};
 use std::alloc::Global;
 use std::test::Fail;
@@ -48,13 +48,13 @@ fn thread(rax: u64, rcx: u64, flags: u64) -> Arch
 }
 
 /// A fault with this code, address and entry.
-fn fault(name: FaultName, code: u32, a: u64, b: u64) -> Stop {
-    Stop::Fault(Fault { name, code, a, b })
+fn fault(name: FaultName, code: u32, a: u64, b: u64) -> Suspended {
+    Suspended::Fault(Fault { name, code, a, b })
 }
 
 /// The access that comes next.
-fn stop_at(access: Access) -> Stop {
-    Stop::Access(access, Mark::Plain)
+fn stop_at(access: Access) -> Suspended {
+    Suspended::Access(access, Mark::Plain)
 }
 
 /// The entry of the last page of the main stack, the same with U clear, and with W clear.
@@ -66,7 +66,7 @@ const READ_ONLY: u64 = 0x8000_0000_0053_f025;
 
 /// An instruction, RCX, the answers that it has had, and where it stops. RAX is 5, and the word at 0x7ffff010
 /// is 556,546.
-type Row = (Instr, u64, &'static [u64], Stop);
+type Row = (Instr, u64, &'static [u64], Suspended);
 
 fn rows() -> [Row; 15] {
     let (mem, reg, size) = (AT_RCX, Reg::Rax, Qword);

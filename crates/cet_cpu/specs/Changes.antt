@@ -1,7 +1,7 @@
 -- What a function comes to that changes a thread's state in its place. Source: own.
 use Rattle.std.specs.Prelude.{◌≡◌, Result, Ok, Err}
 use Rattle.cet_isa.specs.declared.threads.Arch.{Arch}
-use Rattle.cet_page.specs.declared.cursors.Stop.{Stop}
+use Rattle.cet_page.specs.declared.cursors.Suspended.{Suspended}
 use Rattle.cet_page.specs.declared.finishes.Finish.{Finish}
 use Rattle.cet_page.specs.declared.finishes.Finish.TheVariants as finish
 use Rattle.cet_cpu.specs.declared.gate.RowEnd.{RowEnd}
@@ -15,7 +15,7 @@ finish_with after (row_end.Exited noted status) = finish.Exited after noted stat
 finish_with after row_end.Stopped = finish.Stopped
 
 -- the state is as it was where the row isn't over, or the process has ended
-abbrev pub Stays : (before after : Arch) → Result RowEnd Stop → Type 0
+abbrev pub Stays : (before after : Arch) → Result RowEnd Suspended → Type 0
 Stays before after (Ok (row_end.Noted noted)) = Unit {0}
 Stays before after (Ok row_end.Posted) = Unit {0}
 Stays before after (Ok (row_end.Exited noted status)) = Unit {0}

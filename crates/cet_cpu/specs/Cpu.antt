@@ -4,11 +4,11 @@ use Rattle.cet_words.specs.Job.{JobData}
 use Rattle.cet_words.specs.declared.accesses.Access.{Access}
 use Rattle.cet_isa.specs.declared.threads.Arch.{Arch}
 use Rattle.cet_page.specs.Core.{Core, row_played, kept_by, next_access}
-use Rattle.cet_page.specs.Plays.{Stopped, Wanted}
+use Rattle.cet_page.specs.Plays.{Suspends, Wanted}
 use Rattle.cet_page.specs.Script.{Played, Completed}
 use Rattle.cet_page.specs.Within.{IsCore}
 use Rattle.cet_page.specs.declared.cursors.Mark.{Mark}
-use Rattle.cet_page.specs.declared.cursors.Stop.{Stop}
+use Rattle.cet_page.specs.declared.cursors.Suspended.{Suspended}
 use Rattle.cet_page.specs.declared.finishes.Finish.{Finish}
 use Rattle.cet_cpu.specs.Changes.{finish_with, Stays}
 use Rattle.cet_cpu.specs.Code.{IsCode}
@@ -47,7 +47,7 @@ pub record IsNext (job : JobData) (core : Core) (next : Access × Mark) : Type 0
 
 -- What a row has come to, as a function returns it that changes the state in its place: where the row is over, the thread
 -- keeps its number and what it holds.
-abbrev pub RefinesRow : Played Finish → (before after : Arch) → Result RowEnd Stop → Type 0
+abbrev pub RefinesRow : Played Finish → (before after : Arch) → Result RowEnd Suspended → Type 0
 RefinesRow came before after (Ok done) =
     (next : Arch) × (left : ℕ) × (values : List ℕ) × (after ≡ kept_by before before.held next)
     × (came ≡ Completed (finish_with next done) left values) × Stays before after (Ok done)

@@ -12,7 +12,7 @@ ghost use Rattle.cet_cpu.specs.Changes.{finish_with, Stays};
 ghost use Rattle.cet_cpu.specs.Entry.{work_of};
 
 use cet_isa::{Arch, Fault, FaultName, Record, What};
-use cet_page::{Cursor, Leaving, Mark, Stop};
+use cet_page::{Cursor, Leaving, Mark, Suspended};
 use cet_words::{
     Access, EXIT_WORD, FIRST_ENTRY_WORD, FIRST_SHADOW_PAGE, Job, KERNEL_RETURN, SHADOW_START,
     action_word, token, token_page, token_word,
@@ -61,7 +61,7 @@ fn stack_of(job: &Job, arch: &Arch) -> u8
 
 /// The gate's first exchange: it takes the supervisor stack, where it finds the token free.
 #[tactic(auto, unfolding(cet_page::specs::Parts::exchange_as))]
-fn take_stack(k: u8, at: &mut Cursor) -> Result<u64, Stop>
+fn take_stack(k: u8, at: &mut Cursor) -> Result<u64, Suspended>
     requires { k < 8 }
     ensures { Refines (play (exchange_as (busied_if k) (token_word k) (token k) (token k + 1)) at.old.left at.old.rest.now) result at.new.left at.new.rest.now }
 {
@@ -74,7 +74,7 @@ fn take_stack(k: u8, at: &mut Cursor) -> Result<u64, Stop>
 
 /// The gate's last exchange, which gives the supervisor stack back.
 #[tactic(auto, unfolding(cet_page::specs::Parts::exchange_as))]
-fn give_stack(k: u8, at: &mut Cursor) -> Result<u64, Stop>
+fn give_stack(k: u8, at: &mut Cursor) -> Result<u64, Suspended>
     requires { k < 8 }
     ensures { Refines (play (exchange_as (λ found. Freed k ∷ []) (token_word k) (token k + 1) (token k)) at.old.left at.old.rest.now) result at.new.left at.new.rest.now }
 {
@@ -87,7 +87,7 @@ fn give_stack(k: u8, at: &mut Cursor) -> Result<u64, Stop>
 
 /// The gate's way in. Where the supervisor stack is busy, the word found.
 #[tactic(auto, using(cet_page::proofs::ScriptLaws::play_bind), unfolding(cet_page::specs::Gate::gate_in, cet_page::specs::Parts::exchange_as))]
-fn gate_in(k: u8, at: &mut Cursor) -> Result<Option<u64>, Stop>
+fn gate_in(k: u8, at: &mut Cursor) -> Result<Option<u64>, Suspended>
     requires { k < 8 }
     ensures { Refines (play (gate_in k) at.old.left at.old.rest.now) result at.new.left at.new.rest.now }
 {
@@ -103,7 +103,7 @@ fn gate_in(k: u8, at: &mut Cursor) -> Result<Option<u64>, Stop>
 
 /// The gate's way out, where nothing else ends with it. What follows is the same whatever it finds.
 #[tactic(auto, using(cet_page::proofs::ScriptLaws::play_bind), unfolding(cet_page::specs::Gate::gate_out))]
-fn way_out(k: u8, at: &mut Cursor) -> Result<(), Stop>
+fn way_out(k: u8, at: &mut Cursor) -> Result<(), Suspended>
     requires { k < 8 }
     ensures { Refines (play (gate_out Leaving.Back k) at.old.left at.old.rest.now) result at.new.left at.new.rest.now }
 {
@@ -114,7 +114,7 @@ fn way_out(k: u8, at: &mut Cursor) -> Result<(), Stop>
 
 /// The gate's way out, with what ends with it.
 #[tactic(auto, using(cet_page::proofs::GateLaws::comes_out))]
-fn gate_out(k: u8, ends: Leaving, at: &mut Cursor) -> Result<(), Stop>
+fn gate_out(k: u8, ends: Leaving, at: &mut Cursor) -> Result<(), Suspended>
     requires { k < 8 }
     ensures { Refines (play (gate_out ends k) at.old.left at.old.rest.now) result at.new.left at.new.rest.now }
 {
@@ -196,7 +196,7 @@ fn exit_status(arch: &Arch) -> u8
 
 /// The service exit, which ends the thread.
 #[tactic(auto, using(cet_page::proofs::ScriptLaws::play_bind), unfolding(cet_page::specs::Gate::exit))]
-fn exit(arch: &Arch, at: &mut Cursor) -> Result<(Arch, Record, Leaving), Stop>
+fn exit(arch: &Arch, at: &mut Cursor) -> Result<(Arch, Record, Leaving), Suspended>
     requires count { arch.now.count < 2 ^ 32 - 1 }
     requires made { IsMade arch.now.made }
     ensures { Refines (play (exit arch.now) at.old.left at.old.rest.now) result at.new.left at.new.rest.now }
@@ -210,7 +210,7 @@ fn exit(arch: &Arch, at: &mut Cursor) -> Result<(Arch, Record, Leaving), Stop>
 
 /// The service exit_group, which ends the process. The thread goes on to its next boundary.
 #[tactic(auto, using(cet_page::proofs::ScriptLaws::play_bind), unfolding(cet_page::specs::Gate::exit_group))]
-fn exit_group(arch: &Arch, at: &mut Cursor) -> Result<(Arch, Record, Leaving), Stop>
+fn exit_group(arch: &Arch, at: &mut Cursor) -> Result<(Arch, Record, Leaving), Suspended>
     requires { arch.now.count < 2 ^ 32 - 1 }
     ensures { Refines (play (exit_group arch.now) at.old.left at.old.rest.now) result at.new.left at.new.rest.now }
 {
@@ -219,7 +219,7 @@ fn exit_group(arch: &Arch, at: &mut Cursor) -> Result<(Arch, Record, Leaving), S
     Ok(serve(arch, status))
 }
 
-fn service(arch: &Arch, at: &mut Cursor) -> Result<(Arch, Record, Leaving), Stop>
+fn service(arch: &Arch, at: &mut Cursor) -> Result<(Arch, Record, Leaving), Suspended>
     requires count { arch.now.count < 2 ^ 32 - 1 }
     requires made { IsMade arch.now.made }
     ensures { Refines (play (service arch.now) at.old.left at.old.rest.now) result at.new.left at.new.rest.now }
@@ -274,7 +274,7 @@ fn killed(arch: &Arch, signal: u8, before: u64) -> (Arch, Record, Leaving)
 
 /// The kill of the process by a signal.
 #[tactic(auto, using(cet_page::proofs::ScriptLaws::play_bind), unfolding(cet_page::specs::Gate::kill))]
-fn kill(arch: &Arch, signal: u8, at: &mut Cursor) -> Result<(Arch, Record, Leaving), Stop>
+fn kill(arch: &Arch, signal: u8, at: &mut Cursor) -> Result<(Arch, Record, Leaving), Suspended>
     requires signal { signal < 32 }
     requires count { arch.now.count < 2 ^ 32 - 1 }
     ensures { Refines (play (kill arch.now signal) at.old.left at.old.rest.now) result at.new.left at.new.rest.now }
@@ -285,7 +285,7 @@ fn kill(arch: &Arch, signal: u8, at: &mut Cursor) -> Result<(Arch, Record, Leavi
 
 /// The delivery of the signal of a due fault: the kill, after a load of its handler unless it is masked.
 #[tactic(auto, using(cet_page::proofs::ScriptLaws::play_bind), unfolding(cet_page::specs::Gate::delivery))]
-fn delivery(arch: &Arch, signal: u8, at: &mut Cursor) -> Result<(Arch, Record, Leaving), Stop>
+fn delivery(arch: &Arch, signal: u8, at: &mut Cursor) -> Result<(Arch, Record, Leaving), Suspended>
     requires low { 0 < signal }
     requires range { signal < 32 }
     requires count { arch.now.count < 2 ^ 32 - 1 }
@@ -306,7 +306,7 @@ pub enum Entry {
     Delivery(FaultName),
 }
 
-fn work(arch: &Arch, entry: Entry, at: &mut Cursor) -> Result<(Arch, Record, Leaving), Stop>
+fn work(arch: &Arch, entry: Entry, at: &mut Cursor) -> Result<(Arch, Record, Leaving), Suspended>
     requires count { arch.now.count < 2 ^ 32 - 1 }
     requires made { IsMade arch.now.made }
     ensures { Refines (play (work_of arch.now entry) at.old.left at.old.rest.now) result at.new.left at.new.rest.now }
@@ -331,7 +331,7 @@ fn finish_of(arch: &mut Arch, next: Arch, noted: Record, ends: Leaving) -> RowEn
 
 /// The kernel's entry: the way in, the work, and the way out.
 #[tactic(auto, using(cet_page::proofs::ScriptLaws::play_bind), unfolding(cet_page::specs::Gate::entered))]
-fn entered(job: &Job, arch: &mut Arch, entry: Entry, at: &mut Cursor) -> Result<RowEnd, Stop>
+fn entered(job: &Job, arch: &mut Arch, entry: Entry, at: &mut Cursor) -> Result<RowEnd, Suspended>
     requires count { arch.old.count < 2 ^ 32 - 1 }
     requires made { IsMade arch.old.made }
     ensures comes { RefinesBy (finish_with arch.new) (play (entered job.now arch.old (work_of arch.old entry)) at.old.left at.old.rest.now) result at.new.left at.new.rest.now }
@@ -347,7 +347,7 @@ fn entered(job: &Job, arch: &mut Arch, entry: Entry, at: &mut Cursor) -> Result<
 }
 
 /// SYSCALL.
-pub fn syscall(job: &Job, arch: &mut Arch, at: &mut Cursor) -> Result<RowEnd, Stop>
+pub fn syscall(job: &Job, arch: &mut Arch, at: &mut Cursor) -> Result<RowEnd, Suspended>
     requires count { arch.old.count < 2 ^ 32 - 1 }
     requires made { IsMade arch.old.made }
     ensures comes { RefinesBy (finish_with arch.new) (play (syscall job.now arch.old) at.old.left at.old.rest.now) result at.new.left at.new.rest.now }
@@ -362,7 +362,7 @@ pub fn deliver(
     arch: &mut Arch,
     fault: &Fault,
     at: &mut Cursor,
-) -> Result<RowEnd, Stop>
+) -> Result<RowEnd, Suspended>
     requires count { arch.old.count < 2 ^ 32 - 1 }
     requires made { IsMade arch.old.made }
     ensures comes { RefinesBy (finish_with arch.new) (play (deliver job.now arch.old fault.now) at.old.left at.old.rest.now) result at.new.left at.new.rest.now }

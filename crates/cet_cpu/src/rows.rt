@@ -13,7 +13,7 @@ use crate::fetches::{Code, code_at};
 use crate::gate::{RowEnd, deliver, syscall};
 use cet_decode::Decoded;
 use cet_isa::{Arch, Instr, is_canonical};
-use cet_page::{Cursor, Family, Stop, family_of, general_protection, invalid_opcode, missing};
+use cet_page::{Cursor, Family, Suspended, family_of, general_protection, invalid_opcode, missing};
 use cet_words::{EXIT_WORD, Job, pend_word};
 
 /// An instruction, with the address of the next one. Where it is over, the state is changed in its place.
@@ -24,7 +24,7 @@ fn execute(
     instr: &Instr,
     next: u64,
     at: &mut Cursor,
-) -> Result<RowEnd, Stop>
+) -> Result<RowEnd, Suspended>
     requires count { arch.old.count < 2 ^ 32 - 1 }
     requires made { IsMade arch.old.made }
     ensures comes { RefinesBy (finish_with arch.new) (play (execute job.now arch.old instr.now next) at.old.left at.old.rest.now) result at.new.left at.new.rest.now }
@@ -47,7 +47,7 @@ fn execute(
 }
 
 /// The instruction that the code at RIP is.
-fn decoded(job: &Job, arch: &mut Arch, code: &Code, at: &mut Cursor) -> Result<RowEnd, Stop>
+fn decoded(job: &Job, arch: &mut Arch, code: &Code, at: &mut Cursor) -> Result<RowEnd, Suspended>
     requires count { arch.old.count < 2 ^ 32 - 1 }
     requires made { IsMade arch.old.made }
     requires code { IsCode job.now.image.segments arch.old.rip code.now }
@@ -71,7 +71,7 @@ fn instruction(
     arch: &mut Arch,
     code: &mut Option<Code>,
     at: &mut Cursor,
-) -> Result<RowEnd, Stop>
+) -> Result<RowEnd, Suspended>
     requires count { arch.old.count < 2 ^ 32 - 1 }
     requires made { IsMade arch.old.made }
     requires code { IfSome code.old (IsCode job.now.image.segments arch.old.rip) }
@@ -99,7 +99,7 @@ fn boundary(
     arch: &mut Arch,
     code: &mut Option<Code>,
     at: &mut Cursor,
-) -> Result<RowEnd, Stop>
+) -> Result<RowEnd, Suspended>
     requires count { arch.old.count < 2 ^ 32 - 1 }
     requires made { IsMade arch.old.made }
     requires number { arch.old.number < 32 }
@@ -123,7 +123,7 @@ pub fn row(
     arch: &mut Arch,
     code: &mut Option<Code>,
     at: &mut Cursor,
-) -> Result<RowEnd, Stop>
+) -> Result<RowEnd, Suspended>
     requires count { arch.old.count < 2 ^ 32 - 1 }
     requires made { IsMade arch.old.made }
     requires number { arch.old.number < 32 }

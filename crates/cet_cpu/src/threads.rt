@@ -18,7 +18,7 @@ use crate::fetches::Code;
 use crate::gate::{RowEnd, R11, RAX, RCX, SYSCALL_LENGTH};
 use crate::rows::row;
 use cet_isa::{Arch, End, Fault, Record, What};
-use cet_page::{Mark, Stop, Vals};
+use cet_page::{Mark, Suspended, Vals};
 use cet_words::{Access, FIRST_REGION_END, FIRST_REGION_START, Job, token};
 use std::marker::Model;
 
@@ -254,14 +254,14 @@ impl Cpu {
         if self.next.is_some() || self.over.is_some() {
             return;
         }
-        if let Err(Stop::Access(access, mark)) = self.play(job) {
+        if let Err(Suspended::Access(access, mark)) = self.play(job) {
             self.next = Some((access, mark));
         }
     }
 
     /// What the thread's row comes to after the accesses so far. Where it is over, the state is the one after
     /// it, but for the thread's number and the supervisor stack that it holds.
-    fn play(&mut self, job: &Job) -> Result<RowEnd, Stop>
+    fn play(&mut self, job: &Job) -> Result<RowEnd, Suspended>
         requires count { self.old.core.arch.count < 2 ^ 32 - 1 }
         requires made { IsMade self.old.core.arch.made }
         requires number { self.old.core.arch.number < 32 }
@@ -296,11 +296,11 @@ impl Cpu {
         self.arch.held = held_by(mark, answer, self.arch.held);
         self.vals.add(access, answer);
         match self.play(job) {
-            Err(Stop::Access(access, mark)) => {
+            Err(Suspended::Access(access, mark)) => {
                 self.next = Some((access, mark));
                 None
             }
-            Err(Stop::Fault(fault)) => {
+            Err(Suspended::Fault(fault)) => {
                 let noted = fault_record(&self.arch, &fault);
                 self.arch.due = Some(fault);
                 self.arch.count += 1;

@@ -8,7 +8,7 @@ ghost use Rattle.cet_page.specs.Flow.{called, call, call_next, call_relative, ca
 use crate::RSP;
 use crate::jumps::relative;
 use cet_isa::{Arch, Operand, Record, Size, What, is_canonical};
-use cet_page::{Cursor, Kind, Stop, Who, general_protection, word_in};
+use cet_page::{Cursor, Kind, Suspended, Who, general_protection, word_in};
 
 fn called(arch: &Arch, target: u64, sp: u64, ssp: u64) -> (Arch, Record)
     requires { arch.now.count < 2 ^ 32 - 1 }
@@ -31,7 +31,7 @@ fn called(arch: &Arch, target: u64, sp: u64, ssp: u64) -> (Arch, Record)
 
 /// A call that pushes the return address on both stacks.
 #[tactic(auto, using(cet_page::proofs::ScriptLaws::play_bind), unfolding(cet_page::specs::Flow::call, cet_page::specs::Parts::store_as))]
-fn call(arch: &Arch, back: u64, target: u64, at: &mut Cursor) -> Result<(Arch, Record), Stop>
+fn call(arch: &Arch, back: u64, target: u64, at: &mut Cursor) -> Result<(Arch, Record), Suspended>
     requires { arch.now.count < 2 ^ 32 - 1 }
     ensures { Refines (play (call arch.now back target) at.old.left at.old.rest.now) result at.new.left at.new.rest.now }
 {
@@ -47,7 +47,7 @@ fn call(arch: &Arch, back: u64, target: u64, at: &mut Cursor) -> Result<(Arch, R
 
 /// A call to the next instruction, which pushes on the program stack alone.
 #[tactic(auto, using(cet_page::proofs::ScriptLaws::play_bind), unfolding(cet_page::specs::Flow::call_next))]
-fn call_next(arch: &Arch, back: u64, at: &mut Cursor) -> Result<(Arch, Record), Stop>
+fn call_next(arch: &Arch, back: u64, at: &mut Cursor) -> Result<(Arch, Record), Suspended>
     requires { arch.now.count < 2 ^ 32 - 1 }
     ensures { Refines (play (call_next arch.now back) at.old.left at.old.rest.now) result at.new.left at.new.rest.now }
 {
@@ -64,7 +64,7 @@ pub fn call_relative(
     disp: i32,
     next: u64,
     at: &mut Cursor,
-) -> Result<(Arch, Record), Stop>
+) -> Result<(Arch, Record), Suspended>
     requires { arch.now.count < 2 ^ 32 - 1 }
     ensures { Refines (play (call_relative arch.now disp next) at.old.left at.old.rest.now) result at.new.left at.new.rest.now }
 {
@@ -74,7 +74,7 @@ pub fn call_relative(
     call(arch, next, relative(next, disp), at)
 }
 
-fn call_to(arch: &Arch, back: u64, target: u64, at: &mut Cursor) -> Result<(Arch, Record), Stop>
+fn call_to(arch: &Arch, back: u64, target: u64, at: &mut Cursor) -> Result<(Arch, Record), Suspended>
     requires { arch.now.count < 2 ^ 32 - 1 }
     ensures { Refines (play (call_to arch.now back target) at.old.left at.old.rest.now) result at.new.left at.new.rest.now }
 {
@@ -91,7 +91,7 @@ pub fn call_indirect(
     target: Operand,
     next: u64,
     at: &mut Cursor,
-) -> Result<(Arch, Record), Stop>
+) -> Result<(Arch, Record), Suspended>
     requires { arch.now.count < 2 ^ 32 - 1 }
     ensures { Refines (play (call_indirect arch.now target next) at.old.left at.old.rest.now) result at.new.left at.new.rest.now }
 {

@@ -6,7 +6,7 @@ ghost use Rattle.cet_page.specs.Plays.{Refines};
 ghost use Rattle.cet_page.specs.Flow.{relative, jumped, jump_to, jump_indirect, jump_target};
 
 use cet_isa::{Arch, Cond, Operand, Record, Size, is_canonical};
-use cet_page::{Cursor, StatusFlags, Stop, general_protection, stepped};
+use cet_page::{Cursor, StatusFlags, Suspended, general_protection, stepped};
 
 /// The target of a relative displacement.
 pub fn relative(next: u64, disp: i32) -> u64
@@ -23,7 +23,7 @@ pub fn jumped(arch: &Arch, target: u64) -> (Arch, Record)
     stepped(arch, arch.regs, target, arch.flags, target)
 }
 
-fn jump_to(arch: &Arch, target: u64) -> Result<(Arch, Record), Stop>
+fn jump_to(arch: &Arch, target: u64) -> Result<(Arch, Record), Suspended>
     requires { arch.now.count < 2 ^ 32 - 1 }
     ensures { (left : ℕ) (values : List ℕ) → Refines (play (jump_to arch.now target) left values) result left values }
 {
@@ -40,7 +40,7 @@ pub fn jump_indirect(
     target: Operand,
     next: u64,
     at: &mut Cursor,
-) -> Result<(Arch, Record), Stop>
+) -> Result<(Arch, Record), Suspended>
     requires { arch.now.count < 2 ^ 32 - 1 }
     ensures { Refines (play (jump_indirect arch.now target next) at.old.left at.old.rest.now) result at.new.left at.new.rest.now }
 {

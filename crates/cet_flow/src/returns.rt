@@ -7,7 +7,7 @@ ghost use Rattle.cet_page.specs.Flow.{returned, ret, return_differs};
 
 use crate::RSP;
 use cet_isa::{Arch, Fault, FaultName, Record, What, is_canonical};
-use cet_page::{Cursor, Kind, Stop, Who, general_protection, word_in};
+use cet_page::{Cursor, Kind, Suspended, Who, general_protection, word_in};
 
 fn returned(arch: &Arch, bytes: u16, target: u64) -> (Arch, Record)
     requires { arch.now.count < 2 ^ 32 - 1 }
@@ -43,7 +43,7 @@ fn return_differs(word: u64, shadow_word: u64) -> Fault
 
 /// A near return, which takes so many bytes more off the program stack.
 #[tactic(auto, using(cet_page::proofs::ScriptLaws::play_bind), unfolding(cet_page::specs::Flow::ret, cet_page::specs::Parts::load_as))]
-pub fn ret(arch: &Arch, bytes: u16, at: &mut Cursor) -> Result<(Arch, Record), Stop>
+pub fn ret(arch: &Arch, bytes: u16, at: &mut Cursor) -> Result<(Arch, Record), Suspended>
     requires { arch.now.count < 2 ^ 32 - 1 }
     ensures { Refines (play (ret arch.now bytes) at.old.left at.old.rest.now) result at.new.left at.new.rest.now }
 {
@@ -54,7 +54,7 @@ pub fn ret(arch: &Arch, bytes: u16, at: &mut Cursor) -> Result<(Arch, Record), S
     let word = at.load(word_in(page, sp))?;
     let shadow_word = at.load(word_in(shadow, arch.ssp))?;
     if word != shadow_word {
-        return Err(Stop::Fault(return_differs(word, shadow_word)));
+        return Err(Suspended::Fault(return_differs(word, shadow_word)));
     }
     if !is_canonical(word) {
         return Err(general_protection());

@@ -15,7 +15,7 @@ use crate::returns::ret;
 use crate::stacks::{leave, pop, push};
 use cet_decode::instruction_length;
 use cet_isa::{Arch, Instr, Record};
-use cet_page::{Cursor, Next, Stop, Vals, invalid_opcode, next_address};
+use cet_page::{Cursor, Next, Suspended, Vals, invalid_opcode, next_address};
 use cet_words::Job;
 
 /// A call, return, push, pop or jump, as far as the cursor's accesses lead; `next` is the address of the
@@ -25,7 +25,7 @@ pub fn follow(
     instr: &Instr,
     next: u64,
     at: &mut Cursor,
-) -> Result<(Arch, Record), Stop>
+) -> Result<(Arch, Record), Suspended>
     requires { arch.now.count < 2 ^ 32 - 1 }
     ensures { Refines (play (flow arch.now instr.now next) at.old.left at.old.rest.now) result at.new.left at.new.rest.now }
 {

@@ -7,11 +7,11 @@ ghost use Rattle.cet_page.specs.Flow.{push, pop, leave};
 
 use crate::{RBP, RSP};
 use cet_isa::{Arch, Operand, Record, Reg, Size};
-use cet_page::{Cursor, Stop, stepped};
+use cet_page::{Cursor, Suspended, stepped};
 
 /// PUSH. The value is read before RSP changes.
 #[tactic(auto, using(cet_page::proofs::ScriptLaws::play_bind), unfolding(cet_page::specs::Flow::push))]
-pub fn push(arch: &Arch, src: Operand, next: u64, at: &mut Cursor) -> Result<(Arch, Record), Stop>
+pub fn push(arch: &Arch, src: Operand, next: u64, at: &mut Cursor) -> Result<(Arch, Record), Suspended>
     requires { arch.now.count < 2 ^ 32 - 1 }
     ensures { Refines (play (push arch.now src next) at.old.left at.old.rest.now) result at.new.left at.new.rest.now }
 {
@@ -25,7 +25,7 @@ pub fn push(arch: &Arch, src: Operand, next: u64, at: &mut Cursor) -> Result<(Ar
 
 /// POP. Where the register is RSP, it keeps the value.
 #[tactic(auto, using(cet_page::proofs::ScriptLaws::play_bind), unfolding(cet_page::specs::Flow::pop))]
-pub fn pop(arch: &Arch, reg: Reg, next: u64, at: &mut Cursor) -> Result<(Arch, Record), Stop>
+pub fn pop(arch: &Arch, reg: Reg, next: u64, at: &mut Cursor) -> Result<(Arch, Record), Suspended>
     requires { arch.now.count < 2 ^ 32 - 1 }
     ensures { Refines (play (pop arch.now reg next) at.old.left at.old.rest.now) result at.new.left at.new.rest.now }
 {
@@ -39,7 +39,7 @@ pub fn pop(arch: &Arch, reg: Reg, next: u64, at: &mut Cursor) -> Result<(Arch, R
 
 /// LEAVE: RSP becomes RBP, and RBP is popped.
 #[tactic(auto, using(cet_page::proofs::ScriptLaws::play_bind), unfolding(cet_page::specs::Flow::leave))]
-pub fn leave(arch: &Arch, next: u64, at: &mut Cursor) -> Result<(Arch, Record), Stop>
+pub fn leave(arch: &Arch, next: u64, at: &mut Cursor) -> Result<(Arch, Record), Suspended>
     requires { arch.now.count < 2 ^ 32 - 1 }
     ensures { Refines (play (leave arch.now next) at.old.left at.old.rest.now) result at.new.left at.new.rest.now }
 {

@@ -5,7 +5,7 @@ ghost use Rattle.std.specs.Prelude.{◌<◌, ◌-◌, ◌^◌, ◌≤◌, length
 
 use super::*;
 use cet_isa::{Arch, Base, Fault, FaultName, Instr, Mem, Operand, Record, Reg, What};
-use cet_page::{Cursor, Mark, Next, Stop, Vals};
+use cet_page::{Cursor, Mark, Next, Suspended, Vals};
 use cet_words::{Access, Bytes, Image, Job, NoMemory, Segment, Segments};
 use std::alloc::Global;
 use std::process::Abort;
@@ -60,7 +60,7 @@ fn accesses(
     instr: &Instr,
     answers: &[u64],
     wanted: &[Access],
-) -> Result<(Arch, Record), Stop>
+) -> Result<(Arch, Record), Suspended>
     requires { arch.now.count < 2 ^ 32 - 1 }
 {
     let mut left = 0;
@@ -70,7 +70,7 @@ fn accesses(
         let stop = follow(arch, instr, 0x40_1003, &mut Cursor { left, rest });
         assert_eq!(rt;
             stop.err(),
-            Some(Stop::Access(*access, Mark::Plain)),
+            Some(Suspended::Access(*access, Mark::Plain)),
             "{instr:?}"
         );
         left = left.checked_add(1).expect(rt, "too many accesses");
@@ -105,8 +105,8 @@ fn step(value: u64) -> Record {
 }
 
 /// A fault with this code and these two values.
-fn fault<T>(name: FaultName, code: u32, a: u64, b: u64) -> Result<T, Stop> {
-    Err(Stop::Fault(Fault { name, code, a, b }))
+fn fault<T>(name: FaultName, code: u32, a: u64, b: u64) -> Result<T, Suspended> {
+    Err(Suspended::Fault(Fault { name, code, a, b }))
 }
 
 /// An instruction, the answers that it is given, its accesses, and its record with RIP and RSP after it.
@@ -114,7 +114,7 @@ type Row = (
     Instr,
     &'static [u64],
     &'static [Access],
-    Result<(Record, u64, u64), Stop>,
+    Result<(Record, u64, u64), Suspended>,
 );
 
 /// The word at 0x7fffffa8 is 557,045, and that at 0x200008ff8 is 1,085,951.

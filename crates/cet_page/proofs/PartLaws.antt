@@ -8,8 +8,8 @@ use Rattle.cet_page.specs.Plays.{Refines, Marks}
 use Rattle.cet_page.specs.declared.checks.Kind.{Kind}
 use Rattle.cet_page.specs.declared.checks.Who.{Who}
 use Rattle.cet_page.specs.declared.cursors.Mark.TheVariants as marks
-use Rattle.cet_page.specs.declared.cursors.Stop.{Stop}
-use Rattle.cet_page.specs.declared.cursors.Stop.TheVariants as stop
+use Rattle.cet_page.specs.declared.cursors.Suspended.{Suspended}
+use Rattle.cet_page.specs.declared.cursors.Suspended.TheVariants as suspended
 use Rattle.cet_page.specs.Script.{play, silent, Played, Completed, Wants}
 use Rattle.cet_page.specs.Parts.{stores, store_each, look, look_as, look_in_as}
 
@@ -63,20 +63,20 @@ play_each_wants word (value ∷ rest) (suc n) values l =
     play_each_wants (word + 1) rest n values (omega arith) ∙ ap (λ k. wants_store k (slice_index rest n)) w
 
 -- a look that comes to something without changes comes to the same with changes that its mark needn't tell
-look_in_changes : (changes : ℕ → List Change) (at : Option ℕ) (k : Kind) (w : Who) (addr : ℕ) (n : ℕ) (values : List ℕ) (result : Result ℕ Stop) (left : ℕ) (rest : List ℕ)
+look_in_changes : (changes : ℕ → List Change) (at : Option ℕ) (k : Kind) (w : Who) (addr : ℕ) (n : ℕ) (values : List ℕ) (result : Result ℕ Suspended) (left : ℕ) (rest : List ℕ)
     → Marks marks.Plain changes → Refines (play (look_in_as silent at k w addr) n values) result left rest
     → Refines (play (look_in_as changes at k w addr) n values) result left rest
 unfolding look_in_as
 look_in_changes changes None k w addr n values result left rest m h = h
 look_in_changes changes (Some page) k w addr zero values (Ok x) left rest m h = cc
-look_in_changes changes (Some page) k w addr zero values (Err (stop.Access a mark)) left rest m h = (h.0, ((λ answer held. m.0 answer held ∙ h.1.0 answer held), (λ answer. m.1 answer ∙ h.1.1 answer)), h.2)
-look_in_changes changes (Some page) k w addr zero values (Err (stop.Fault e)) left rest m h = cc
+look_in_changes changes (Some page) k w addr zero values (Err (suspended.Access a mark)) left rest m h = (h.0, ((λ answer held. m.0 answer held ∙ h.1.0 answer held), (λ answer. m.1 answer ∙ h.1.1 answer)), h.2)
+look_in_changes changes (Some page) k w addr zero values (Err (suspended.Fault e)) left rest m h = cc
 look_in_changes changes (Some page) k w addr (suc n) [] (Ok x) left rest m h = cc
-look_in_changes changes (Some page) k w addr (suc n) [] (Err (stop.Access a mark)) left rest m h = (h.0, ((λ answer held. m.0 answer held ∙ h.1.0 answer held), (λ answer. m.1 answer ∙ h.1.1 answer)), h.2)
-look_in_changes changes (Some page) k w addr (suc n) [] (Err (stop.Fault e)) left rest m h = cc
+look_in_changes changes (Some page) k w addr (suc n) [] (Err (suspended.Access a mark)) left rest m h = (h.0, ((λ answer held. m.0 answer held ∙ h.1.0 answer held), (λ answer. m.1 answer ∙ h.1.1 answer)), h.2)
+look_in_changes changes (Some page) k w addr (suc n) [] (Err (suspended.Fault e)) left rest m h = cc
 look_in_changes changes (Some page) k w addr (suc n) (value ∷ values) result left rest m h = h
 
-pub look_changes : (changes : ℕ → List Change) (w : Who) (k : Kind) (addr : ℕ) (n : ℕ) (values : List ℕ) (result : Result ℕ Stop) (left : ℕ) (rest : List ℕ)
+pub look_changes : (changes : ℕ → List Change) (w : Who) (k : Kind) (addr : ℕ) (n : ℕ) (values : List ℕ) (result : Result ℕ Suspended) (left : ℕ) (rest : List ℕ)
     → Marks marks.Plain changes → Refines (play (look w k addr) n values) result left rest
     → Refines (play (look_as changes w k addr) n values) result left rest
 unfolding look_as

@@ -10,31 +10,31 @@ use Rattle.cet_page.specs.Script.{Played, Completed, Faulted, Wants}
 use Rattle.cet_page.specs.Core.{wanted}
 use Rattle.cet_page.specs.declared.finishes.Finish.{Finish}
 use Rattle.cet_page.specs.declared.cursors.Mark.{Mark}
-use Rattle.cet_page.specs.declared.cursors.Stop.{Stop}
-use Rattle.cet_page.specs.declared.cursors.Stop.TheVariants as stop
+use Rattle.cet_page.specs.declared.cursors.Suspended.{Suspended}
+use Rattle.cet_page.specs.declared.cursors.Suspended.TheVariants as suspended
 use Rattle.cet_page.specs.Plays.{next_by, with_record, Wanted, Refines, next_of, NextInRange, next_after}
 use Rattle.cet_page.specs.declared.nexts.Next.TheVariants as nexts
 
 -- a function over a cursor answers what its script does next
-pub next_by_is : {A : Type 0} (view : A → Arch × Option Record) (came : Played A) (reached : Result A Stop) (left : ℕ) (values : List ℕ) → Refines came reached left values → next_after view reached ≡ next_by view came
+pub next_by_is : {A : Type 0} (view : A → Arch × Option Record) (came : Played A) (reached : Result A Suspended) (left : ℕ) (values : List ℕ) → Refines came reached left values → next_after view reached ≡ next_by view came
 next_by_is view came (Ok x) left values h = rw h refl
-next_by_is view (Wants b changes) (Err (stop.Access a mark)) left values h = cc
-next_by_is view (Faulted e) (Err (stop.Access a mark)) left values h = absurd h
-next_by_is view (Completed x m vs) (Err (stop.Access a mark)) left values h = absurd h
-next_by_is view came (Err (stop.Fault e)) left values h = rw h refl
+next_by_is view (Wants b changes) (Err (suspended.Access a mark)) left values h = cc
+next_by_is view (Faulted e) (Err (suspended.Access a mark)) left values h = absurd h
+next_by_is view (Completed x m vs) (Err (suspended.Access a mark)) left values h = absurd h
+next_by_is view came (Err (suspended.Fault e)) left values h = rw h refl
 
-pub next_by_ranges : {A : Type 0} (view : A → Arch × Option Record) (came : Played A) (reached : Result A Stop) (left : ℕ) (values : List ℕ) → Refines came reached left values → NextInRange (next_after view reached)
+pub next_by_ranges : {A : Type 0} (view : A → Arch × Option Record) (came : Played A) (reached : Result A Suspended) (left : ℕ) (values : List ℕ) → Refines came reached left values → NextInRange (next_after view reached)
 next_by_ranges view came (Ok x) left values h = tt
-next_by_ranges view (Wants b changes) (Err (stop.Access a mark)) left values h = h.2
-next_by_ranges view (Faulted e) (Err (stop.Access a mark)) left values h = absurd h
-next_by_ranges view (Completed x m vs) (Err (stop.Access a mark)) left values h = absurd h
-next_by_ranges view came (Err (stop.Fault e)) left values h = tt
+next_by_ranges view (Wants b changes) (Err (suspended.Access a mark)) left values h = h.2
+next_by_ranges view (Faulted e) (Err (suspended.Access a mark)) left values h = absurd h
+next_by_ranges view (Completed x m vs) (Err (suspended.Access a mark)) left values h = absurd h
+next_by_ranges view came (Err (suspended.Fault e)) left values h = tt
 
 -- the same of an instruction
-pub next_is : (came : Played (Arch × Record)) (reached : Result (Arch × Record) Stop) (left : ℕ) (values : List ℕ) → Refines came reached left values → next_after with_record reached ≡ next_of came
+pub next_is : (came : Played (Arch × Record)) (reached : Result (Arch × Record) Suspended) (left : ℕ) (values : List ℕ) → Refines came reached left values → next_after with_record reached ≡ next_of came
 next_is came reached left values h = next_by_is with_record came reached left values h
 
-pub next_ranges : (came : Played (Arch × Record)) (reached : Result (Arch × Record) Stop) (left : ℕ) (values : List ℕ) → Refines came reached left values → NextInRange (next_after with_record reached)
+pub next_ranges : (came : Played (Arch × Record)) (reached : Result (Arch × Record) Suspended) (left : ℕ) (values : List ℕ) → Refines came reached left values → NextInRange (next_after with_record reached)
 next_ranges came reached left values h = next_by_ranges with_record came reached left values h
 
 -- what is wanted

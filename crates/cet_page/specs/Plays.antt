@@ -9,8 +9,8 @@ use Rattle.cet_words.specs.Access.{InRange}
 use Rattle.cet_page.specs.Script.{Played, Completed, Faulted, Wants, ask, done, play, silent, birth, held_after}
 use Rattle.cet_page.specs.declared.cursors.Mark.{Mark}
 use Rattle.cet_page.specs.declared.cursors.Mark.TheVariants as marks
-use Rattle.cet_page.specs.declared.cursors.Stop.{Stop}
-use Rattle.cet_page.specs.declared.cursors.Stop.TheVariants as stop
+use Rattle.cet_page.specs.declared.cursors.Suspended.{Suspended}
+use Rattle.cet_page.specs.declared.cursors.Suspended.TheVariants as suspended
 use Rattle.cet_page.specs.declared.nexts.Next.{Next}
 use Rattle.cet_page.specs.declared.nexts.Next.TheVariants as nexts
 
@@ -41,22 +41,22 @@ Wanted (Faulted e) a mark = ⊥
 Wanted (Completed x left values) a mark = ⊥
 
 -- a stop at a wanted access or at a fault
-abbrev pub Stopped : {A : Type 0} → Played A → Stop → Type 0
-Stopped came (stop.Access a mark) = Wanted came a mark
-Stopped came (stop.Fault e) = came ≡ Faulted e
+abbrev pub Suspends : {A : Type 0} → Played A → Suspended → Type 0
+Suspends came (suspended.Access a mark) = Wanted came a mark
+Suspends came (suspended.Fault e) = came ≡ Faulted e
 
 -- what was returned, seen by view, and the place of the cursor afterwards
-abbrev pub RefinesBy : {A B : Type 0} → (A → B) → Played B → Result A Stop → (left : ℕ) → List ℕ → Type 0
+abbrev pub RefinesBy : {A B : Type 0} → (A → B) → Played B → Result A Suspended → (left : ℕ) → List ℕ → Type 0
 RefinesBy view came (Ok x) left values = came ≡ Completed (view x) left values
-RefinesBy view came (Err s) left values = Stopped came s
+RefinesBy view came (Err s) left values = Suspends came s
 
-abbrev pub Refines : {A : Type 0} → Played A → Result A Stop → (left : ℕ) → List ℕ → Type 0
+abbrev pub Refines : {A : Type 0} → Played A → Result A Suspended → (left : ℕ) → List ℕ → Type 0
 Refines came result left values = RefinesBy (λ x. x) came result left values
 
 -- what an access comes to whose value is kept, whatever its changes are: its value, or a stop at it with this mark
-abbrev pub Asks : Access → Mark → (before : ℕ) → List ℕ → Result ℕ Stop → (left : ℕ) → List ℕ → Type 0
+abbrev pub Asks : Access → Mark → (before : ℕ) → List ℕ → Result ℕ Suspended → (left : ℕ) → List ℕ → Type 0
 Asks a mark before seen (Ok value) left values = play (ask a silent done) before seen ≡ Completed value left values
-Asks a mark before seen (Err s) left values = (play (ask a silent done) before seen ≡ Wants a silent) × (s ≡ stop.Access a mark) × InRange a
+Asks a mark before seen (Err s) left values = (play (ask a silent done) before seen ≡ Wants a silent) × (s ≡ suspended.Access a mark) × InRange a
 
 -- What a part of a row does next: an access, its fault, or its result. The view tells the state after it and its record, if
 -- there is one.
@@ -79,7 +79,7 @@ NextInRange (nexts.Done arch noted) = Unit {0}
 NextInRange (nexts.Fault e) = Unit {0}
 
 -- the same of what was returned over a cursor
-abbrev pub next_after : {A : Type 0} → (A → Arch × Option Record) → Result A Stop → Next
+abbrev pub next_after : {A : Type 0} → (A → Arch × Option Record) → Result A Suspended → Next
 next_after view (Ok x) = nexts.Done (view x).0 (view x).1
-next_after view (Err (stop.Access a mark)) = nexts.Access a
-next_after view (Err (stop.Fault e)) = nexts.Fault e
+next_after view (Err (suspended.Access a mark)) = nexts.Access a
+next_after view (Err (suspended.Fault e)) = nexts.Fault e

@@ -28,7 +28,7 @@ pub enum Mark {
 
 /// Why a row goes no further: it wants an access, or has a fault.
 #[derive(Clone, Copy, Debug, PartialEq, Eq)]
-pub enum Stop {
+pub enum Suspended {
     Access(Access, Mark),
     Fault(Fault),
 }
@@ -41,10 +41,10 @@ pub struct Cursor<'a> {
 }
 
 /// #GP(0), general protection.
-pub fn general_protection() -> Stop
-    ensures { result ≡ Stop.Fault general_protection }
+pub fn general_protection() -> Suspended
+    ensures { result ≡ Suspended.Fault general_protection }
 {
-    Stop::Fault(Fault {
+    Suspended::Fault(Fault {
         name: FaultName::Gp,
         code: 0,
         a: 0,
@@ -53,10 +53,10 @@ pub fn general_protection() -> Stop
 }
 
 /// #UD, invalid opcode.
-pub fn invalid_opcode() -> Stop
-    ensures { result ≡ Stop.Fault invalid_opcode }
+pub fn invalid_opcode() -> Suspended
+    ensures { result ≡ Suspended.Fault invalid_opcode }
 {
-    Stop::Fault(Fault {
+    Suspended::Fault(Fault {
         name: FaultName::Ud,
         code: 0,
         a: 0,
@@ -75,7 +75,7 @@ pub fn word_in(page: u32, addr: u64) -> u32
 
 impl<'a> Cursor<'a> {
     /// An access whose value is kept.
-    pub fn ask(&mut self, access: Access) -> Result<u64, Stop>
+    pub fn ask(&mut self, access: Access) -> Result<u64, Suspended>
         requires { InRange access }
         ensures { Refines (play (ask access silent done) self.old.left self.old.rest.now) result self.new.left self.new.rest.now }
     {
@@ -83,15 +83,15 @@ impl<'a> Cursor<'a> {
     }
 
     /// An access whose value is kept, with its mark.
-    pub fn ask_as(&mut self, access: Access, mark: Mark) -> Result<u64, Stop>
+    pub fn ask_as(&mut self, access: Access, mark: Mark) -> Result<u64, Suspended>
         requires { InRange access }
         ensures { Asks access mark self.old.left self.old.rest.now result self.new.left self.new.rest.now }
     {
         if self.left == 0 {
-            return Err(Stop::Access(access, mark));
+            return Err(Suspended::Access(access, mark));
         }
         let [value, rest @ ..] = self.rest else {
-            return Err(Stop::Access(access, mark));
+            return Err(Suspended::Access(access, mark));
         };
         self.left -= 1;
         self.rest = rest;
@@ -100,12 +100,12 @@ impl<'a> Cursor<'a> {
 
     /// A store.
     #[tactic(auto, unfolding(crate::specs::Parts::store_as))]
-    pub fn store(&mut self, word: u32, value: u64) -> Result<(), Stop>
+    pub fn store(&mut self, word: u32, value: u64) -> Result<(), Suspended>
         requires { word < word_count }
         ensures { Refines (play (store word value) self.old.left self.old.rest.now) result self.new.left self.new.rest.now }
     {
         if self.left == 0 {
-            return Err(Stop::Access(Access::Store(word, value), Mark::Plain));
+            return Err(Suspended::Access(Access::Store(word, value), Mark::Plain));
         }
         self.left -= 1;
         Ok(())
@@ -113,7 +113,7 @@ impl<'a> Cursor<'a> {
 
     /// The load of a word.
     #[tactic(auto, unfolding(crate::specs::Parts::load_as))]
-    pub fn load(&mut self, word: u32) -> Result<u64, Stop>
+    pub fn load(&mut self, word: u32) -> Result<u64, Suspended>
         requires { word < word_count }
         ensures { Refines (play (load word) self.old.left self.old.rest.now) result self.new.left self.new.rest.now }
     {
@@ -122,7 +122,7 @@ impl<'a> Cursor<'a> {
 
     /// A compare-and-exchange; the answer is the word found.
     #[tactic(auto, unfolding(crate::specs::Parts::exchange_as))]
-    pub fn exchange(&mut self, word: u32, expected: u64, value: u64) -> Result<u64, Stop>
+    pub fn exchange(&mut self, word: u32, expected: u64, value: u64) -> Result<u64, Suspended>
         requires { word < word_count }
         ensures { Refines (play (exchange word expected value) self.old.left self.old.rest.now) result self.new.left self.new.rest.now }
     {
@@ -131,7 +131,7 @@ impl<'a> Cursor<'a> {
 
     /// The exchange of a word; the answer is the word found.
     #[tactic(auto, unfolding(crate::specs::Parts::swap))]
-    pub fn swap(&mut self, word: u32, value: u64) -> Result<u64, Stop>
+    pub fn swap(&mut self, word: u32, value: u64) -> Result<u64, Suspended>
         requires { word < word_count }
         ensures { Refines (play (swap word value) self.old.left self.old.rest.now) result self.new.left self.new.rest.now }
     {
@@ -140,7 +140,7 @@ impl<'a> Cursor<'a> {
 
     /// A fetch-and-add; the answer is the word found.
     #[tactic(auto, unfolding(crate::specs::Parts::fetch_add_as))]
-    pub fn fetch_add(&mut self, word: u32, value: u64) -> Result<u64, Stop>
+    pub fn fetch_add(&mut self, word: u32, value: u64) -> Result<u64, Suspended>
         requires { word < word_count }
         ensures { Refines (play (fetch_add word value) self.old.left self.old.rest.now) result self.new.left self.new.rest.now }
     {
@@ -149,7 +149,7 @@ impl<'a> Cursor<'a> {
 
     /// A fetch-and-or; the answer is the word found.
     #[tactic(auto, unfolding(crate::specs::Parts::fetch_or))]
-    pub fn fetch_or(&mut self, word: u32, value: u64) -> Result<u64, Stop>
+    pub fn fetch_or(&mut self, word: u32, value: u64) -> Result<u64, Suspended>
         requires { word < word_count }
         ensures { Refines (play (fetch_or word value) self.old.left self.old.rest.now) result self.new.left self.new.rest.now }
     {
@@ -158,7 +158,7 @@ impl<'a> Cursor<'a> {
 
     /// A fetch-and-and; the answer is the word found.
     #[tactic(auto, unfolding(crate::specs::Parts::fetch_and))]
-    pub fn fetch_and(&mut self, word: u32, value: u64) -> Result<u64, Stop>
+    pub fn fetch_and(&mut self, word: u32, value: u64) -> Result<u64, Suspended>
         requires { word < word_count }
         ensures { Refines (play (fetch_and word value) self.old.left self.old.rest.now) result self.new.left self.new.rest.now }
     {
@@ -168,7 +168,7 @@ impl<'a> Cursor<'a> {
     /// Stores to so many words, the lowest first: the first gets the value, and each further one the value
     /// before and the step. They are passed over at once.
     #[tactic(auto, using(crate::proofs::PartLaws::play_stores_over, crate::proofs::PartLaws::play_stores_wants))]
-    pub fn stores(&mut self, count: u32, word: u32, value: u64, step: u64) -> Result<(), Stop>
+    pub fn stores(&mut self, count: u32, word: u32, value: u64, step: u64) -> Result<(), Suspended>
         requires words { word + count ≤ word_count }
         requires values { value + step * count < 2 ^ 64 }
         ensures { Refines (play (stores count word value step) self.old.left self.old.rest.now) result self.new.left self.new.rest.now }
@@ -178,7 +178,7 @@ impl<'a> Cursor<'a> {
             return Ok(());
         }
         let at = self.left;
-        Err(Stop::Access(
+        Err(Suspended::Access(
             Access::Store(word + at, value + step * u64::from(at)),
             Mark::Plain,
         ))
@@ -186,7 +186,7 @@ impl<'a> Cursor<'a> {
 
     /// Stores of these values, the lowest first: to a word and to those above it. They are passed over at once.
     #[tactic(auto, using(crate::proofs::PartLaws::play_each_over, crate::proofs::PartLaws::play_each_wants))]
-    pub fn store_each(&mut self, word: u32, values: &[u64]) -> Result<(), Stop>
+    pub fn store_each(&mut self, word: u32, values: &[u64]) -> Result<(), Suspended>
         requires { word + length values.now ≤ word_count }
         ensures { Refines (play (store_each word values.now) self.old.left self.old.rest.now) result self.new.left self.new.rest.now }
     {
@@ -196,12 +196,12 @@ impl<'a> Cursor<'a> {
             return Ok(());
         }
         let at = self.left;
-        Err(Stop::Access(Access::Store(word + at, values[at as usize]), Mark::Plain))
+        Err(Suspended::Access(Access::Store(word + at, values[at as usize]), Mark::Plain))
     }
 
     /// The look at a page of which no test is made.
     #[tactic(auto, unfolding(crate::specs::Parts::peek))]
-    pub fn peek(&mut self, page: u32) -> Result<u64, Stop>
+    pub fn peek(&mut self, page: u32) -> Result<u64, Suspended>
         requires { page < page_count }
         ensures { Refines (play (peek page) self.old.left self.old.rest.now) result self.new.left self.new.rest.now }
     {
@@ -210,7 +210,7 @@ impl<'a> Cursor<'a> {
 
     /// The canonical test, and then the test for a multiple of the size in bytes.
     #[tactic(auto, unfolding(crate::specs::Parts::tested_as))]
-    pub fn tested(&mut self, addr: u64, size: u64) -> Result<(), Stop>
+    pub fn tested(&mut self, addr: u64, size: u64) -> Result<(), Suspended>
         requires { 0 < size }
         ensures { Refines (play (tested addr size) self.old.left self.old.rest.now) result self.new.left self.new.rest.now }
     {
@@ -218,7 +218,7 @@ impl<'a> Cursor<'a> {
             return Err(general_protection());
         }
         if addr % size != 0 {
-            return Err(Stop::Fault(Fault {
+            return Err(Suspended::Fault(Fault {
                 name: FaultName::Ac,
                 code: 0,
                 a: addr,
@@ -230,7 +230,7 @@ impl<'a> Cursor<'a> {
 
     /// The canonical test and the test for a multiple of the size in bytes, which both fail with #GP(0).
     #[tactic(auto, unfolding(crate::specs::Parts::tested_as))]
-    pub fn tested_gp(&mut self, addr: u64, size: u64) -> Result<(), Stop>
+    pub fn tested_gp(&mut self, addr: u64, size: u64) -> Result<(), Suspended>
         requires { 0 < size }
         ensures { Refines (play (tested_as general_protection addr size) self.old.left self.old.rest.now) result self.new.left self.new.rest.now }
     {
@@ -242,19 +242,19 @@ impl<'a> Cursor<'a> {
 
     /// The look at the page of an address, with the page check; the answer is the page's number.
     #[tactic(auto, unfolding(crate::specs::Parts::look_as, crate::specs::Parts::look_in_as))]
-    pub fn look(&mut self, who: Who, kind: Kind, addr: u64) -> Result<u32, Stop>
+    pub fn look(&mut self, who: Who, kind: Kind, addr: u64) -> Result<u32, Suspended>
         ensures comes { Refines (play (look who kind addr) self.old.left self.old.rest.now) result self.new.left self.new.rest.now }
         ensures range { IfOk result (λ page. page < page_count) }
     {
         let Some(page) = page_of(addr) else {
-            return Err(Stop::Fault(page_fault(0, kind, who, addr)));
+            return Err(Suspended::Fault(page_fault(0, kind, who, addr)));
         };
         self.look_in(page, who, kind, addr)
     }
 
     /// The same look, where it has changes that its mark needn't tell.
     #[tactic(auto, using(crate::proofs::PartLaws::look_changes))]
-    pub fn look_as(&mut self, who: Who, kind: Kind, addr: u64) -> Result<u32, Stop>
+    pub fn look_as(&mut self, who: Who, kind: Kind, addr: u64) -> Result<u32, Suspended>
         ensures comes { (changes : ℕ → List Change) → Marks Mark.Plain changes → Refines (play (look_as changes who kind addr) self.old.left self.old.rest.now) result self.new.left self.new.rest.now }
         ensures range { IfOk result (λ page. page < page_count) }
     {
@@ -262,7 +262,7 @@ impl<'a> Cursor<'a> {
     }
 
     #[tactic(auto, using(crate::proofs::ScriptLaws::play_bind), unfolding(crate::specs::Parts::look_in_as))]
-    fn look_in(&mut self, page: u32, who: Who, kind: Kind, addr: u64) -> Result<u32, Stop>
+    fn look_in(&mut self, page: u32, who: Who, kind: Kind, addr: u64) -> Result<u32, Suspended>
         requires { page < page_count }
         ensures comes { Refines (play (look_in_as silent (Some page) kind who addr) self.old.left self.old.rest.now) result self.new.left self.new.rest.now }
         ensures range { IfOk result (λ page. page < page_count) }
@@ -270,14 +270,14 @@ impl<'a> Cursor<'a> {
         let entry = self.ask(Access::Look(page))?;
         match check(entry, kind, who, addr) {
             Ok(()) => Ok(page),
-            Err(fault) => Err(Stop::Fault(fault)),
+            Err(fault) => Err(Suspended::Fault(fault)),
         }
     }
 
     /// The look at the page of an address where nothing faults: the page's number, or none where the
     /// page check fails.
     #[tactic(auto, unfolding(crate::specs::Parts::probe, crate::specs::Parts::probe_in))]
-    pub fn probe(&mut self, who: Who, kind: Kind, addr: u64) -> Result<Option<u32>, Stop>
+    pub fn probe(&mut self, who: Who, kind: Kind, addr: u64) -> Result<Option<u32>, Suspended>
         ensures comes { Refines (play (probe who kind addr) self.old.left self.old.rest.now) result self.new.left self.new.rest.now }
         ensures range { IfOk result (λ found. IfSome found (λ page. page < page_count)) }
     {
@@ -288,7 +288,7 @@ impl<'a> Cursor<'a> {
     }
 
     #[tactic(auto, using(crate::proofs::ScriptLaws::play_bind), unfolding(crate::specs::Parts::probe_in))]
-    fn probe_in(&mut self, page: u32, who: Who, kind: Kind, addr: u64) -> Result<Option<u32>, Stop>
+    fn probe_in(&mut self, page: u32, who: Who, kind: Kind, addr: u64) -> Result<Option<u32>, Suspended>
         requires { page < page_count }
         ensures comes { Refines (play (probe_in (Some page) kind who) self.old.left self.old.rest.now) result self.new.left self.new.rest.now }
         ensures range { IfOk result (λ found. IfSome found (λ page. page < page_count)) }

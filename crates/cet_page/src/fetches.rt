@@ -4,14 +4,14 @@ ghost use Rattle.std.specs.Prelude.{◌≡◌, ℕ, ◌+◌, ◌^◌, ◌<◌, �
 ghost use Rattle.cet_words.specs.Layout.{image_end};
 ghost use Rattle.std.specs.Fn.{FnOnceReturnsAt};
 ghost use Rattle.cet_page.specs.Script.{play};
-ghost use Rattle.cet_page.specs.Plays.{Stopped};
+ghost use Rattle.cet_page.specs.Plays.{Suspends};
 ghost use Rattle.cet_page.specs.declared.finishes.Finish.{Finish};
 ghost use Rattle.cet_page.specs.Fetch.{fetchable, missing};
 ghost use Rattle.cet_page.specs.Row.{next_address};
 ghost use Rattle.cet_isa.specs.Reading.{decoded, read_length};
 
 use crate::checks::{Kind, Who, page_fault};
-use crate::cursors::{Cursor, Stop};
+use crate::cursors::{Cursor, Suspended};
 use cet_isa::Arch;
 use cet_words::{Access, Image, Job, code_byte, page_of, segment_at};
 
@@ -67,14 +67,14 @@ pub fn fetch(image: &Image, addr: u64, buffer: &mut [u8]) -> usize
 
 /// The page fault of a fetch at an address whose byte can't be fetched, after a look at its page.
 #[tactic(auto, using(crate::proofs::ScriptLaws::play_bind), unfolding(crate::specs::Fetch::missing))]
-pub fn missing(addr: u64, at: &mut Cursor) -> Stop
-    ensures { Stopped (play (missing {A = Finish} addr) at.old.left at.old.rest.now) result }
+pub fn missing(addr: u64, at: &mut Cursor) -> Suspended
+    ensures { Suspends (play (missing {A = Finish} addr) at.old.left at.old.rest.now) result }
 {
     let Some(page) = page_of(addr) else {
-        return Stop::Fault(page_fault(0, Kind::Fetch, Who::User, addr));
+        return Suspended::Fault(page_fault(0, Kind::Fetch, Who::User, addr));
     };
     match at.ask(Access::Look(page)) {
-        Ok(entry) => Stop::Fault(page_fault(entry, Kind::Fetch, Who::User, addr)),
+        Ok(entry) => Suspended::Fault(page_fault(entry, Kind::Fetch, Who::User, addr)),
         Err(stop) => stop,
     }
 }

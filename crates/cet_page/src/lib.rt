@@ -21,7 +21,7 @@ mod tokens;
 mod vals;
 
 pub use checks::{Kind, Who, check, index_of, page_fault};
-pub use cursors::{Cursor, Mark, Stop, general_protection, invalid_opcode, word_in};
+pub use cursors::{Cursor, Mark, Suspended, general_protection, invalid_opcode, word_in};
 pub use families::{Family, family_of};
 pub use fetches::{fetch, missing, next_address};
 pub use finishes::{Finish, Leaving};

@@ -2,7 +2,7 @@
 
 ghost use Rattle.std.specs.Prelude.{◌≡◌, ◌<◌, ◌^◌, ◌-◌};
 
-use crate::cursors::Stop;
+use crate::cursors::Suspended;
 use cet_isa::{Arch, Fault, Record};
 use cet_words::Access;
 
@@ -20,18 +20,18 @@ impl Next {
 
     /// What a part of a row does next, by how far its accesses have led: a state with a record, or
     /// with none.
-    pub fn of(reached: Result<(Arch, Option<Record>), Stop>) -> Next
+    pub fn of(reached: Result<(Arch, Option<Record>), Suspended>) -> Next
         ensures { result ≡ next_after (λ x. x) reached }
     {
         match reached {
             Ok((arch, noted)) => Next::Done(arch, noted),
-            Err(Stop::Access(access, _)) => Next::Access(access),
-            Err(Stop::Fault(fault)) => Next::Fault(fault),
+            Err(Suspended::Access(access, _)) => Next::Access(access),
+            Err(Suspended::Fault(fault)) => Next::Fault(fault),
         }
     }
 
     /// The same of an instruction, which ends with a record.
-    pub fn noted(reached: Result<(Arch, Record), Stop>) -> Next
+    pub fn noted(reached: Result<(Arch, Record), Suspended>) -> Next
         ensures { result ≡ next_after with_record reached }
     {
         match reached {

@@ -9,7 +9,7 @@ ghost use Rattle.cet_page.specs.Values.{limit, width};
 ghost use Rattle.cet_page.specs.Operands.{register, with_register, base_address, index_value, effective, byte_count, bytes_at, load_word, load_at, write_place, store_at, read_operand, stepped, assigned, settled, compared};
 
 use crate::checks::{Kind, Who};
-use crate::cursors::{Cursor, Stop, word_in};
+use crate::cursors::{Cursor, Suspended, word_in};
 use crate::flags::Computed;
 use cet_isa::{Arch, Base, Mem, Operand, Record, Reg, Size, What};
 
@@ -98,7 +98,7 @@ fn byte_count(size: Size) -> u64
 
 impl<'a> Cursor<'a> {
     #[tactic(auto, using(crate::proofs::ScriptLaws::play_bind), unfolding(crate::specs::Operands::load_word))]
-    fn load_word(&mut self, addr: u64, count: u64) -> Result<u64, Stop>
+    fn load_word(&mut self, addr: u64, count: u64) -> Result<u64, Suspended>
         requires { 0 < count }
         ensures { Refines (play (load_word addr count) self.old.left self.old.rest.now) result self.new.left self.new.rest.now }
     {
@@ -109,7 +109,7 @@ impl<'a> Cursor<'a> {
 
     /// The load of a byte.
     #[tactic(auto, using(crate::proofs::ScriptLaws::play_bind), unfolding(crate::specs::Operands::load_at))]
-    pub fn load_byte(&mut self, addr: u64) -> Result<u64, Stop>
+    pub fn load_byte(&mut self, addr: u64) -> Result<u64, Suspended>
         ensures comes { Refines (play (load_at addr 1) self.old.left self.old.rest.now) result self.new.left self.new.rest.now }
     {
         let word = self.load_word(addr, 1)?;
@@ -118,7 +118,7 @@ impl<'a> Cursor<'a> {
 
     /// The load of as many bytes as the size has.
     #[tactic(auto, using(crate::proofs::ScriptLaws::play_bind), unfolding(crate::specs::Operands::load_at))]
-    pub fn load_at(&mut self, addr: u64, size: Size) -> Result<u64, Stop>
+    pub fn load_at(&mut self, addr: u64, size: Size) -> Result<u64, Suspended>
         ensures comes { Refines (play (load_at addr (byte_count size)) self.old.left self.old.rest.now) result self.new.left self.new.rest.now }
         ensures range { IfOk result (λ value. value < limit size) }
     {
@@ -128,7 +128,7 @@ impl<'a> Cursor<'a> {
 
     /// The tests and the look before a write of 8 bytes; the answer is the word's number.
     #[tactic(auto, using(crate::proofs::ScriptLaws::play_bind), unfolding(crate::specs::Operands::write_place))]
-    pub fn write_place(&mut self, addr: u64) -> Result<u32, Stop>
+    pub fn write_place(&mut self, addr: u64) -> Result<u32, Suspended>
         ensures comes { Refines (play (write_place addr) self.old.left self.old.rest.now) result self.new.left self.new.rest.now }
         ensures range { IfOk result (λ word. word < word_count) }
     {
@@ -139,7 +139,7 @@ impl<'a> Cursor<'a> {
 
     /// The store of 8 bytes.
     #[tactic(auto, using(crate::proofs::ScriptLaws::play_bind), unfolding(crate::specs::Operands::store_at))]
-    pub fn store_at(&mut self, addr: u64, value: u64) -> Result<(), Stop>
+    pub fn store_at(&mut self, addr: u64, value: u64) -> Result<(), Suspended>
         ensures { Refines (play (store_at addr value) self.old.left self.old.rest.now) result self.new.left self.new.rest.now }
     {
         let word = self.write_place(addr)?;
@@ -154,7 +154,7 @@ impl<'a> Cursor<'a> {
         size: Size,
         operand: Operand,
         next: u64,
-    ) -> Result<u64, Stop>
+    ) -> Result<u64, Suspended>
         ensures comes { Refines (play (read_operand arch.now size operand next) self.old.left self.old.rest.now) result self.new.left self.new.rest.now }
         ensures range { IfOk result (λ value. value < limit size) }
     {

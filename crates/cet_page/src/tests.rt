@@ -1,7 +1,7 @@
 //! The page check by the codes of the manual; what a row keeps.
 
 use crate::{
-    Cursor, Kind, Mark, Stop, Vals, Who, check, frame_ssp, frame_word, index_of, is_frame_word,
+    Cursor, Kind, Mark, Suspended, Vals, Who, check, frame_ssp, frame_word, index_of, is_frame_word,
     is_previous_token, previous_ssp, previous_token, restore_token, restore_token_at, saved_at,
 };
 use cet_isa::{Fault, FaultName};
@@ -87,7 +87,7 @@ fn indices_and_values(rt: HostRuntime) {
 fn stores_of_a_list(rt: HostRuntime) {
     let values = [70, 80, 90];
     let mut vals = Vals::new();
-    let wanted = |word, value| Err(Stop::Access(Access::Store(word, value), Mark::Plain));
+    let wanted = |word, value| Err(Suspended::Access(Access::Store(word, value), Mark::Plain));
     assert_eq!(rt; vals.start().store_each(512, &values), wanted(512, 70));
     vals.add(Access::Store(512, 70), 0);
     assert_eq!(rt; vals.start().store_each(512, &values), wanted(513, 80));
@@ -143,8 +143,8 @@ fn after(rest: &[u64; 1]) -> Cursor<'_> {
     Cursor { left: 1, rest }
 }
 
-fn fault<T>(name: FaultName, code: u32, a: u64, b: u64) -> Result<T, Stop> {
-    Err(Stop::Fault(Fault { name, code, a, b }))
+fn fault<T>(name: FaultName, code: u32, a: u64, b: u64) -> Result<T, Suspended> {
+    Err(Suspended::Fault(Fault { name, code, a, b }))
 }
 
 /// The last page of the first shadow stack as one, and with R/W; an address on no page is looked at without an access.
@@ -157,7 +157,7 @@ fn looks_and_tests(rt: HostRuntime) {
     let (who, kind) = (Who::User, Kind::ShadowStore);
     let vals = Vals::new();
     let mut before = vals.start();
-    let wanted = Stop::Access(Access::Look(2120), Mark::Plain);
+    let wanted = Suspended::Access(Access::Look(2120), Mark::Plain);
     assert_eq!(rt; before.probe(who, kind, top), Err(wanted));
     assert_eq!(rt; before.look_as(who, kind, top), Err(wanted));
     assert_eq!(rt; before.probe(who, kind, nowhere), Ok(None));
@@ -181,10 +181,10 @@ fn looks_and_tests(rt: HostRuntime) {
         fault(FaultName::Gp, 0, 0, 0)
     );
 
-    let wanted = Stop::Access(Access::FetchOr(1_605_664, 1), Mark::Plain);
+    let wanted = Suspended::Access(Access::FetchOr(1_605_664, 1), Mark::Plain);
     assert_eq!(rt; before.fetch_or(1_605_664, 1), Err(wanted));
     assert_eq!(rt; after(&[6]).fetch_or(1_605_664, 1), Ok(6));
-    let wanted = Stop::Access(Access::FetchAnd(1_605_664, 5), Mark::Plain);
+    let wanted = Suspended::Access(Access::FetchAnd(1_605_664, 5), Mark::Plain);
     assert_eq!(rt; before.fetch_and(1_605_664, 5), Err(wanted));
     assert_eq!(rt; after(&[6]).fetch_and(1_605_664, 5), Ok(6));
 }

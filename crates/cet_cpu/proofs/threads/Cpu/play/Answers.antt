@@ -4,7 +4,7 @@ use Rattle.cet_page.specs.Core.{row_played, kept_by, unheld}
 use Rattle.cet_page.specs.Plays.{RefinesBy}
 use Rattle.cet_page.specs.Row.{row}
 use Rattle.cet_page.specs.Script.{Played, play}
-use Rattle.cet_page.specs.declared.cursors.Stop.{Stop}
+use Rattle.cet_page.specs.declared.cursors.Suspended.{Suspended}
 use Rattle.cet_page.specs.declared.finishes.Finish.{Finish}
 use Rattle.cet_cpu.specs.Changes.{finish_with, Stays}
 use Rattle.cet_cpu.specs.Cpu.{RefinesRow, CpuData}
@@ -13,7 +13,7 @@ use Rattle.cet_cpu.specs.declared.gate.RowEnd.TheVariants as row_end
 use Rattle.cet_cpu.proofs.threads.Cpu.play.Goals as goal
 
 -- the place of the cursor afterwards doesn't matter
-came_to : (before after : Arch) (came : Played Finish) (result : Result RowEnd Stop) (left : ℕ) (values : List ℕ)
+came_to : (before after : Arch) (came : Played Finish) (result : Result RowEnd Suspended) (left : ℕ) (values : List ℕ)
     → RefinesBy (finish_with after) came result left values → Stays (unheld before) after result
     → RefinesRow came before (kept_by before before.held after) result
 came_to before after came (Ok row_end.Stopped) left values h s = (after, left, values, refl, h, ap (kept_by before before.held) s)
