@@ -31,7 +31,7 @@ awaited (Some next) = Some next.0
 
 -- the row of the thread wants this access, with this mark
 abbrev pub IsWanted : JobData → Core → Access × Mark → Type 0
-IsWanted job core next = Wanted (row_played job core.arch core.seen) next.0 next.1
+IsWanted job core next = Wanted (row_played job core.arch core.vals) next.0 next.1
 
 -- a thread of the job, with its next access
 pub record IsCpu (job : JobData) (cpu : CpuData) : Type 0 where

@@ -10,7 +10,7 @@ ghost use Rattle.cet_page.specs.Within.{IsCore};
 ghost use Rattle.cet_page.specs.Core.{row_played, core_at, first_core, child_core, next_access, taken, recorded, fault_record};
 ghost use Rattle.cet_page.specs.Plays.{held_by};
 ghost use Rattle.cet_page.specs.Finish.{IsMade};
-ghost use Rattle.cet_page.specs.Seen.{nothing_seen};
+ghost use Rattle.cet_page.specs.ValsData.{no_vals};
 ghost use Rattle.cet_cpu.specs.Code.{IsCode};
 ghost use Rattle.cet_cpu.specs.Cpu.{awaited, RefinesRow, CpuData, IsCpu, IsNext, KeepsCode};
 
@@ -39,7 +39,7 @@ impl Model for Cpu {
 
     ghost Value = { CpuData };
 
-    ghost view = { λ c. record { core = record { arch = c.arch; seen = c.vals; over = c.over }; next = c.next; code = c.code } };
+    ghost view = { λ c. record { core = record { arch = c.arch; vals = c.vals; over = c.over }; next = c.next; code = c.code } };
 }
 
 /// What an access completed: a record, the birth of a thread, the thread's end.
@@ -266,7 +266,7 @@ impl Cpu {
         requires made { IsMade self.old.core.arch.made }
         requires number { self.old.core.arch.number < 32 }
         requires code { KeepsCode job.now self.old }
-        ensures came { RefinesRow (row_played job.now self.old.core.arch self.old.core.seen) self.old.core.arch self.new.core.arch result }
+        ensures came { RefinesRow (row_played job.now self.old.core.arch self.old.core.vals) self.old.core.arch self.new.core.arch result }
         ensures core { self.new.core ≡ record self.old.core { arch = self.new.core.arch } }
         ensures waits { self.new.next ≡ self.old.next }
         ensures code { IfSome self.new.code (IsCode job.now.image.segments self.old.core.arch.rip) }
@@ -285,8 +285,8 @@ impl Cpu {
     fn answered(&mut self, job: &Job, answer: u64) -> Option<Record>
         requires state { IsCpu job.now self.old }
         requires going { self.old.core.over ≡ None }
-        requires room { length self.old.core.seen.kept < 32 }
-        requires more { self.old.core.seen.count < 4096 }
+        requires room { length self.old.core.vals.values < 32 }
+        requires more { self.old.core.vals.accesses < 4096 }
         ensures core { self.new.core ≡ (taken job.now self.old.core answer).core }
         ensures noted { result ≡ (taken job.now self.old.core answer).noted }
         ensures waits { IfSome self.new.next (IsNext job.now self.new.core) }
@@ -342,7 +342,7 @@ impl Cpu {
 
     /// The thread before the first access of its row, or at its end.
     fn begin(&mut self, over: Option<End>)
-        ensures core { self.new.core ≡ record { arch = self.old.core.arch; seen = nothing_seen; over = over } }
+        ensures core { self.new.core ≡ record { arch = self.old.core.arch; vals = no_vals; over = over } }
         ensures waits { self.new.next ≡ None }
         ensures code { self.new.code ≡ None }
     {

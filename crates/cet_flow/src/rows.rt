@@ -50,11 +50,11 @@ pub fn follow(
 #[tactic(auto, using(cet_page::proofs::PlayLaws::next_is, cet_page::proofs::PlayLaws::next_ranges, cet_page::proofs::FaultLaws::flow_clean))]
 pub fn next(job: &Job, arch: &Arch, vals: &Vals, instr: &Instr) -> Next
     requires { arch.now.count < 2 ^ 32 - 1 }
-    ensures next { result ≡ next_of (play (flow arch.now instr.now (next_address job.now arch.now)) vals.now.count vals.now.kept) }
+    ensures next { result ≡ next_of (play (flow arch.now instr.now (next_address job.now arch.now)) vals.now.accesses vals.now.values) }
     ensures range { NextInRange result }
 
     // An instruction that faults has changed no word.
-    ensures fault { (e : Fault) → result ≡ Next.Fault e → All KeepsWords (trail vals.now.count (flow arch.now instr.now (next_address job.now arch.now)) vals.now.kept []) }
+    ensures fault { (e : Fault) → result ≡ Next.Fault e → All KeepsWords (trail vals.now.accesses (flow arch.now instr.now (next_address job.now arch.now)) vals.now.values []) }
 {
     Next::noted(follow(
         arch,

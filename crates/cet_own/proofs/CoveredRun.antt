@@ -44,7 +44,7 @@ use Rattle.cet_own.proofs.Views.{kept_there}
 
 core_trail : (job : JobData) (t : ℕ) (s : State) (core : Core) (over : Option End) (e : End) → over ≡ Some e → CoreStands job t s core over → trail_of job core ≡ []
 core_trail job t s core None e is h = cc
-core_trail job t s core (Some (ending.Exit status)) e is h = ap (row_trail job core.arch) h.1.seen
+core_trail job t s core (Some (ending.Exit status)) e is h = ap (row_trail job core.arch) h.1.vals
 core_trail job t s core (Some ending.Group) e is h = h.1
 core_trail job t s core (Some ending.Limit) e is h = h.1
 

@@ -7,7 +7,7 @@ use Rattle.cet_words.specs.declared.accesses.Access.{Access}
 use Rattle.cet_words.specs.declared.accesses.Access.TheVariants as access
 use Rattle.cet_isa.specs.declared.threads.Fault.{Fault}
 use Rattle.cet_page.specs.Script.{Script, done, fault, ask, tell, ◌>>=◌, Played, Completed, Faulted, Wants, play}
-use Rattle.cet_page.specs.Seen.{keeps, kept_after}
+use Rattle.cet_page.specs.ValsData.{keeps, kept_after}
 use Rattle.cet_page.specs.Trail.{Visit, visit, trail}
 use Rattle.cet_page.proofs.Walk.{acted, Walks}
 

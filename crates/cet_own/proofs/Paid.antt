@@ -20,7 +20,7 @@ use Rattle.cet_page.specs.Machine.{Thread}
 use Rattle.cet_page.proofs.Walk.{OnOver}
 use Rattle.cet_page.proofs.WalkRows.{Ends}
 use Rattle.cet_page.specs.Script.{Played, Completed, Faulted, Wants}
-use Rattle.cet_page.specs.Seen.{Seen}
+use Rattle.cet_page.specs.ValsData.{ValsData}
 use Rattle.cet_page.specs.declared.finishes.Finish.{Finish}
 use Rattle.cet_page.specs.declared.finishes.Finish.TheVariants.{Noted, Posted, Exited, Stopped}
 use Rattle.cet_own.proofs.Calls as calls
@@ -104,7 +104,7 @@ pub record Pays (job : JobData) (arch : Arch) (past : List Visit) (next : Core) 
   pub count : next.arch.count ≤ arch.count + 1
   pub made : next.arch.made ≡ arch.made
 
-pub came_pays : (job : JobData) (arch : Arch) (held : Option ℕ) (seen : Seen) (before s : State) (c : Played Finish) → OnCame (rules job arch.number) (During (unheld arch)) (calls.Ends job (unheld arch)) (λ p. Fails job (unheld arch)) (row_trail job arch seen) before s c → OnOver (Ends (unheld arch)) c → Pays job arch (row_trail job arch seen) (core_by job arch held seen c)
+pub came_pays : (job : JobData) (arch : Arch) (held : Option ℕ) (seen : ValsData) (before s : State) (c : Played Finish) → OnCame (rules job arch.number) (During (unheld arch)) (calls.Ends job (unheld arch)) (λ p. Fails job (unheld arch)) (row_trail job arch seen) before s c → OnOver (Ends (unheld arch)) c → Pays job arch (row_trail job arch seen) (core_by job arch held seen c)
 came_pays job arch held seen before s (Wants a changes) o k = record { draws = omega arith; nexts = omega arith; count = omega arith; made = refl }
 came_pays job arch held seen before s (Faulted e) o k = record {
   draws = (let l = one_most (drew (row_trail job arch seen)) in omega arith);

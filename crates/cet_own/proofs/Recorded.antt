@@ -29,7 +29,7 @@ use Rattle.cet_page.specs.Core.{Core, unheld, row_played, changes_of, next_chang
 use Rattle.cet_page.specs.Machine.{Thread, Machine, thread_after, with_child, accessed, act, step_by, step}
 use Rattle.cet_page.specs.Row.{row}
 use Rattle.cet_page.specs.Script.{Script, done, fault, ask, tell, Played, Completed, Faulted, Wants, play, birth, held_after}
-use Rattle.cet_page.specs.Seen.{Seen, keeps, kept_after, seen_after}
+use Rattle.cet_page.specs.ValsData.{ValsData, keeps, kept_after, vals_after}
 use Rattle.cet_page.specs.Trail.{Visit, visit, trail, row_trail, trail_of}
 use Rattle.cet_page.specs.Within.{Waits, CoreAt, IsCore}
 use Rattle.cet_page.specs.declared.finishes.Finish.{Finish}
@@ -91,10 +91,10 @@ drawn_more P wrote (tell word value changes s) n k zero (x ∷ vs) past a own v 
 drawn_more P wrote (tell word value changes s) n k (suc i) vs past a own v f h w =
     drawn_more P true s (n + 1) k i vs (visit (access.Store word value) 0 changes ∷ past) a own v f.1 h w
 
-row_more : (job : JobData) (core : Core) (a : Access) (own : ℕ → List Change) (v : ℕ) → Waits job core → row_played job core.arch core.seen ≡ Wants a own → drawn (row_trail job core.arch (seen_after core.seen a v)) ≡ draws (own v) (drawn (trail_of job core))
+row_more : (job : JobData) (core : Core) (a : Access) (own : ℕ → List Change) (v : ℕ) → Waits job core → row_played job core.arch core.vals ≡ Wants a own → drawn (row_trail job core.arch (vals_after core.vals a v)) ≡ draws (own v) (drawn (trail_of job core))
 row_more job core a own v h w =
     let arch = unheld core.arch in
-    rw add-one (drawn_more (Ends arch) false (row job arch) 0 0 core.seen.count core.seen.kept [] a own v (walk_row job arch).walks (spent job core h) w)
+    rw add-one (drawn_more (Ends arch) false (row job arch) 0 0 core.vals.accesses core.vals.values [] a own v (walk_row job arch).walks (spent job core h) w)
 
 -- ---- what a thread tells after its access
 
@@ -107,7 +107,7 @@ told_more : (trace : List Record) (r : Record) → told_in (trace ++ r ∷ []) �
 told_more trace r =
     flat_map-append (λ (x : Record). told x x.what) trace (r ∷ []) ∙ ap (λ (l : List Span). told_in trace ++ l) (append-nil (told r r.what))
 
-onward_came : (job : JobData) (thread : Thread) (held : Option ℕ) (seen : Seen) (d : Drawn) (child : Option Core) (c : Played Finish) → drawn (row_trail job thread.core.arch seen) ≡ d → CameTells EndTells d c → Onward job d thread (thread_after thread (left_by job thread.core.arch held seen c child))
+onward_came : (job : JobData) (thread : Thread) (held : Option ℕ) (seen : ValsData) (d : Drawn) (child : Option Core) (c : Played Finish) → drawn (row_trail job thread.core.arch seen) ≡ d → CameTells EndTells d c → Onward job d thread (thread_after thread (left_by job thread.core.arch held seen c child))
 onward_came job thread held seen d child (Wants a changes) e o = goes_on refl e
 onward_came job thread held seen d child (Faulted f) e o = ends [] (told_more thread.trace _) refl (tells_nothing refl o)
 onward_came job thread held seen d child (Completed (Noted next r) left values) e o = ends (told r r.what) (told_more thread.trace r) refl o
@@ -115,13 +115,13 @@ onward_came job thread held seen d child (Completed (Posted next) left values) e
 onward_came job thread held seen d child (Completed (Exited next r status) left values) e o = ends (told r r.what) (told_more thread.trace r) refl o
 onward_came job thread held seen d child (Completed Stopped left values) e o = ends [] (sym (append-nil (told_in thread.trace))) refl (tells_nothing refl o)
 
-onward : (job : JobData) (thread : Thread) (a : Access) (own : ℕ → List Change) (v : ℕ) → Waits job thread.core → row_played job thread.core.arch thread.core.seen ≡ Wants a own → Onward job (draws (next_changes job thread.core v) (row_drawn job thread)) thread (thread_after thread (taken job thread.core v))
+onward : (job : JobData) (thread : Thread) (a : Access) (own : ℕ → List Change) (v : ℕ) → Waits job thread.core → row_played job thread.core.arch thread.core.vals ≡ Wants a own → Onward job (draws (next_changes job thread.core v) (row_drawn job thread)) thread (thread_after thread (taken job thread.core v))
 unfolding taken
 onward job thread a own v h w =
     let core = thread.core in
-    let seen = seen_after core.seen a v in
+    let seen = vals_after core.vals a v in
     let more = row_more job core a own v h w in
-    let came = came_tells EndTells [] (row job (unheld core.arch)) seen.count seen.kept (row_tells job (unheld core.arch)) in
+    let came = came_tells EndTells [] (row job (unheld core.arch)) seen.accesses seen.values (row_tells job (unheld core.arch)) in
     let d = draws (own v) (row_drawn job thread) in
     let here : Onward job d thread (thread_after thread (answered job core v (Wants a own))) =
     onward_came job thread (held_after (own v) core.arch.held) seen d (child_of core.arch (own v)) (row_played job core.arch seen) more (subst (λ x. CameTells EndTells x (row_played job core.arch seen)) more came) in
@@ -279,7 +279,7 @@ module _ (job : JobData) (m : Machine) (t : ℕ) (b next : Book) (thread : Threa
 -- ---- a turn
 
 module _ (job : JobData) (m : Machine) (t : ℕ) (b next : Book) (book : IsBook b) (h : Recorded job b m.threads) where
-  recorded_access : (thread : Thread) → slice_get m.threads t ≡ Some thread → Waits job thread.core → (a : Access) (own : ℕ → List Change) → row_played job thread.core.arch thread.core.seen ≡ Wants a own → books_after t b (next_changes job thread.core (answer m.words a)) ≡ Some next → Recorded job next (accessed job m t thread a).threads
+  recorded_access : (thread : Thread) → slice_get m.threads t ≡ Some thread → Waits job thread.core → (a : Access) (own : ℕ → List Change) → row_played job thread.core.arch thread.core.vals ≡ Wants a own → books_after t b (next_changes job thread.core (answer m.words a)) ≡ Some next → Recorded job next (accessed job m t thread a).threads
   recorded_access thread found waits a own w is =
       let v = answer m.words a in
       let changes = next_changes job thread.core v in

@@ -8,7 +8,7 @@ use Rattle.cet_isa.specs.declared.threads.End.TheVariants as ending
 use Rattle.cet_book.specs.Book.{Book}
 use Rattle.cet_book.proofs.Relies.{Relies}
 use Rattle.cet_page.specs.Script.{Played, Completed, Faulted, Wants}
-use Rattle.cet_page.specs.Seen.{Seen, nothing_seen}
+use Rattle.cet_page.specs.ValsData.{ValsData, no_vals}
 use Rattle.cet_page.specs.Row.{row}
 use Rattle.cet_page.specs.Core.{Core, After, unheld, kept_by, faulted, core_by, noted_by}
 use Rattle.cet_page.specs.Within.{Waits, Rests, CoreAt, IsCore}
@@ -28,15 +28,15 @@ use Rattle.cet_own.proofs.Calls.{entries_of, Ends}
 use Rattle.cet_own.proofs.Rows.{row_claim}
 
 -- the claim on what is left of a thread's row
-abbrev pub Left : JobData → Arch → (before s : State) → Seen → Type 0
-Left job arch before s seen = SteadyAt (rules job arch.number) (During arch) (Ends job arch) (λ p. Fails job arch) [] before s (row job arch) seen.count seen.kept
+abbrev pub Left : JobData → Arch → (before s : State) → ValsData → Type 0
+Left job arch before s seen = SteadyAt (rules job arch.number) (During arch) (Ends job arch) (λ p. Fails job arch) [] before s (row job arch) seen.accesses seen.values
 
 -- a thread that waits for an access
 pub record InRow (job : JobData) (t : ℕ) (s : State) (core : Core) : Type 0 where
   pub waits : Waits job core
   pub number : core.arch.number ≡ t
   pub before : State
-  pub left : Left job (unheld core.arch) before s core.seen
+  pub left : Left job (unheld core.arch) before s core.vals
 
 -- an ended thread is at rest, and in no row
 abbrev pub Ended : JobData → (t : ℕ) → State → Core → Type 0
@@ -66,7 +66,7 @@ row_relies job t s now core r h =
       number = h.number;
       before = h.before;
       left = others_at (rules job core.arch.number) (During (unheld core.arch)) (Ends job (unheld core.arch)) (λ p. Fails job (unheld core.arch)) [] h.before s now
-          (row job (unheld core.arch)) core.seen.count core.seen.kept h.waits.waits.0 h.waits.waits.1 r' (λ p. stacked_kept r') h.left h.waits.waits.2;
+          (row job (unheld core.arch)) core.vals.accesses core.vals.values h.waits.waits.0 h.waits.waits.1 r' (λ p. stacked_kept r') h.left h.waits.waits.2;
     }
 
 core_relies : (job : JobData) (t : ℕ) (s now : State) (core : Core) (over : Option End) → Relies t s.book now.book → CoreStands job t s core over → CoreStands job t now core over
@@ -81,15 +81,15 @@ thread_relies job t s now (Some thread) r h = (held_relies t s.book now.book thr
 
 -- ---- what the thread itself comes to
 
-recorded_stands : (job : JobData) (next : Arch) (s : State) (b : Bool) → IsJob job → AtRest next.number s.book next.ssp → CoreAt job (record { arch = next; seen = nothing_seen; over = if b then Some ending.Limit else None }) (if b then Some ending.Limit else None) → CoreStands job next.number s (record { arch = next; seen = nothing_seen; over = if b then Some ending.Limit else None }) (if b then Some ending.Limit else None)
+recorded_stands : (job : JobData) (next : Arch) (s : State) (b : Bool) → IsJob job → AtRest next.number s.book next.ssp → CoreAt job (record { arch = next; vals = no_vals; over = if b then Some ending.Limit else None }) (if b then Some ending.Limit else None) → CoreStands job next.number s (record { arch = next; vals = no_vals; over = if b then Some ending.Limit else None }) (if b then Some ending.Limit else None)
 recorded_stands job next s true j rest w = (rest, refl, w, refl)
 recorded_stands job next s false j rest w = record { waits = w; number = refl; before = s; left = row_claim job j (unheld next) s s w.state.made rest }
 
 -- the thread and its record, by what its row has come to
-abbrev pub left_by : JobData → Arch → Option ℕ → Seen → Played Finish → Option Core → After
+abbrev pub left_by : JobData → Arch → Option ℕ → ValsData → Played Finish → Option Core → After
 left_by job arch held seen c child = record { core = core_by job arch held seen c; noted = noted_by arch c; child = child }
 
-pub came_stands : (job : JobData) (core : Core) (held : Option ℕ) (seen : Seen) (past : List Visit) (before s : State) (child : Option Core) (c : Played Finish) → IsJob job → Left job (unheld core.arch) before s seen → OnCame (rules job core.arch.number) (During (unheld core.arch)) (Ends job (unheld core.arch)) (λ p. Fails job (unheld core.arch)) past before s c → IsCore job (core_by job core.arch held seen c) → CoreStands job core.arch.number s (core_by job core.arch held seen c) (core_by job core.arch held seen c).over × NotedReturns job (entries_of core.arch.number before.book) core (left_by job core.arch held seen c child) (noted_by core.arch c) × NotedRestores before.book s.book (noted_by core.arch c)
+pub came_stands : (job : JobData) (core : Core) (held : Option ℕ) (seen : ValsData) (past : List Visit) (before s : State) (child : Option Core) (c : Played Finish) → IsJob job → Left job (unheld core.arch) before s seen → OnCame (rules job core.arch.number) (During (unheld core.arch)) (Ends job (unheld core.arch)) (λ p. Fails job (unheld core.arch)) past before s c → IsCore job (core_by job core.arch held seen c) → CoreStands job core.arch.number s (core_by job core.arch held seen c) (core_by job core.arch held seen c).over × NotedReturns job (entries_of core.arch.number before.book) core (left_by job core.arch held seen c child) (noted_by core.arch c) × NotedRestores before.book s.book (noted_by core.arch c)
 came_stands job core held seen past before s child (Wants a changes) j l o w = (record { waits = w; number = refl; before = before; left = l }, tt, tt)
 came_stands job core held seen past before s child (Faulted e) j l o w =
     (recorded_stands job (kept_by core.arch held (faulted core.arch e)) s (core.arch.count + 1 == job.limit) j o.0 w, λ r. (o.1 r, refl, refl), o.2)
@@ -100,7 +100,7 @@ came_stands job core held seen past before s child (Completed (Exited next r sta
 came_stands job core held seen past before s child (Completed Stopped left values) j l o w = ((o.0, refl, w, refl), tt, tt)
 
 -- a row that goes on has its trail, and one that is over leaves none
-pub came_still : (job : JobData) (arch : Arch) (held : Option ℕ) (seen : Seen) (c : Played Finish) (words : List ℕ) (t : ℕ) (b : Book) → Still words t b (trail seen.count (row job (unheld arch)) seen.kept []) → Still words t b (trail_of job (core_by job arch held seen c))
+pub came_still : (job : JobData) (arch : Arch) (held : Option ℕ) (seen : ValsData) (c : Played Finish) (words : List ℕ) (t : ℕ) (b : Book) → Still words t b (trail seen.accesses (row job (unheld arch)) seen.values []) → Still words t b (trail_of job (core_by job arch held seen c))
 came_still job arch held seen (Wants a changes) words t b h = h
 came_still job arch held seen (Faulted e) words t b h = still_none words t b
 came_still job arch held seen (Completed (Noted next r) left values) words t b h = still_none words t b

@@ -10,7 +10,7 @@ use Rattle.cet_isa.specs.declared.threads.Arch.{Arch}
 use Rattle.cet_page.specs.Script.{Played, Completed, Faulted, Wants, held_after}
 use Rattle.cet_page.specs.declared.finishes.Finish.{Finish}
 use Rattle.cet_page.specs.declared.finishes.Finish.TheVariants.{Noted, Posted, Exited, Stopped}
-use Rattle.cet_page.specs.Seen.{Seen, seen_after}
+use Rattle.cet_page.specs.ValsData.{ValsData, vals_after}
 use Rattle.cet_page.specs.Row.{row}
 use Rattle.cet_page.specs.Core.{Core, After, unheld, row_played, changes_of, next_changes, core_by, answered, taken, child_of}
 use Rattle.cet_page.proofs.WalkRows.{Ends, walk_row}
@@ -77,7 +77,7 @@ pub record LedBy (job : JobData) (words : List ℕ) (s : State) (core : Core) (a
   pub restores : NotedRestores s.book next.book left.noted
 
 -- a thread holds what its access left it
-held_by : (job : JobData) (arch : Arch) (held : Option ℕ) (seen : Seen) (c : Played Finish) → (core_by job arch held seen c).arch.held ≡ held
+held_by : (job : JobData) (arch : Arch) (held : Option ℕ) (seen : ValsData) (c : Played Finish) → (core_by job arch held seen c).arch.held ≡ held
 held_by job arch held seen (Wants a changes) = refl
 held_by job arch held seen (Faulted e) = refl
 held_by job arch held seen (Completed (Noted next r) left values) = refl
@@ -86,11 +86,11 @@ held_by job arch held seen (Completed (Exited next r status) left values) = refl
 held_by job arch held seen (Completed Stopped left values) = refl
 
 -- what a thread has seen after an access, and what its row has come to
-abbrev pub seen_by : Core → List ℕ → Access → Seen
-seen_by core words a = seen_after core.seen a (answer words a)
+abbrev pub vals_by : Core → List ℕ → Access → ValsData
+vals_by core words a = vals_after core.vals a (answer words a)
 
 abbrev pub come_to : JobData → Core → List ℕ → Access → Played Finish
-come_to job core words a = row_played job core.arch (seen_by core words a)
+come_to job core words a = row_played job core.arch (vals_by core words a)
 
 -- the thread that makes the access isn't born by it
 own_unborn : {t v : ℕ} {past : List Visit} {b : Book} {a : Access} {changes : List Change} (words : List ℕ) → v ≡ answer words a → CountersTell words t b → CountsBy t past b a v changes → NoneBorn changes t
@@ -101,22 +101,22 @@ own_unborn {t = t} {v = v} {a = a} words is counters_tell (bears_child s start e
     subst (λ cs. NoneBorn cs t) (sym ev) (λ z. counters_tell.other (omega arith) (sym z ∙ w), tt)
 own_unborn {t = t} {changes = changes} words is counters_tell (bears_nobody e many once none) = none_born changes t none
 
-led_wants : (job : JobData) (j : IsJob job) (words : List ℕ) (s : State) (core : Core) (a : Access) (own : ℕ → List Change) → CountersTell words core.arch.number s.book → Holds job.image words s.book → Still words core.arch.number s.book (trail_of job core) → Held core.arch.number s.book core.arch.held → InRow job core.arch.number s core → row_played job core.arch core.seen ≡ Wants a own → IsCore job (answered job core (answer words a) (Wants a own)).core → LedBy job words s core a (own (answer words a)) (answered job core (answer words a) (Wants a own))
+led_wants : (job : JobData) (j : IsJob job) (words : List ℕ) (s : State) (core : Core) (a : Access) (own : ℕ → List Change) → CountersTell words core.arch.number s.book → Holds job.image words s.book → Still words core.arch.number s.book (trail_of job core) → Held core.arch.number s.book core.arch.held → InRow job core.arch.number s core → row_played job core.arch core.vals ≡ Wants a own → IsCore job (answered job core (answer words a) (Wants a own)).core → LedBy job words s core a (own (answer words a)) (answered job core (answer words a) (Wants a own))
 led_wants job j words s core a own few h still held r w is_core =
     let changes = own (answer words a) in
     let holding = held_after changes core.arch.held in
-    let shown = row_trail job core.arch (seen_by core words a) in
+    let shown = row_trail job core.arch (vals_by core words a) in
     let walks = (walk_row job (unheld core.arch)).walks in
     let g = goes (rules job core.arch.number) (During (unheld core.arch)) (calls.Ends job (unheld core.arch)) (λ p. Fails job (unheld core.arch)) (Ends (unheld core.arch)) false 0 0 words [] r.before s
-    (row job (unheld core.arch)) core.seen.count core.seen.kept a own walks r.left w (known job.image core.arch.number words (trail_of job core) s.book a few h still) in
+    (row job (unheld core.arch)) core.vals.accesses core.vals.values a own walks r.left w (known job.image core.arch.number words (trail_of job core) s.book a few h still) in
     let is = after_book core.arch.number s g.next (books_after core.arch.number s.book changes) g.is in
     let grown : shown ≡ visit a (answer words a) changes ∷ trail_of job core = rw add-one g.grown in
-    let left : Left job (unheld core.arch) s g.next (seen_by core words a) = rw add-one g.left in
+    let left : Left job (unheld core.arch) s g.next (vals_by core words a) = rw add-one g.left in
     let came = on_came (rules job core.arch.number) (During (unheld core.arch)) (calls.Ends job (unheld core.arch)) (λ p. Fails job (unheld core.arch)) [] s g.next
-    (row job (unheld core.arch)) (core.seen.count + 1) (seen_by core words a).kept left in
-    let over = over_play (Ends (unheld core.arch)) false (row job (unheld core.arch)) 0 0 (seen_by core words a).count (seen_by core words a).kept walks in
+    (row job (unheld core.arch)) (core.vals.accesses + 1) (vals_by core words a).values left in
+    let over = over_play (Ends (unheld core.arch)) false (row job (unheld core.arch)) 0 0 (vals_by core words a).accesses (vals_by core words a).values walks in
     let came' : OnCame (rules job core.arch.number) (During (unheld core.arch)) (calls.Ends job (unheld core.arch)) (λ p. Fails job (unheld core.arch)) shown s g.next (come_to job core words a) = came in
-    let pays = came_pays job core.arch holding (seen_by core words a) s g.next (come_to job core words a) came' over in
+    let pays = came_pays job core.arch holding (vals_by core words a) s g.next (come_to job core words a) came' over in
     let now : drew shown ≡ (is_draw a || drew (trail_of job core)) = ap drew grown in
     let now' : numbered shown ≡ (is_number a || numbered (trail_of job core)) = ap numbered grown in
     let counts = g.owed.counts words refl h in
@@ -127,7 +127,7 @@ led_wants job j words s core a own few h still held r w is_core =
     let all' = pays.nexts in
     let one_now = ap one now in
     let one_now' = ap one now' in
-    let k = came_stands job core holding (seen_by core words a) shown s g.next
+    let k = came_stands job core holding (vals_by core words a) shown s g.next
     (child_of core.arch changes) (come_to job core words a) j left came is_core in
     record {
       next = g.next;
@@ -135,7 +135,7 @@ led_wants job j words s core a own few h still held r w is_core =
       is = is;
       holds = g.owed.keeps words g.next.book refl h still is;
       others = λ y n none. others_rely core.arch.number y changes s.book g.next.book h.sound.book is n none;
-      still = came_still job core.arch holding (seen_by core words a) (come_to job core words a) (after words a) core.arch.number g.next.book
+      still = came_still job core.arch holding (vals_by core words a) (come_to job core words a) (after words a) core.arch.number g.next.book
           (subst (Still (after words a) core.arch.number g.next.book) (sym grown)
           (still_own words core.arch.number s.book g.next.book (trail_of job core) a changes h.size h.restorers (g.owed.restorers words refl h) h.sound.book (own_unborn words refl few counts) is still));
       spared = λ y n none past old.
@@ -143,7 +143,7 @@ led_wants job j words s core a own few h still held r w is_core =
           (changes_come core.arch.number y changes s.book g.next.book h.sound.book is none (other_apart core.arch.number y changes n))
           (λ w own. g.owed.spares words refl h y n w own) (g.owed.restorers words refl h) old;
       held = subst (Held core.arch.number g.next.book)
-          (sym (held_by job core.arch holding (seen_by core words a) (come_to job core words a)))
+          (sym (held_by job core.arch holding (vals_by core words a) (come_to job core words a)))
           (changes_held core.arch.number changes s.book g.next.book core.arch.held h.sound.book is held);
       draws = omega (arith, draws_now, all, one_now);
       nexts = omega (arith, nexts_now, all', one_now');
@@ -154,14 +154,14 @@ led_wants job j words s core a own few h still held r w is_core =
       restores = k.2;
     }
 
-led_come : (job : JobData) (j : IsJob job) (words : List ℕ) (s : State) (core : Core) (a : Access) (own : ℕ → List Change) → CountersTell words core.arch.number s.book → Holds job.image words s.book → Still words core.arch.number s.book (trail_of job core) → Held core.arch.number s.book core.arch.held → InRow job core.arch.number s core → row_played job core.arch core.seen ≡ Wants a own → LedBy job words s core a (own (answer words a)) (taken job core (answer words a))
+led_come : (job : JobData) (j : IsJob job) (words : List ℕ) (s : State) (core : Core) (a : Access) (own : ℕ → List Change) → CountersTell words core.arch.number s.book → Holds job.image words s.book → Still words core.arch.number s.book (trail_of job core) → Held core.arch.number s.book core.arch.held → InRow job core.arch.number s core → row_played job core.arch core.vals ≡ Wants a own → LedBy job words s core a (own (answer words a)) (taken job core (answer words a))
 unfolding taken
 led_come job j words s core a own few h still held r w =
     let is_core : IsCore job (answered job core (answer words a) (Wants a own)).core = subst (λ c. IsCore job (answered job core (answer words a) c).core) w (taken_is job core (answer words a) r.waits) in
     subst (λ c. LedBy job words s core a (own (answer words a)) (answered job core (answer words a) c)) (sym w) (led_wants job j words s core a own few h still held r w is_core)
 
 -- an access of a thread that waits for it
-pub led : (job : JobData) (j : IsJob job) (words : List ℕ) (t : ℕ) (s : State) (core : Core) (a : Access) (own : ℕ → List Change) → CountersTell words t s.book → Holds job.image words s.book → Still words t s.book (trail_of job core) → Held t s.book core.arch.held → InRow job t s core → row_played job core.arch core.seen ≡ Wants a own → Led job words t s core a
+pub led : (job : JobData) (j : IsJob job) (words : List ℕ) (t : ℕ) (s : State) (core : Core) (a : Access) (own : ℕ → List Change) → CountersTell words t s.book → Holds job.image words s.book → Still words t s.book (trail_of job core) → Held t s.book core.arch.held → InRow job t s core → row_played job core.arch core.vals ≡ Wants a own → Led job words t s core a
 led job j words t s core a own few h still held r w =
     let same : own (answer words a) ≡ next_changes job core (answer words a) = sym (ap (λ c. changes_of c (answer words a)) w) in
     subst (λ n. Led job words n s core a) r.number

@@ -76,7 +76,7 @@ row_stacked : (job : JobData) (t : ℕ) (s : State) (core : Core) → InRow job 
 row_stacked job t s core r =
     subst (λ n. Stacked n s.book (in_force job core)) r.number
     (during_at (rules job core.arch.number) (During (unheld core.arch)) (Ends job (unheld core.arch)) (λ p. Fails job (unheld core.arch)) [] r.before s
-    (row job (unheld core.arch)) core.seen.count core.seen.kept r.waits.waits.0 r.waits.waits.1 r.left r.waits.waits.2)
+    (row job (unheld core.arch)) core.vals.accesses core.vals.values r.waits.waits.0 r.waits.waits.1 r.left r.waits.waits.2)
 
 -- out of a row the pointer in force is SSP
 ended_stacked : (job : JobData) (t : ℕ) (s : State) (core : Core) → Ended job t s core → Stacked t s.book (in_force job core)
@@ -331,7 +331,7 @@ module _ (job : JobData) (j : IsJob job) (m : Machine) (t : ℕ) (s : State) (th
       made_by d p y x (other n q none) = p.bounds x.core.arch.made (st.made y x q)
       made_by d p y x (newcomer c) = c.made
 
-  pub acts : (changes : ℕ → List Change) → ThreadStands job t s (Some thread) → InRow job t s thread.core → row_played job thread.core.arch thread.core.seen ≡ Wants a changes → TurnedBy job m t s thread (Some a)
+  pub acts : (changes : ℕ → List Change) → ThreadStands job t s (Some thread) → InRow job t s thread.core → row_played job thread.core.arch thread.core.vals ≡ Wants a changes → TurnedBy job m t s thread (Some a)
   acts changes at r w =
       let inside = slice_get_within m.threads t thread e in
       let before = counters_tell job m.words m.threads t thread s.book j st.paid e (λ y q. subst (ThreadStands job y s) q (st.threads y)) in

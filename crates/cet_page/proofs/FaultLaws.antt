@@ -15,10 +15,10 @@ use Rattle.cet_isa.specs.declared.threads.FaultName.{FaultName}
 use Rattle.cet_isa.specs.declared.threads.Record.{Record}
 use Rattle.cet_isa.specs.declared.threads.What.TheVariants as what
 use Rattle.cet_page.specs.Script.{Script, done, fault, ask, tell, Played, Completed, Faulted, Wants, play, held_after}
-use Rattle.cet_page.specs.Seen.{seen_after, kept_after}
+use Rattle.cet_page.specs.ValsData.{vals_after, kept_after}
 use Rattle.cet_page.specs.Within.{Waits, IsCore}
 use Rattle.cet_page.proofs.WithinLaws.{spent, shows_next, waiting}
-use Rattle.cet_page.specs.Trail.{Visit, visit, trail, seen_of, row_trail}
+use Rattle.cet_page.specs.Trail.{Visit, visit, trail, vals_of, row_trail}
 use Rattle.cet_page.specs.Faults.{KeepsWords, Faults}
 use Rattle.cet_page.specs.Row.{row}
 use Rattle.cet_page.specs.Core.{Core, unheld, row_played, wanted, access_of, next_access, core_by, noted_by, answered, taken}
@@ -73,13 +73,13 @@ flow_clean arch i next n values e h = fault_clean (EndsRow arch) (flow arch i ne
 
 -- ---- what the answer to an access leaves
 
-same_access : (job : JobData) (core : Core) (over : Option End) (a b : Access) (own : ℕ → List Change) → row_played job core.arch core.seen ≡ Wants b own → access_of job core over ≡ Some a → a ≡ b
+same_access : (job : JobData) (core : Core) (over : Option End) (a b : Access) (own : ℕ → List Change) → row_played job core.arch core.vals ≡ Wants b own → access_of job core over ≡ Some a → a ≡ b
 same_access job core (Some e) a b own w h = cc
 same_access job core None a b own w h =
-    let o : wanted (row_played job core.arch core.seen) ≡ Some b = ap wanted w in
+    let o : wanted (row_played job core.arch core.vals) ≡ Some b = ap wanted w in
     cc
 
-came_faults : (job : JobData) (core : Core) (answer : ℕ) (b : Access) (own : ℕ → List Change) (r : Record) (name : FaultName) (c : Played Finish) → Waits job core → row_played job core.arch core.seen ≡ Wants b own → row_played job core.arch (seen_after core.seen b answer) ≡ c → OnOver (Ends (unheld core.arch)) c → noted_by core.arch c ≡ Some r → r.what ≡ what.Fault name → Faults job core (core_by job core.arch (held_after (own answer) core.arch.held) (seen_after core.seen b answer) c) answer r
+came_faults : (job : JobData) (core : Core) (answer : ℕ) (b : Access) (own : ℕ → List Change) (r : Record) (name : FaultName) (c : Played Finish) → Waits job core → row_played job core.arch core.vals ≡ Wants b own → row_played job core.arch (vals_after core.vals b answer) ≡ c → OnOver (Ends (unheld core.arch)) c → noted_by core.arch c ≡ Some r → r.what ≡ what.Fault name → Faults job core (core_by job core.arch (held_after (own answer) core.arch.held) (vals_after core.vals b answer) c) answer r
 unfolding next_access
 came_faults job core answer b own r name (Wants a changes) h w e o n f = cc
 came_faults job core answer b own r name (Faulted x) h w e o n f = record {
@@ -87,32 +87,32 @@ came_faults job core answer b own r name (Faulted x) h w e o n f = record {
   noted = cc;
   arch =
       let start = unheld core.arch in
-      let more : core.seen.count + 1 ≡ suc core.seen.count = omega arith in
-      let left = still_at (Ends start) false (row job start) 0 0 core.seen.count core.seen.kept b own answer x (walk_row job start).walks (spent job core h) w
-      (subst (λ (k : ℕ). play (row job start) k (kept_after core.seen.kept b answer) ≡ Faulted x) more e) in
+      let more : core.vals.accesses + 1 ≡ suc core.vals.accesses = omega arith in
+      let left = still_at (Ends start) false (row job start) 0 0 core.vals.accesses core.vals.values b own answer x (walk_row job start).walks (spent job core h) w
+      (subst (λ (k : ℕ). play (row job start) k (kept_after core.vals.values b answer) ≡ Faulted x) more e) in
       ap (λ (held : Option ℕ). record core.arch { count = core.arch.count + 1; due = Some x; held = held }) (held_still (own answer) core.arch.held left);
   accesses = λ a next.
-      subst (λ y. seen_of (row_trail job core.arch (seen_after core.seen y answer)) ≡ seen_after core.seen y answer) (sym (same_access job core core.over a b own w next)) (shows_next job core b own answer h w);
+      subst (λ y. vals_of (row_trail job core.arch (vals_after core.vals y answer)) ≡ vals_after core.vals y answer) (sym (same_access job core core.over a b own w next)) (shows_next job core b own answer h w);
   words = λ a next.
       let start = unheld core.arch in
-      let clean = fault_clean (Ends start) (row job start) 0 0 (seen_after core.seen b answer).count (seen_after core.seen b answer).kept x (walk_row job start).walks e in
-      subst (λ y. All KeepsWords (row_trail job core.arch (seen_after core.seen y answer))) (sym (same_access job core core.over a b own w next)) clean;
+      let clean = fault_clean (Ends start) (row job start) 0 0 (vals_after core.vals b answer).accesses (vals_after core.vals b answer).values x (walk_row job start).walks e in
+      subst (λ y. All KeepsWords (row_trail job core.arch (vals_after core.vals y answer))) (sym (same_access job core core.over a b own w next)) clean;
 }
 came_faults job core answer b own r name (Completed (Noted next noted) left values) h w e o n f = let t : tells noted.what ≡ false = (let same : noted ≡ r = cc in ap (λ (x : Record). tells x.what) same ∙ ap tells f) in let u = o.tells in cc
 came_faults job core answer b own r name (Completed (Posted next) left values) h w e o n f = cc
 came_faults job core answer b own r name (Completed (Exited next noted status) left values) h w e o n f = let t : tells noted.what ≡ false = (let same : noted ≡ r = cc in ap (λ (x : Record). tells x.what) same ∙ ap tells f) in let u = o.tells in cc
 came_faults job core answer b own r name (Completed Stopped left values) h w e o n f = cc
 
-answered_faults : (job : JobData) (core : Core) (answer : ℕ) (r : Record) (name : FaultName) (c : Played Finish) → Waits job core → row_played job core.arch core.seen ≡ c → (answered job core answer c).noted ≡ Some r → r.what ≡ what.Fault name → Faults job core (answered job core answer c).core answer r
+answered_faults : (job : JobData) (core : Core) (answer : ℕ) (r : Record) (name : FaultName) (c : Played Finish) → Waits job core → row_played job core.arch core.vals ≡ c → (answered job core answer c).noted ≡ Some r → r.what ≡ what.Fault name → Faults job core (answered job core answer c).core answer r
 answered_faults job core answer r name (Wants b own) h w n f =
-    let seen = seen_after core.seen b answer in
-    came_faults job core answer b own r name (row_played job core.arch seen) h w refl (over_play (Ends (unheld core.arch)) false (row job (unheld core.arch)) 0 0 seen.count seen.kept (walk_row job (unheld core.arch)).walks) n f
+    let seen = vals_after core.vals b answer in
+    came_faults job core answer b own r name (row_played job core.arch seen) h w refl (over_play (Ends (unheld core.arch)) false (row job (unheld core.arch)) 0 0 seen.accesses seen.values (walk_row job (unheld core.arch)).walks) n f
 answered_faults job core answer r name (Faulted e) h w n f = cc
 answered_faults job core answer r name (Completed x left values) h w n f = cc
 
 taken_faults : (job : JobData) (core : Core) (answer : ℕ) (r : Record) (name : FaultName) → Waits job core → (taken job core answer).noted ≡ Some r → r.what ≡ what.Fault name → Faults job core (taken job core answer).core answer r
 unfolding taken
-taken_faults job core answer r name h n f = answered_faults job core answer r name (row_played job core.arch core.seen) h refl n f
+taken_faults job core answer r name h n f = answered_faults job core answer r name (row_played job core.arch core.vals) h refl n f
 
 -- the same of a thread and a record by other names
 pub faults_of : (job : JobData) (core new : Core) (answer : ℕ) (noted : Option Record) → IsCore job core → core.over ≡ None → new ≡ (taken job core answer).core → noted ≡ (taken job core answer).noted → (r : Record) (name : FaultName) → noted ≡ Some r → r.what ≡ what.Fault name → Faults job core new answer r

@@ -4,8 +4,8 @@ use Rattle.std.specs.Prelude.{◌≡◌, ℕ, ◌+◌, Bool, List, [], ◌∷◌
 use Rattle.cet_words.specs.declared.accesses.Access.{Access}
 use Rattle.cet_words.specs.declared.accesses.Access.TheVariants as access
 use Rattle.cet_page.specs.Script.{Script, done, fault, ask, tell}
-use Rattle.cet_page.specs.Seen.{Seen, keeps, kept_after}
-use Rattle.cet_page.specs.Trail.{Visit, visit, trail, seen_of}
+use Rattle.cet_page.specs.ValsData.{ValsData, keeps, kept_after}
+use Rattle.cet_page.specs.Trail.{Visit, visit, trail, vals_of}
 use Rattle.cet_page.proofs.Walk.{Walks, Spent, acted}
 
 kept_one : (l : List ℕ) (a : Access) (v : ℕ) → keeps a ≡ true → kept_after l a v ≡ l ++ v ∷ []
@@ -15,8 +15,8 @@ one_more : (l vs all : List ℕ) (v : ℕ) → all ≡ (l ++ v ∷ []) ++ vs →
 one_more l vs all v e = e ∙ append_assoc l (v ∷ []) vs
 
 -- a trail that goes the way of the script shows as many accesses, and the answers kept of them
-shows : {A : Type 0} (P : A → Type 0) (wrote : Bool) (s : Script A) (n k i : ℕ) (vs : List ℕ) (past : List Visit) → Walks n k wrote P s → Spent s i vs → ((seen_of (trail i s vs past)).count ≡ (seen_of past).count + i) × ((seen_of (trail i s vs past)).kept ≡ (seen_of past).kept ++ vs)
-shows P wrote s n k zero [] past h w = (omega arith, sym (append-nil (seen_of past).kept))
+shows : {A : Type 0} (P : A → Type 0) (wrote : Bool) (s : Script A) (n k i : ℕ) (vs : List ℕ) (past : List Visit) → Walks n k wrote P s → Spent s i vs → ((vals_of (trail i s vs past)).accesses ≡ (vals_of past).accesses + i) × ((vals_of (trail i s vs past)).values ≡ (vals_of past).values ++ vs)
+shows P wrote s n k zero [] past h w = (omega arith, sym (append-nil (vals_of past).values))
 shows P wrote s n k zero (v ∷ vs) past h w = absurd w
 shows P wrote (done x) n k (suc i) vs past h w = absurd w
 shows P wrote (fault e) n k (suc i) vs past h w = absurd w
@@ -24,16 +24,16 @@ shows P wrote (ask a changes f) n k (suc i) [] past h w = absurd w
 shows P wrote (ask a changes f) n k (suc i) (v ∷ vs) past h w =
     let g = h.1 v in
     let r = shows P (acted wrote a v (changes v)) (f v) (n + 1) (k + 1) i vs (visit a v (changes v) ∷ past) g.1 w in
-    (omega arith, one_more (seen_of past).kept vs _ v (r.1 ∙ ap (λ l. l ++ vs) (kept_one (seen_of past).kept a v h.0)))
+    (omega arith, one_more (vals_of past).values vs _ v (r.1 ∙ ap (λ l. l ++ vs) (kept_one (vals_of past).values a v h.0)))
 shows P wrote (tell word value changes s) n k (suc i) vs past h w =
     let r = shows P true s (n + 1) k i vs (visit (access.Store word value) 0 changes ∷ past) h.1 w in
     (omega arith, r.1)
 
-seen_is : (x : Seen) (n : ℕ) (vs : List ℕ) → x.count ≡ n → x.kept ≡ vs → x ≡ record { count = n; kept = vs }
-seen_is x n vs p q = subst (λ (m : ℕ). x ≡ record { count = m; kept = vs }) p (subst (λ (l : List ℕ). x ≡ record { count = x.count; kept = l }) q refl)
+seen_is : (x : ValsData) (n : ℕ) (vs : List ℕ) → x.accesses ≡ n → x.values ≡ vs → x ≡ record { accesses = n; values = vs }
+seen_is x n vs p q = subst (λ (m : ℕ). x ≡ record { accesses = m; values = vs }) p (subst (λ (l : List ℕ). x ≡ record { accesses = x.accesses; values = l }) q refl)
 
-pub trail_shows : {A : Type 0} (P : A → Type 0) (s : Script A) (n k i : ℕ) (vs : List ℕ) → Walks n k false P s → Spent s i vs → seen_of (trail i s vs []) ≡ record { count = i; kept = vs }
-trail_shows P s n k i vs h w = let r = shows P false s n k i vs [] h w in seen_is (seen_of (trail i s vs [])) i vs (omega arith) r.1
+pub trail_shows : {A : Type 0} (P : A → Type 0) (s : Script A) (n k i : ℕ) (vs : List ℕ) → Walks n k false P s → Spent s i vs → vals_of (trail i s vs []) ≡ record { accesses = i; values = vs }
+trail_shows P s n k i vs h w = let r = shows P false s n k i vs [] h w in seen_is (vals_of (trail i s vs [])) i vs (omega arith) r.1
 
 -- ---- and the other way round
 
@@ -48,18 +48,18 @@ too_many l v vs e =
 one_less : (l vs all : List ℕ) (v : ℕ) → all ≡ l ++ v ∷ vs → all ≡ (l ++ v ∷ []) ++ vs
 one_less l vs all v e = e ∙ sym (append_assoc l (v ∷ []) vs)
 
-shown : {A : Type 0} (P : A → Type 0) (wrote : Bool) (s : Script A) (n k i : ℕ) (vs : List ℕ) (past : List Visit) → Walks n k wrote P s → (seen_of (trail i s vs past)).count ≡ (seen_of past).count + i → (seen_of (trail i s vs past)).kept ≡ (seen_of past).kept ++ vs → Spent s i vs
+shown : {A : Type 0} (P : A → Type 0) (wrote : Bool) (s : Script A) (n k i : ℕ) (vs : List ℕ) (past : List Visit) → Walks n k wrote P s → (vals_of (trail i s vs past)).accesses ≡ (vals_of past).accesses + i → (vals_of (trail i s vs past)).values ≡ (vals_of past).values ++ vs → Spent s i vs
 shown P wrote s n k zero [] past h c l = tt
-shown P wrote s n k zero (v ∷ vs) past h c l = too_many (seen_of past).kept v vs l
-shown P wrote (done x) n k (suc i) vs past h c l = too_few (seen_of past).count i c
-shown P wrote (fault e) n k (suc i) vs past h c l = too_few (seen_of past).count i c
-shown P wrote (ask a changes f) n k (suc i) [] past h c l = too_few (seen_of past).count i c
+shown P wrote s n k zero (v ∷ vs) past h c l = too_many (vals_of past).values v vs l
+shown P wrote (done x) n k (suc i) vs past h c l = too_few (vals_of past).accesses i c
+shown P wrote (fault e) n k (suc i) vs past h c l = too_few (vals_of past).accesses i c
+shown P wrote (ask a changes f) n k (suc i) [] past h c l = too_few (vals_of past).accesses i c
 shown P wrote (ask a changes f) n k (suc i) (v ∷ vs) past h c l =
     let g = h.1 v in
     shown P (acted wrote a v (changes v)) (f v) (n + 1) (k + 1) i vs (visit a v (changes v) ∷ past) g.1 (omega arith)
-    (one_less (seen_of past).kept vs _ v l ∙ ap (λ m. m ++ vs) (sym (kept_one (seen_of past).kept a v h.0)))
+    (one_less (vals_of past).values vs _ v l ∙ ap (λ m. m ++ vs) (sym (kept_one (vals_of past).values a v h.0)))
 shown P wrote (tell word value changes s) n k (suc i) vs past h c l =
     shown P true s (n + 1) k i vs (visit (access.Store word value) 0 changes ∷ past) h.1 (omega arith) l
 
-pub trail_spent : {A : Type 0} (P : A → Type 0) (s : Script A) (n k : ℕ) (seen : Seen) → Walks n k false P s → seen_of (trail seen.count s seen.kept []) ≡ seen → Spent s seen.count seen.kept
-trail_spent P s n k seen h e = shown P false s n k seen.count seen.kept [] h (ap (λ (x : Seen). x.count) e ∙ omega arith) (ap (λ (x : Seen). x.kept) e)
+pub trail_spent : {A : Type 0} (P : A → Type 0) (s : Script A) (n k : ℕ) (seen : ValsData) → Walks n k false P s → vals_of (trail seen.accesses s seen.values []) ≡ seen → Spent s seen.accesses seen.values
+trail_spent P s n k seen h e = shown P false s n k seen.accesses seen.values [] h (ap (λ (x : ValsData). x.accesses) e ∙ omega arith) (ap (λ (x : ValsData). x.values) e)

@@ -15,7 +15,7 @@ use Rattle.cet_isa.specs.declared.instructions.Size.{Size}
 use Rattle.cet_isa.specs.declared.threads.Arch.{Arch}
 use Rattle.cet_isa.specs.declared.threads.Fault.{Fault}
 use Rattle.cet_page.specs.Script.{Script, done, fault, ask, tell, ◌>>=◌, Played, Completed, Faulted, Wants, play, birth, held_after}
-use Rattle.cet_page.specs.Seen.{keeps, kept_after}
+use Rattle.cet_page.specs.ValsData.{keeps, kept_after}
 use Rattle.cet_page.specs.Page.{allows, page_fault}
 use Rattle.cet_page.specs.Parts.{tested_as, look_in_as, look_as, probe_in, probe, peek, load_as, store_as, exchange_as, swap, fetch_add_as, stores, store_each, general_protection}
 use Rattle.cet_page.specs.Values.{limit, width}

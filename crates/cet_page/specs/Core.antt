@@ -11,7 +11,7 @@ use Rattle.cet_isa.specs.declared.threads.End.{End}
 use Rattle.cet_isa.specs.declared.threads.End.TheVariants as ending
 use Rattle.cet_words.specs.Change.{Change}
 use Rattle.cet_page.specs.Script.{Played, Completed, Faulted, Wants, play, birth, held_after}
-use Rattle.cet_page.specs.Seen.{Seen, nothing_seen, seen_after}
+use Rattle.cet_page.specs.ValsData.{ValsData, no_vals, vals_after}
 use Rattle.cet_page.specs.Gate.{after_syscall}
 use Rattle.cet_page.specs.Row.{row}
 use Rattle.cet_page.specs.declared.finishes.Finish.{Finish}
@@ -20,7 +20,7 @@ use Rattle.cet_page.specs.declared.finishes.Finish.TheVariants.{Noted, Posted, E
 -- the state, what was seen in the present row, and the end
 pub record Core : Type 0 where
   pub arch : Arch
-  pub seen : Seen
+  pub vals : ValsData
   pub over : Option End
 
 -- what an access leaves: the thread, the record that it completed, and the thread that it bore
@@ -49,7 +49,7 @@ core_at entry = record {
     due = None;
     held = None;
   };
-  seen = nothing_seen;
+  vals = no_vals;
   over = None;
 }
 
@@ -61,8 +61,8 @@ abbrev pub unheld : Arch → Arch
 unheld arch = record arch { held = None }
 
 -- what a row has come to
-abbrev pub row_played : JobData → Arch → Seen → Played Finish
-row_played job arch seen = play (row job (unheld arch)) seen.count seen.kept
+abbrev pub row_played : JobData → Arch → ValsData → Played Finish
+row_played job arch seen = play (row job (unheld arch)) seen.accesses seen.values
 
 abbrev pub wanted : Played Finish → Option Access
 wanted (Wants a changes) = Some a
@@ -71,7 +71,7 @@ wanted (Completed x left values) = None
 
 abbrev pub access_of : JobData → Core → Option End → Option Access
 access_of job core (Some e) = None
-access_of job core None = wanted (row_played job core.arch core.seen)
+access_of job core None = wanted (row_played job core.arch core.vals)
 
 -- the next access; none where the thread has ended, and some where it waits in a row
 unfoldable pub next_access : JobData → Core → Option Access
@@ -84,7 +84,7 @@ changes_of (Faulted e) answer = []
 changes_of (Completed x left values) answer = []
 
 abbrev pub next_changes : JobData → Core → (answer : ℕ) → List Change
-next_changes job core answer = changes_of (row_played job core.arch core.seen) answer
+next_changes job core answer = changes_of (row_played job core.arch core.vals) answer
 
 -- the child of a clone: the parent's registers after SYSCALL with RAX 0 and the stack of RSI, and its own shadow stack
 abbrev pub child_arch : Arch → (child start : ℕ) → Arch
@@ -101,7 +101,7 @@ child_arch arch child start = record arch {
 }
 
 abbrev pub child_core : Arch → (child start : ℕ) → Core
-child_core arch child start = record { arch = child_arch arch child start; seen = nothing_seen; over = None }
+child_core arch child start = record { arch = child_arch arch child start; vals = no_vals; over = None }
 
 -- a birth appends the child
 abbrev pub born : Arch → Option (ℕ × ℕ) → Option Core
@@ -117,7 +117,7 @@ kept_by arch held next = record next { number = arch.number; held = held }
 
 -- after a record the thread goes on, unless it has reached the limit
 abbrev pub recorded : JobData → Arch → Core
-recorded job next = record { arch = next; seen = nothing_seen; over = if next.count == job.limit then Some ending.Limit else None }
+recorded job next = record { arch = next; vals = no_vals; over = if next.count == job.limit then Some ending.Limit else None }
 
 abbrev pub fault_record : Arch → Fault → Record
 fault_record arch e = record { rip = arch.rip; what = what.Fault e.name; code = e.code; a = e.a; b = e.b }
@@ -127,14 +127,14 @@ abbrev pub faulted : Arch → Fault → Arch
 faulted arch e = record arch { due = Some e; count = arch.count + 1 }
 
 -- the thread, by what its row has come to
-abbrev pub core_by : JobData → Arch → Option ℕ → Seen → Played Finish → Core
-core_by job arch held seen (Wants a changes) = record { arch = kept_by arch held arch; seen = seen; over = None }
+abbrev pub core_by : JobData → Arch → Option ℕ → ValsData → Played Finish → Core
+core_by job arch held seen (Wants a changes) = record { arch = kept_by arch held arch; vals = seen; over = None }
 core_by job arch held seen (Faulted e) = recorded job (kept_by arch held (faulted arch e))
 core_by job arch held seen (Completed (Noted next noted) left values) = recorded job (kept_by arch held next)
-core_by job arch held seen (Completed (Posted next) left values) = record { arch = kept_by arch held next; seen = nothing_seen; over = None }
+core_by job arch held seen (Completed (Posted next) left values) = record { arch = kept_by arch held next; vals = no_vals; over = None }
 core_by job arch held seen (Completed (Exited next noted status) left values) =
-    record { arch = kept_by arch held next; seen = nothing_seen; over = Some (ending.Exit status) }
-core_by job arch held seen (Completed Stopped left values) = record { arch = kept_by arch held arch; seen = nothing_seen; over = Some ending.Group }
+    record { arch = kept_by arch held next; vals = no_vals; over = Some (ending.Exit status) }
+core_by job arch held seen (Completed Stopped left values) = record { arch = kept_by arch held arch; vals = no_vals; over = Some ending.Group }
 
 -- the record that came with it
 abbrev pub noted_by : Arch → Played Finish → Option Record
@@ -148,8 +148,8 @@ noted_by arch (Completed Stopped left values) = None
 -- what the answer to a wanted access leaves
 abbrev pub answered : JobData → Core → (answer : ℕ) → Played Finish → After
 answered job core answer (Wants a changes) = record {
-  core = core_by job core.arch (held_after (changes answer) core.arch.held) (seen_after core.seen a answer) (row_played job core.arch (seen_after core.seen a answer));
-  noted = noted_by core.arch (row_played job core.arch (seen_after core.seen a answer));
+  core = core_by job core.arch (held_after (changes answer) core.arch.held) (vals_after core.vals a answer) (row_played job core.arch (vals_after core.vals a answer));
+  noted = noted_by core.arch (row_played job core.arch (vals_after core.vals a answer));
   child = child_of core.arch (changes answer);
 }
 answered job core answer (Faulted e) = record { core = core; noted = None; child = None }
@@ -157,4 +157,4 @@ answered job core answer (Completed x left values) = record { core = core; noted
 
 -- what the answer to its next access makes of a thread that hasn't ended
 unfoldable pub taken : JobData → Core → (answer : ℕ) → After
-taken job core answer = answered job core answer (row_played job core.arch core.seen)
+taken job core answer = answered job core answer (row_played job core.arch core.vals)

@@ -6,8 +6,8 @@ use Rattle.cet_words.specs.Job.{JobData}
 use Rattle.cet_words.specs.declared.accesses.Access.{Access}
 use Rattle.cet_isa.specs.declared.threads.Fault.{Fault}
 use Rattle.cet_isa.specs.declared.threads.Record.{Record}
-use Rattle.cet_page.specs.Seen.{seen_after}
-use Rattle.cet_page.specs.Trail.{Visit, seen_of, row_trail}
+use Rattle.cet_page.specs.ValsData.{vals_after}
+use Rattle.cet_page.specs.Trail.{Visit, vals_of, row_trail}
 use Rattle.cet_page.specs.Core.{Core, next_access, fault_record}
 
 -- the access left all words as they were: it does so to any words that give the answer that it had
@@ -22,5 +22,5 @@ pub record Faults (job : JobData) (before after : Core) (answer : ℕ) (r : Reco
   -- nothing else of the thread has changed, no register, flag, mask or pointer, and there is one record more
   pub arch : after.arch ≡ record before.arch { count = before.arch.count + 1; due = Some fault }
   -- the row has made these accesses, the last one with them, and each has left the words as they were
-  pub accesses : (a : Access) → next_access job before ≡ Some a → seen_of (row_trail job before.arch (seen_after before.seen a answer)) ≡ seen_after before.seen a answer
-  pub words : (a : Access) → next_access job before ≡ Some a → All KeepsWords (row_trail job before.arch (seen_after before.seen a answer))
+  pub accesses : (a : Access) → next_access job before ≡ Some a → vals_of (row_trail job before.arch (vals_after before.vals a answer)) ≡ vals_after before.vals a answer
+  pub words : (a : Access) → next_access job before ≡ Some a → All KeepsWords (row_trail job before.arch (vals_after before.vals a answer))

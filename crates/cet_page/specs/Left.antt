@@ -8,4 +8,4 @@ use Rattle.cet_page.specs.Core.{Core}
 -- those of the present row.
 abbrev pub left_of : JobData → Core → Option End → ℕ
 left_of job core (Some e) = 0
-left_of job core None = 4096 * (job.limit - core.arch.count) + (4096 - core.seen.count)
+left_of job core None = 4096 * (job.limit - core.arch.count) + (4096 - core.vals.accesses)

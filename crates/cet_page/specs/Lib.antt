@@ -1,5 +1,5 @@
 pub mod Script
-pub mod Seen
+pub mod ValsData
 pub mod Page
 pub mod Parts
 pub mod Finish

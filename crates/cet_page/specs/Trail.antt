@@ -8,7 +8,7 @@ use Rattle.cet_words.specs.declared.accesses.Access.{Access}
 use Rattle.cet_words.specs.declared.accesses.Access.TheVariants as access
 use Rattle.cet_isa.specs.declared.threads.Arch.{Arch}
 use Rattle.cet_page.specs.Script.{Script, done, fault, ask, tell}
-use Rattle.cet_page.specs.Seen.{Seen, nothing_seen, seen_after}
+use Rattle.cet_page.specs.ValsData.{ValsData, no_vals, vals_after}
 use Rattle.cet_page.specs.Row.{row}
 use Rattle.cet_page.specs.Core.{Core, unheld}
 
@@ -32,14 +32,14 @@ trail (suc n) (ask a changes k) (value ∷ values) past = trail n (k value) valu
 trail (suc n) (tell word value changes k) values past = trail n k values (visit (access.Store word value) 0 changes ∷ past)
 
 -- what a trail shows: the number of its accesses, and the answers that are kept of them
-abbrev pub seen_of : List Visit → Seen
-seen_of [] = nothing_seen
-seen_of (x ∷ past) = seen_after (seen_of past) x.access x.answer
+abbrev pub vals_of : List Visit → ValsData
+vals_of [] = no_vals
+vals_of (x ∷ past) = vals_after (vals_of past) x.access x.answer
 
 -- the trail of a thread's row after what was seen of it
-abbrev pub row_trail : JobData → Arch → Seen → List Visit
-row_trail job arch seen = trail seen.count (row job (unheld arch)) seen.kept []
+abbrev pub row_trail : JobData → Arch → ValsData → List Visit
+row_trail job arch seen = trail seen.accesses (row job (unheld arch)) seen.values []
 
 -- the trail of a thread's present row
 abbrev pub trail_of : JobData → Core → List Visit
-trail_of job core = row_trail job core.arch core.seen
+trail_of job core = row_trail job core.arch core.vals

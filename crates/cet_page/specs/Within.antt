@@ -6,10 +6,10 @@ use Rattle.cet_words.specs.Job.{JobData}
 use Rattle.cet_isa.specs.declared.threads.Arch.{Arch}
 use Rattle.cet_isa.specs.declared.threads.End.{End}
 use Rattle.cet_page.specs.Script.{Wants}
-use Rattle.cet_page.specs.Seen.{nothing_seen}
+use Rattle.cet_page.specs.ValsData.{no_vals}
 use Rattle.cet_page.specs.Finish.{IsMade}
 use Rattle.cet_page.specs.Core.{Core, row_played}
-use Rattle.cet_page.specs.Trail.{seen_of, trail_of}
+use Rattle.cet_page.specs.Trail.{vals_of, trail_of}
 
 -- the thread has a number, and eight pages that the kernel made for it
 pub record IsState (arch : Arch) : Type 0 where
@@ -21,14 +21,14 @@ pub record Waits (job : JobData) (core : Core) : Type 0 where
   pub state : IsState core.arch
   pub count : core.arch.count < job.limit
   pub limit : job.limit ≤ 100000
-  pub seen : seen_of (trail_of job core) ≡ core.seen
-  pub waits : (a : Access) × (changes : ℕ → List Change) × (row_played job core.arch core.seen ≡ Wants a changes)
+  pub vals : vals_of (trail_of job core) ≡ core.vals
+  pub waits : (a : Access) × (changes : ℕ → List Change) × (row_played job core.arch core.vals ≡ Wants a changes)
 
 -- the thread is at an end: it has made at most as many records as the limit says, and has seen nothing of a further row
 pub record Rests (job : JobData) (core : Core) : Type 0 where
   pub state : IsState core.arch
   pub count : core.arch.count ≤ job.limit
-  pub seen : core.seen ≡ nothing_seen
+  pub vals : core.vals ≡ no_vals
 
 abbrev pub CoreAt : JobData → Core → Option End → Type 0
 CoreAt job core (Some e) = Rests job core

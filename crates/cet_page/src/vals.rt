@@ -1,7 +1,7 @@
 //! The values read so far in a row.
 
 ghost use Rattle.std.specs.Prelude.{◌≡◌, ◌<◌, length, slice_index};
-ghost use Rattle.cet_page.specs.Seen.{seen_after, nothing_seen};
+ghost use Rattle.cet_page.specs.ValsData.{vals_after, no_vals};
 
 use crate::cursors::Cursor;
 use cet_words::Access;
@@ -23,11 +23,11 @@ pub struct Vals {
 
 impl Model for Vals {
     ghost use Rattle.std.specs.Prelude.{take, ◌≤◌};
-    ghost use Rattle.cet_page.specs.Seen.{Seen};
+    ghost use Rattle.cet_page.specs.ValsData.{ValsData};
 
-    ghost Value = { Seen };
+    ghost Value = { ValsData };
 
-    ghost view = { λ v. record { count = v.accesses; kept = take v.used v.kept } };
+    ghost view = { λ v. record { accesses = v.accesses; values = take v.used v.kept } };
 
     ghost invariant = { λ v. (v.used ≤ 32) × (v.accesses ≤ 4096) };
 }
@@ -35,7 +35,7 @@ impl Model for Vals {
 impl Vals {
     /// No value and no access.
     pub fn new() -> Vals
-        ensures { result ≡ nothing_seen }
+        ensures { result ≡ no_vals }
     {
         Vals {
             kept: [0; MOST_KEPT],
@@ -46,7 +46,7 @@ impl Vals {
 
     /// Forgets all values and accesses.
     pub fn clear(&mut self)
-        ensures { self.new ≡ nothing_seen }
+        ensures { self.new ≡ no_vals }
     {
         self.used = 0;
         self.accesses = 0;
@@ -54,9 +54,9 @@ impl Vals {
 
     /// Counts an access, and keeps its value unless it is a store.
     pub fn add(&mut self, access: Access, value: u64)
-        requires room { length self.old.kept < 32 }
-        requires more { self.old.count < 4096 }
-        ensures { self.new ≡ seen_after self.old access value }
+        requires room { length self.old.values < 32 }
+        requires more { self.old.accesses < 4096 }
+        ensures { self.new ≡ vals_after self.old access value }
     {
         self.accesses += 1;
         match access {
@@ -70,30 +70,30 @@ impl Vals {
 
     /// The number of accesses.
     pub fn done(&self) -> u32
-        ensures { result ≡ self.now.count }
+        ensures { result ≡ self.now.accesses }
     {
         self.accesses
     }
 
     /// The number of values kept.
     pub fn count(&self) -> u32
-        ensures { result ≡ length self.now.kept }
+        ensures { result ≡ length self.now.values }
     {
         self.used as u32
     }
 
     /// The value kept at this place, counted from 0.
     pub fn value(&self, at: u32) -> u64
-        requires { at < length self.now.kept }
-        ensures { result ≡ slice_index self.now.kept at }
+        requires { at < length self.now.values }
+        ensures { result ≡ slice_index self.now.values at }
     {
         self.kept[at as usize]
     }
 
     /// The place before the first access.
     pub fn start(&self) -> Cursor<'_>
-        ensures left { result.left ≡ self.now.count }
-        ensures rest { result.rest.now ≡ self.now.kept }
+        ensures left { result.left ≡ self.now.accesses }
+        ensures rest { result.rest.now ≡ self.now.values }
     {
         Cursor {
             left: self.accesses,

@@ -30,8 +30,8 @@ returns-clause-came c =
     let script = row c.args.job.now (unheld before) in
     let from_start : RefinesRow (play script c.start.result.left c.start.result.rest.now) before after result =
     came_to before c.row-came.new.arch _ result _ _ c.row-came.ensures.comes c.row-came.ensures.stays in
-    let with_count : RefinesRow (play script c.self.inside.vals.count c.start.result.rest.now) before after result =
+    let with_count : RefinesRow (play script c.self.inside.vals.accesses c.start.result.rest.now) before after result =
     subst (λ (n : ℕ). RefinesRow (play script n c.start.result.rest.now) before after result) c.start.ensures.left from_start in
-    let with_kept : RefinesRow (play script c.self.inside.vals.count c.self.inside.vals.kept) before after result =
-    subst (λ (values : List ℕ). RefinesRow (play script c.self.inside.vals.count values) before after result) c.start.ensures.rest with_count in
-    subst (λ (v : CpuData). RefinesRow (row_played c.args.job.now v.core.arch v.core.seen) v.core.arch after result) c.self.view_is with_kept
+    let with_kept : RefinesRow (play script c.self.inside.vals.accesses c.self.inside.vals.values) before after result =
+    subst (λ (values : List ℕ). RefinesRow (play script c.self.inside.vals.accesses values) before after result) c.start.ensures.rest with_count in
+    subst (λ (v : CpuData). RefinesRow (row_played c.args.job.now v.core.arch v.core.vals) v.core.arch after result) c.self.view_is with_kept

@@ -3,12 +3,12 @@ use Rattle.std.specs.Prelude.{ℕ, List, ◌+◌, ◌++◌, [], ◌∷◌, Bool,
 use Rattle.cet_words.specs.declared.accesses.Access.{Access}
 use Rattle.cet_words.specs.declared.accesses.Access.TheVariants as access
 
-pub record Seen : Type 0 where
-  pub count : ℕ
-  pub kept : List ℕ
+pub record ValsData : Type 0 where
+  pub accesses : ℕ
+  pub values : List ℕ
 
-abbrev pub nothing_seen : Seen
-nothing_seen = record { count = 0; kept = [] }
+abbrev pub no_vals : ValsData
+no_vals = record { accesses = 0; values = [] }
 
 -- the answer of every access but a store is kept
 abbrev pub keeps : Access → Bool
@@ -25,5 +25,5 @@ abbrev pub kept_after : List ℕ → Access → ℕ → List ℕ
 kept_after values a value = cond (keeps a) (values ++ value ∷ []) values
 
 -- one access more
-abbrev pub seen_after : Seen → Access → ℕ → Seen
-seen_after seen a value = record { count = seen.count + 1; kept = kept_after seen.kept a value }
+abbrev pub vals_after : ValsData → Access → ℕ → ValsData
+vals_after vals a value = record { accesses = vals.accesses + 1; values = kept_after vals.values a value }
