@@ -84,7 +84,7 @@ pub fn lock_cmpxchg(
 {
     let word = at.write_place(effective(arch, mem, next))?;
     let expected = register(arch, Reg::Rax);
-    let found = at.exchange(word, expected, register(arch, reg))?;
+    let found = at.compare_exchange(word, expected, register(arch, reg))?;
     let flags = difference(Size::Qword, expected, found, false)
         .flags
         .rflags();

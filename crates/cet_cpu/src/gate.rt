@@ -5,7 +5,7 @@ ghost use Rattle.cet_words.specs.Layout.{token, token_page, token_word};
 ghost use Rattle.cet_words.specs.Change.{Freed};
 ghost use Rattle.cet_page.specs.Script.{play};
 ghost use Rattle.cet_page.specs.Plays.{Refines, RefinesBy};
-ghost use Rattle.cet_page.specs.Parts.{exchange_as};
+ghost use Rattle.cet_page.specs.Parts.{compare_exchange_as};
 ghost use Rattle.cet_page.specs.Finish.{IsMade, counted};
 ghost use Rattle.cet_page.specs.Gate.{busied_if, stack_of, gate_in, gate_out, finish_of, found_busy, entered, sys_record, served, serve, clears, made_page, exit_status, exit, exit_group, service, syscall, signal_of, is_masked, killed, kill, delivery, deliver};
 ghost use Rattle.cet_cpu.specs.Changes.{finish_with, Stays};
@@ -60,10 +60,10 @@ fn stack_of(job: &Job, arch: &Arch) -> u8
 }
 
 /// The gate's first exchange: it takes the supervisor stack, where it finds the token free.
-#[tactic(auto, unfolding(cet_page::specs::Parts::exchange_as))]
+#[tactic(auto, unfolding(cet_page::specs::Parts::compare_exchange_as))]
 fn take_stack(k: u8, at: &mut Cursor) -> Result<u64, Suspended>
     requires { k < 8 }
-    ensures { Refines (play (exchange_as (busied_if k) (token_word k) (token k) (token k + 1)) at.old.left at.old.rest.now) result at.new.left at.new.rest.now }
+    ensures { Refines (play (compare_exchange_as (busied_if k) (token_word k) (token k) (token k + 1)) at.old.left at.old.rest.now) result at.new.left at.new.rest.now }
 {
     let free = token(k);
     at.ask_as(
@@ -73,10 +73,10 @@ fn take_stack(k: u8, at: &mut Cursor) -> Result<u64, Suspended>
 }
 
 /// The gate's last exchange, which gives the supervisor stack back.
-#[tactic(auto, unfolding(cet_page::specs::Parts::exchange_as))]
+#[tactic(auto, unfolding(cet_page::specs::Parts::compare_exchange_as))]
 fn give_stack(k: u8, at: &mut Cursor) -> Result<u64, Suspended>
     requires { k < 8 }
-    ensures { Refines (play (exchange_as (λ found. Freed k ∷ []) (token_word k) (token k + 1) (token k)) at.old.left at.old.rest.now) result at.new.left at.new.rest.now }
+    ensures { Refines (play (compare_exchange_as (λ found. Freed k ∷ []) (token_word k) (token k + 1) (token k)) at.old.left at.old.rest.now) result at.new.left at.new.rest.now }
 {
     let free = token(k);
     at.ask_as(
@@ -86,7 +86,7 @@ fn give_stack(k: u8, at: &mut Cursor) -> Result<u64, Suspended>
 }
 
 /// The gate's way in. Where the supervisor stack is busy, the word found.
-#[tactic(auto, using(cet_page::proofs::ScriptLaws::play_bind), unfolding(cet_page::specs::Gate::gate_in, cet_page::specs::Parts::exchange_as))]
+#[tactic(auto, using(cet_page::proofs::ScriptLaws::play_bind), unfolding(cet_page::specs::Gate::gate_in, cet_page::specs::Parts::compare_exchange_as))]
 fn gate_in(k: u8, at: &mut Cursor) -> Result<Option<u64>, Suspended>
     requires { k < 8 }
     ensures { Refines (play (gate_in k) at.old.left at.old.rest.now) result at.new.left at.new.rest.now }
@@ -215,7 +215,7 @@ fn exit_group(arch: &Arch, at: &mut Cursor) -> Result<(Arch, Record, Leaving), S
     ensures { Refines (play (exit_group arch.now) at.old.left at.old.rest.now) result at.new.left at.new.rest.now }
 {
     let status = u64::from(exit_status(arch));
-    at.exchange(EXIT_WORD, 0, 0x100 + status)?;
+    at.compare_exchange(EXIT_WORD, 0, 0x100 + status)?;
     Ok(serve(arch, status))
 }
 
@@ -279,7 +279,7 @@ fn kill(arch: &Arch, signal: u8, at: &mut Cursor) -> Result<(Arch, Record, Leavi
     requires count { arch.now.count < 2 ^ 32 - 1 }
     ensures { Refines (play (kill arch.now signal) at.old.left at.old.rest.now) result at.new.left at.new.rest.now }
 {
-    let before = at.exchange(EXIT_WORD, 0, 0x200 + u64::from(signal))?;
+    let before = at.compare_exchange(EXIT_WORD, 0, 0x200 + u64::from(signal))?;
     Ok(killed(arch, signal, before))
 }
 

@@ -15,7 +15,7 @@ use Rattle.cet_book.proofs.Hand.{hand, end_none}
 use Rattle.cet_book.proofs.Supervisor.{stack_of-put_stack, current_of-put_stack}
 use Rattle.cet_book.proofs.Ways.{busied_way, freed_way, ended_way}
 use Rattle.cet_page.specs.Script.{Script, ◌>>=◌}
-use Rattle.cet_page.specs.Parts.{exchange_as, store, store_as, load, load_as}
+use Rattle.cet_page.specs.Parts.{compare_exchange_as, store, store_as, load, load_as}
 use Rattle.cet_page.specs.declared.finishes.Leaving.TheVariants as leaving
 use Rattle.cet_page.specs.Gate.{gate_in, gate_out}
 use Rattle.cet_own.specs.Stands.{busy}
@@ -76,7 +76,7 @@ module _ (job : JobData) (arch : Arch) (l : own_stack job arch.number < 8) where
 
   -- the way in: the thread is inside, or it is at rest as before
   pub gate_in_then : {A : Type 0} (Q : List Visit → State → State → A → Type 0) (past : List Visit) (before s : State) (f : Option ℕ → Script A) → Resting arch.number untouched (progress past) s.book arch.ssp → ((p : List Visit) (z n : State) → Inside arch.number gate untouched (progress p) (left_in p (token_word gate - 1)) n.book arch.ssp → Claim job arch Q p z n (f None)) → ((p : List Visit) (z n : State) (found : ℕ) → Resting arch.number untouched (progress p) n.book arch.ssp → Claim job arch Q p z n (f (Some found))) → Claim job arch Q past before s (gate_in gate >>= f)
-  unfolding gate_in exchange_as store_as
+  unfolding gate_in compare_exchange_as store_as
   gate_in_then Q past before s f rest inside busied =
       claim_bind job arch Q past before s (gate_in gate) f
       (peek_then job arch (λ p z n x. Claim job arch Q p z n (f x)) past before s (token_page gate) _ (rest_stacked rest) (λ now r v.
@@ -115,7 +115,7 @@ module _ (job : JobData) (arch : Arch) (l : own_stack job arch.number < 8) where
 
   -- the way out
   pub gate_out_then : {A : Type 0} {d : Progress} (Q : List Visit → State → State → A → Type 0) (past : List Visit) (before s : State) (f : Unit {0} → Script A) → Inside arch.number gate d (progress past) (left_in past (token_word gate - 1)) s.book arch.ssp → ((p : List Visit) (z n : State) → Resting arch.number d (progress p) n.book arch.ssp → Claim job arch Q p z n (f tt)) → Claim job arch Q past before s (gate_out leaving.Back gate >>= f)
-  unfolding gate_out exchange_as load_as
+  unfolding gate_out compare_exchange_as load_as
   gate_out_then {d = d} Q past before s f inside h =
       claim_bind job arch Q past before s (gate_out leaving.Back gate) f
       (claim_bind job arch (λ p z n x. Claim job arch Q p z n (f x)) past before s (load (token_word gate - 1)) _ (
@@ -147,7 +147,7 @@ module _ (job : JobData) (arch : Arch) (l : own_stack job arch.number < 8) where
 
   -- the way out of a thread that ends
   pub exit_out_then : {A : Type 0} (Q : List Visit → State → State → A → Type 0) (past : List Visit) (before s : State) (status : ℕ) (f : Unit {0} → Script A) → Inside arch.number gate untouched (progress past) (left_in past (token_word gate - 1)) s.book arch.ssp → ((p : List Visit) (z n : State) → HasNone arch.number n.book → Claim job arch Q p z n (f tt)) → Claim job arch Q past before s (gate_out (leaving.Ended status) gate >>= f)
-  unfolding gate_out exchange_as load_as
+  unfolding gate_out compare_exchange_as load_as
   exit_out_then Q past before s status f inside h =
       claim_bind job arch Q past before s (gate_out (leaving.Ended status) gate) f
       (claim_bind job arch (λ p z n x. Claim job arch Q p z n (f x)) past before s (load (token_word gate - 1)) _ (

@@ -14,7 +14,7 @@ use Rattle.cet_book.specs.Book.{Book, book_after, region, top}
 use Rattle.cet_book.proofs.Relies.{Relies}
 use Rattle.cet_page.specs.Script.{Script, done, fault, ◌>>=◌, silent}
 use Rattle.cet_page.specs.Page.{allows, page_fault}
-use Rattle.cet_page.specs.Parts.{tested, tested_as, look_in_as, look, look_as, peek, load_as, load, store_as, store, exchange_as, exchange, swap, fetch_add_as, fetch_add, stores, alignment_check}
+use Rattle.cet_page.specs.Parts.{tested, tested_as, look_in_as, look, look_as, peek, load_as, load, store_as, store, compare_exchange_as, compare_exchange, swap, fetch_add_as, fetch_add, stores, alignment_check}
 use Rattle.cet_page.specs.Gate.{clears}
 use Rattle.cet_page.specs.declared.checks.Kind.{Kind}
 use Rattle.cet_page.specs.declared.checks.Kind.TheVariants as kind
@@ -113,16 +113,16 @@ module _ (job : JobData) (arch : Arch) where
   store_then Q past before s word value f out top h =
       claim_bind Q past before s (store word value) f (top, λ now r known. (stored word value refl out refl, now, refl, h now r))
 
-  pub exchange_then : {A : Type 0} (Q : List Visit → State → State → A → Type 0) (past : List Visit) (before s : State) (word expected value : ℕ) (f : ℕ → Script A) → IsOut word → Stacked arch.number s.book (below_frame (frame_pushed past) arch.ssp) → ((now : State) → Relies arch.number s.book now.book → (v : ℕ) → Claim job arch Q (visit (access.CompareExchange word expected value) v [] ∷ past) now now (f v)) → Claim job arch Q past before s (exchange word expected value >>= f)
-  unfolding exchange_as
+  pub exchange_then : {A : Type 0} (Q : List Visit → State → State → A → Type 0) (past : List Visit) (before s : State) (word expected value : ℕ) (f : ℕ → Script A) → IsOut word → Stacked arch.number s.book (below_frame (frame_pushed past) arch.ssp) → ((now : State) → Relies arch.number s.book now.book → (v : ℕ) → Claim job arch Q (visit (access.CompareExchange word expected value) v [] ∷ past) now now (f v)) → Claim job arch Q past before s (compare_exchange word expected value >>= f)
+  unfolding compare_exchange_as
   exchange_then Q past before s word expected value f out top h =
-      claim_bind Q past before s (exchange word expected value) f (top, λ now r v known. (exchanges word expected value refl out refl, now, refl, h now r v))
+      claim_bind Q past before s (compare_exchange word expected value) f (top, λ now r v known. (exchanges word expected value refl out refl, now, refl, h now r v))
 
   -- the process ends
-  pub end_then : {A : Type 0} (Q : List Visit → State → State → A → Type 0) (past : List Visit) (before s : State) (value : ℕ) (f : ℕ → Script A) → IsEnding value → Stacked arch.number s.book (below_frame (frame_pushed past) arch.ssp) → ((now : State) → Relies arch.number s.book now.book → (v : ℕ) → Claim job arch Q (visit (access.CompareExchange exit_word 0 value) v [] ∷ past) now now (f v)) → Claim job arch Q past before s (exchange exit_word 0 value >>= f)
-  unfolding exchange_as
+  pub end_then : {A : Type 0} (Q : List Visit → State → State → A → Type 0) (past : List Visit) (before s : State) (value : ℕ) (f : ℕ → Script A) → IsEnding value → Stacked arch.number s.book (below_frame (frame_pushed past) arch.ssp) → ((now : State) → Relies arch.number s.book now.book → (v : ℕ) → Claim job arch Q (visit (access.CompareExchange exit_word 0 value) v [] ∷ past) now now (f v)) → Claim job arch Q past before s (compare_exchange exit_word 0 value >>= f)
+  unfolding compare_exchange_as
   end_then Q past before s value f is top h =
-      claim_bind Q past before s (exchange exit_word 0 value) f (top, λ now r v known. (finishes value refl is refl, now, refl, h now r v))
+      claim_bind Q past before s (compare_exchange exit_word 0 value) f (top, λ now r v known. (finishes value refl is refl, now, refl, h now r v))
 
   pub swap_then : {A : Type 0} (Q : List Visit → State → State → A → Type 0) (past : List Visit) (before s : State) (word value : ℕ) (f : ℕ → Script A) → IsOut word → Stacked arch.number s.book (below_frame (frame_pushed past) arch.ssp) → ((now : State) → Relies arch.number s.book now.book → (v : ℕ) → Claim job arch Q (visit (access.Swap word value) v [] ∷ past) now now (f v)) → Claim job arch Q past before s (swap word value >>= f)
   unfolding swap

@@ -21,7 +21,7 @@ use Rattle.cet_isa.specs.declared.threads.Fault.{Fault}
 use Rattle.cet_isa.specs.declared.threads.Record.{Record}
 use Rattle.cet_page.specs.Script.{Script, done, fault, ask, tell, ◌>>=◌}
 use Rattle.cet_page.specs.Page.{allows, page_fault}
-use Rattle.cet_page.specs.Parts.{tested_as, look_in_as, look_as, probe_in, probe, peek, load_as, store_as, exchange_as, swap, fetch_add_as, stores, general_protection}
+use Rattle.cet_page.specs.Parts.{tested_as, look_in_as, look_as, probe_in, probe, peek, load_as, store_as, compare_exchange_as, swap, fetch_add_as, stores, general_protection}
 use Rattle.cet_page.specs.Values.{limit, width}
 use Rattle.cet_page.specs.Finish.{Row, noted, above}
 use Rattle.cet_page.specs.Family.{family_of}
@@ -82,8 +82,8 @@ module _ {A : Type 0} {Q : Drawn → A → Type 0} {d : Drawn} (f : ℕ → Scri
   unfolding ◌>>=◌ load_as
   tells_load changes word n h = record { tells = λ v. subst (λ x. Telling Q x (f v)) (sym (n v)) (h v).tells }
 
-  tells_exchange : (changes : ℕ → List Change) (word expected value : ℕ) → ((v : ℕ) → draws (changes v) d ≡ d) → ((v : ℕ) → Tells Q d (f v)) → Tells Q d (exchange_as changes word expected value >>= f)
-  unfolding ◌>>=◌ exchange_as
+  tells_exchange : (changes : ℕ → List Change) (word expected value : ℕ) → ((v : ℕ) → draws (changes v) d ≡ d) → ((v : ℕ) → Tells Q d (f v)) → Tells Q d (compare_exchange_as changes word expected value >>= f)
+  unfolding ◌>>=◌ compare_exchange_as
   tells_exchange changes word expected value n h = record { tells = λ v. subst (λ x. Telling Q x (f v)) (sym (n v)) (h v).tells }
 
   tells_swap : (word value : ℕ) → ((v : ℕ) → Tells Q d (f v)) → Tells Q d (swap word value >>= f)

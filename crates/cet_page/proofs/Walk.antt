@@ -17,7 +17,7 @@ use Rattle.cet_isa.specs.declared.threads.Fault.{Fault}
 use Rattle.cet_page.specs.Script.{Script, done, fault, ask, tell, ◌>>=◌, Played, Completed, Faulted, Wants, play, birth, held_after}
 use Rattle.cet_page.specs.ValsData.{keeps, kept_after}
 use Rattle.cet_page.specs.Page.{allows, page_fault}
-use Rattle.cet_page.specs.Parts.{tested_as, look_in_as, look_as, probe_in, probe, peek, load_as, store_as, exchange_as, swap, fetch_add_as, stores, store_each, general_protection}
+use Rattle.cet_page.specs.Parts.{tested_as, look_in_as, look_as, probe_in, probe, peek, load_as, store_as, compare_exchange_as, swap, fetch_add_as, stores, store_each, general_protection}
 use Rattle.cet_page.specs.Values.{limit, width}
 use Rattle.cet_page.specs.Finish.{IsMade}
 use Rattle.cet_page.specs.Gate.{gate_in, gate_out, freed}
@@ -214,13 +214,13 @@ module _ {A : Type 0} {used kept : ℕ} {wrote : Bool} {P : A → Type 0} (f : �
   unfolding ◌>>=◌ load_as
   walk_load changes word c m h = record { walks = (refl, λ v. (c v, subst (λ w. Walks (used + 1) (kept + 1) w P (f v)) (unmoved wrote (moves (changes v)) false (m v)) (h v).walks)) }
 
-  pub walk_exchange : (changes : ℕ → List Change) (word expected value : ℕ) → ((v : ℕ) → BirthFits (changes v)) → ((v : ℕ) → moves (changes v) ≡ false) → ((v : ℕ) → Walk (used + 1) (kept + 1) (wrote || (v == expected)) P (f v)) → Walk used kept wrote P (exchange_as changes word expected value >>= f)
-  unfolding ◌>>=◌ exchange_as
-  walk_exchange changes word expected value c m h = record { walks = (refl, λ v. (c v, subst (λ w. Walks (used + 1) (kept + 1) w P (f v)) (unmoved wrote (moves (changes v)) (v == expected) (m v)) (h v).walks)) }
+  pub walk_compare_exchange : (changes : ℕ → List Change) (word expected value : ℕ) → ((v : ℕ) → BirthFits (changes v)) → ((v : ℕ) → moves (changes v) ≡ false) → ((v : ℕ) → Walk (used + 1) (kept + 1) (wrote || (v == expected)) P (f v)) → Walk used kept wrote P (compare_exchange_as changes word expected value >>= f)
+  unfolding ◌>>=◌ compare_exchange_as
+  walk_compare_exchange changes word expected value c m h = record { walks = (refl, λ v. (c v, subst (λ w. Walks (used + 1) (kept + 1) w P (f v)) (unmoved wrote (moves (changes v)) (v == expected) (m v)) (h v).walks)) }
 
   -- any changes, where what follows may have been written before or not
-  pub walk_exchange_any : (changes : ℕ → List Change) (word expected value : ℕ) → ((v : ℕ) → BirthFits (changes v)) → ((w : Bool) (v : ℕ) → Walk (used + 1) (kept + 1) w P (f v)) → Walk used kept wrote P (exchange_as changes word expected value >>= f)
-  unfolding ◌>>=◌ exchange_as
+  pub walk_exchange_any : (changes : ℕ → List Change) (word expected value : ℕ) → ((v : ℕ) → BirthFits (changes v)) → ((w : Bool) (v : ℕ) → Walk (used + 1) (kept + 1) w P (f v)) → Walk used kept wrote P (compare_exchange_as changes word expected value >>= f)
+  unfolding ◌>>=◌ compare_exchange_as
   walk_exchange_any changes word expected value c h = record { walks = (refl, λ v. (c v, (h _ v).walks)) }
 
   pub walk_swap : (word value : ℕ) → ((v : ℕ) → Walk (used + 1) (kept + 1) (wrote || true) P (f v)) → Walk used kept wrote P (swap word value >>= f)
@@ -302,7 +302,7 @@ module _ {A B C : Type 0} {used kept : ℕ} {wrote : Bool} {P : A → Type 0} wh
   pub walk_assoc : (m : Script C) (h : C → Script B) (f : B → Script A) → Walk used kept wrote P (m >>= (λ x. h x >>= f)) → Walk used kept wrote P ((m >>= h) >>= f)
   walk_assoc m h f w = record { walks = assoc_walks used kept wrote P m h f w.walks }
 
-pub ruleset walk_parts = (walk_done, walk_fault, walk_if, walk_return, walk_fault_then, walk_if_then, walk_assoc, walk_peek, walk_load, walk_exchange, walk_swap, walk_fetch_add, walk_store, walk_stores, walk_tested, walk_look, walk_probe, no_birth, birth_if, moves_if)
+pub ruleset walk_parts = (walk_done, walk_fault, walk_if, walk_return, walk_fault_then, walk_if_then, walk_assoc, walk_peek, walk_load, walk_compare_exchange, walk_swap, walk_fetch_add, walk_store, walk_stores, walk_tested, walk_look, walk_probe, no_birth, birth_if, moves_if)
 
 -- ---- operands
 

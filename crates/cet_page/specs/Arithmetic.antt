@@ -24,7 +24,7 @@ use Rattle.cet_page.specs.declared.flags.StatusFlags.{StatusFlags}
 use Rattle.cet_page.specs.Flags.{bit, rflags, status, holds}
 use Rattle.cet_page.specs.Finish.{Row, rax}
 use Rattle.cet_page.specs.Operands.{register, with_register, effective, load_at, write_place, store_at, read_operand, stepped, assigned, settled, compared}
-use Rattle.cet_page.specs.Parts.{invalid_opcode, swap, fetch_add, exchange}
+use Rattle.cet_page.specs.Parts.{invalid_opcode, swap, fetch_add, compare_exchange}
 use Rattle.cet_page.specs.Script.{done, fault, ◌>>=◌}
 use Rattle.cet_page.specs.Values.{bits, limit, sum, difference, logical, product, operation, keeping, ones_complement, shifted_left, shifted_right, shifted_arithmetic}
 
@@ -111,7 +111,7 @@ rax_found arch found = if rax arch == found then arch.regs else with_register ar
 unfoldable pub lock_cmpxchg : Arch → Mem → Reg → (next : ℕ) → Row
 lock_cmpxchg arch m r next = do
   word ← write_place (effective arch m next)
-  found ← exchange word (rax arch) (register arch r)
+  found ← compare_exchange word (rax arch) (register arch r)
   done (stepped arch (rax_found arch found) next (rflags (difference size.Qword (rax arch) found 0).flags) found)
 
 -- ---- operations of one register

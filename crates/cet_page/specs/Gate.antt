@@ -11,7 +11,7 @@ use Rattle.cet_isa.specs.declared.threads.What.TheVariants as what
 use Rattle.cet_isa.specs.declared.threads.Arch.{Arch}
 use Rattle.cet_words.specs.Change.{Change, Popped, Busied, Freed, Ended}
 use Rattle.cet_page.specs.Script.{Script, done, ◌>>=◌}
-use Rattle.cet_page.specs.Parts.{peek, load, store, stores, exchange, exchange_as}
+use Rattle.cet_page.specs.Parts.{peek, load, store, stores, compare_exchange, compare_exchange_as}
 use Rattle.cet_page.specs.Finish.{rax, rdi, counted, above}
 use Rattle.cet_page.specs.declared.finishes.Finish.{Finish}
 use Rattle.cet_page.specs.declared.finishes.Finish.TheVariants as finish
@@ -31,7 +31,7 @@ busied_if k found = if found == token k then Busied k ∷ [] else []
 unfoldable pub gate_in : (k : ℕ) → Script (Option ℕ)
 gate_in k = do
   _ ← peek (token_page k)
-  found ← exchange_as (busied_if k) (token_word k) (token k) (token k + 1)
+  found ← compare_exchange_as (busied_if k) (token_word k) (token k) (token k + 1)
   if found == token k
       then (do
         _ ← store (token_word k - 1) kernel_return
@@ -48,7 +48,7 @@ freed (leaving.Ended status) k = Ended ∷ Freed k ∷ []
 unfoldable pub gate_out : Leaving → (k : ℕ) → Script (Unit {0})
 gate_out ends k = do
   _ ← load (token_word k - 1)
-  _ ← exchange_as (λ found. freed ends k) (token_word k) (token k + 1) (token k)
+  _ ← compare_exchange_as (λ found. freed ends k) (token_word k) (token k + 1) (token k)
   done tt
 
 -- ---- work of the kernel
@@ -130,7 +130,7 @@ exit arch = do
 -- ended the process before. The thread goes on to its next boundary.
 unfoldable pub exit_group : Arch → Work
 exit_group arch = do
-  _ ← exchange exit_word 0 (0x100 + exit_status arch)
+  _ ← compare_exchange exit_word 0 (0x100 + exit_status arch)
   done (serve arch (exit_status arch))
 
 -- the service whose number is in RAX; every number that isn't built is no call
@@ -156,7 +156,7 @@ killed arch signal before = (
 -- the kill of the process by a signal, where no thread has ended the process before
 unfoldable pub kill : Arch → (signal : ℕ) → Work
 kill arch signal = do
-  before ← exchange exit_word 0 (0x200 + signal)
+  before ← compare_exchange exit_word 0 (0x200 + signal)
   done (killed arch signal before)
 
 -- SIGILL 4 for #UD, SIGSEGV 11 for all others

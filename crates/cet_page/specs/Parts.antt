@@ -75,11 +75,11 @@ abbrev pub store : (word value : ℕ) → Script (Unit {0})
 store word value = store_as [] word value
 
 -- the compare-and-exchange of a word, with the word found as result
-unfoldable pub exchange_as : (ℕ → List Change) → (word expected value : ℕ) → Script ℕ
-exchange_as changes word expected value = ask (access.CompareExchange word expected value) changes done
+unfoldable pub compare_exchange_as : (ℕ → List Change) → (word expected value : ℕ) → Script ℕ
+compare_exchange_as changes word expected value = ask (access.CompareExchange word expected value) changes done
 
-abbrev pub exchange : (word expected value : ℕ) → Script ℕ
-exchange word expected value = exchange_as silent word expected value
+abbrev pub compare_exchange : (word expected value : ℕ) → Script ℕ
+compare_exchange word expected value = compare_exchange_as silent word expected value
 
 -- the exchange of a word, with the word found as result
 unfoldable pub swap : (word value : ℕ) → Script ℕ

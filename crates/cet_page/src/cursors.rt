@@ -6,7 +6,7 @@ ghost use Rattle.cet_words.specs.Layout.{word_in, page_count, word_count};
 ghost use Rattle.cet_page.specs.Script.{play, ask, tell, done, silent};
 ghost use Rattle.cet_page.specs.Plays.{Refines, Asks, Marks};
 ghost use Rattle.cet_words.specs.Change.{Change};
-ghost use Rattle.cet_page.specs.Parts.{general_protection, invalid_opcode, tested, tested_as, look, look_as, look_in_as, probe, probe_in, peek, load, store, stores, store_each, exchange, swap, fetch_add, fetch_or, fetch_and};
+ghost use Rattle.cet_page.specs.Parts.{general_protection, invalid_opcode, tested, tested_as, look, look_as, look_in_as, probe, probe_in, peek, load, store, stores, store_each, compare_exchange, swap, fetch_add, fetch_or, fetch_and};
 
 use crate::checks::{Kind, Who, check, page_fault};
 use cet_isa::{Fault, FaultName, is_canonical};
@@ -121,10 +121,10 @@ impl<'a> Cursor<'a> {
     }
 
     /// A compare-and-exchange; the answer is the word found.
-    #[tactic(auto, unfolding(crate::specs::Parts::exchange_as))]
-    pub fn exchange(&mut self, word: u32, expected: u64, value: u64) -> Result<u64, Suspended>
+    #[tactic(auto, unfolding(crate::specs::Parts::compare_exchange_as))]
+    pub fn compare_exchange(&mut self, word: u32, expected: u64, value: u64) -> Result<u64, Suspended>
         requires { word < word_count }
-        ensures { Refines (play (exchange word expected value) self.old.left self.old.rest.now) result self.new.left self.new.rest.now }
+        ensures { Refines (play (compare_exchange word expected value) self.old.left self.old.rest.now) result self.new.left self.new.rest.now }
     {
         self.ask(Access::CompareExchange(word, expected, value))
     }
