@@ -91,7 +91,7 @@ fn gate_in(k: u8, at: &mut Cursor) -> Result<Option<u64>, Suspended>
     requires { k < 8 }
     ensures { Refines (play (gate_in k) at.old.left at.old.rest.now) result at.new.left at.new.rest.now }
 {
-    at.peek(token_page(k))?;
+    at.read_entry(token_page(k))?;
     let free = token(k);
     let found = take_stack(k, at)?;
     if found != free {

@@ -24,7 +24,7 @@ use Rattle.cet_book.proofs.Held.{Free, given_held}
 use Rattle.cet_own.specs.Stands.{below_token}
 use Rattle.cet_own.proofs.Owed.{State, own_stack}
 use Rattle.cet_own.proofs.Classes.{refused, settles, reloads, enters, leaves, exits}
-use Rattle.cet_own.proofs.Parts.{Claim, one_after, claim_bind, peek_then}
+use Rattle.cet_own.proofs.Parts.{Claim, one_after, claim_bind, read_entry_then}
 use Rattle.cet_own.specs.Past.{left_in, below_frame}
 use Rattle.cet_own.proofs.Progress.{Progress, progress, untouched}
 use Rattle.cet_page.specs.Trail.{Visit}
@@ -79,7 +79,7 @@ module _ (job : JobData) (arch : Arch) (l : own_stack job arch.number < 8) where
   unfolding gate_in compare_exchange_as store_as
   gate_in_then Q past before s f rest inside busied =
       claim_bind job arch Q past before s (gate_in gate) f
-      (peek_then job arch (λ p z n x. Claim job arch Q p z n (f x)) past before s (token_page gate) _ (rest_stacked rest) (λ now r v.
+      (read_entry_then job arch (λ p z n x. Claim job arch Q p z n (f x)) past before s (token_page gate) _ (rest_stacked rest) (λ now r v.
       let rest' = rest_kept r rest in
       claim_bind job arch (λ p z n x. Claim job arch Q p z n (f x)) _ now now _ _ (
         (rest_stacked rest'),

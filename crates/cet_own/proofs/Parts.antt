@@ -14,7 +14,7 @@ use Rattle.cet_book.specs.Book.{Book, book_after, region, top}
 use Rattle.cet_book.proofs.Relies.{Relies}
 use Rattle.cet_page.specs.Script.{Script, done, fault, ◌>>=◌, silent}
 use Rattle.cet_page.specs.Page.{allows, page_fault}
-use Rattle.cet_page.specs.Parts.{tested, tested_as, look_in_as, look, look_as, peek, load_as, load, store_as, store, compare_exchange_as, compare_exchange, swap, fetch_add_as, fetch_add, stores, alignment_check}
+use Rattle.cet_page.specs.Parts.{tested, tested_as, look_in_as, look, look_as, read_entry, load_as, load, store_as, store, compare_exchange_as, compare_exchange, swap, fetch_add_as, fetch_add, stores, alignment_check}
 use Rattle.cet_page.specs.Gate.{clears}
 use Rattle.cet_page.specs.declared.checks.Kind.{Kind}
 use Rattle.cet_page.specs.declared.checks.Kind.TheVariants as kind
@@ -99,9 +99,9 @@ module _ (job : JobData) (arch : Arch) where
       let lies = known'.look (first_shadow_page + (addr - shadow_start) / 4096) refl (omega arith) (omega arith) (entry_there kd v a) in
       subst (λ n. Claim job arch Q (visit (access.Look n) v [] ∷ past) now now (f n)) is (h now r v known' lies.0 (in_page now.book lies.0 addr low high lies.1)))
 
-  pub peek_then : {A : Type 0} (Q : List Visit → State → State → A → Type 0) (past : List Visit) (before s : State) (page : ℕ) (f : ℕ → Script A) → Stacked arch.number s.book (below_frame (frame_pushed past) arch.ssp) → ((now : State) → Relies arch.number s.book now.book → (v : ℕ) → Claim job arch Q (visit (access.Look page) v [] ∷ past) now now (f v)) → Claim job arch Q past before s (peek page >>= f)
-  unfolding peek
-  peek_then Q past before s page f top h = claim_bind Q past before s (peek page) f (top, λ now r v known. (looks page refl refl, now, refl, h now r v))
+  pub read_entry_then : {A : Type 0} (Q : List Visit → State → State → A → Type 0) (past : List Visit) (before s : State) (page : ℕ) (f : ℕ → Script A) → Stacked arch.number s.book (below_frame (frame_pushed past) arch.ssp) → ((now : State) → Relies arch.number s.book now.book → (v : ℕ) → Claim job arch Q (visit (access.Look page) v [] ∷ past) now now (f v)) → Claim job arch Q past before s (read_entry page >>= f)
+  unfolding read_entry
+  read_entry_then Q past before s page f top h = claim_bind Q past before s (read_entry page) f (top, λ now r v known. (looks page refl refl, now, refl, h now r v))
 
   pub load_then : {A : Type 0} (Q : List Visit → State → State → A → Type 0) (past : List Visit) (before s : State) (word : ℕ) (f : ℕ → Script A) → Stacked arch.number s.book (below_frame (frame_pushed past) arch.ssp) → ((now : State) → Relies arch.number s.book now.book → (v : ℕ) → Claim job arch Q (visit (access.Load word) v [] ∷ past) now now (f v)) → Claim job arch Q past before s (load word >>= f)
   unfolding load_as

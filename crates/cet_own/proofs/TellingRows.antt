@@ -21,7 +21,7 @@ use Rattle.cet_isa.specs.declared.threads.Fault.{Fault}
 use Rattle.cet_isa.specs.declared.threads.Record.{Record}
 use Rattle.cet_page.specs.Script.{Script, done, fault, ask, tell, ◌>>=◌}
 use Rattle.cet_page.specs.Page.{allows, page_fault}
-use Rattle.cet_page.specs.Parts.{tested_as, look_in_as, look_as, probe_in, probe, peek, load_as, store_as, compare_exchange_as, swap, fetch_add_as, stores, general_protection}
+use Rattle.cet_page.specs.Parts.{tested_as, look_in_as, look_as, probe_in, probe, read_entry, load_as, store_as, compare_exchange_as, swap, fetch_add_as, stores, general_protection}
 use Rattle.cet_page.specs.Values.{limit, width}
 use Rattle.cet_page.specs.Finish.{Row, noted, above}
 use Rattle.cet_page.specs.Family.{family_of}
@@ -74,8 +74,8 @@ module _ {A B : Type 0} {Q : Drawn → A → Type 0} {d : Drawn} (f : B → Scri
   tells_if_then false s t p q = q
 
 module _ {A : Type 0} {Q : Drawn → A → Type 0} {d : Drawn} (f : ℕ → Script A) where
-  tells_peek : (page : ℕ) → ((v : ℕ) → Tells Q d (f v)) → Tells Q d (peek page >>= f)
-  unfolding ◌>>=◌ peek
+  tells_peek : (page : ℕ) → ((v : ℕ) → Tells Q d (f v)) → Tells Q d (read_entry page >>= f)
+  unfolding ◌>>=◌ read_entry
   tells_peek page h = record { tells = λ v. (h v).tells }
 
   tells_load : (changes : ℕ → List Change) (word : ℕ) → ((v : ℕ) → draws (changes v) d ≡ d) → ((v : ℕ) → Tells Q d (f v)) → Tells Q d (load_as changes word >>= f)

@@ -10,7 +10,7 @@ use Rattle.cet_isa.specs.declared.instructions.Instr.{Instr}
 use Rattle.cet_isa.specs.declared.threads.Arch.{Arch}
 use Rattle.cet_isa.specs.declared.threads.Fault.{Fault}
 use Rattle.cet_page.specs.Script.{done, fault, ◌>>=◌, play}
-use Rattle.cet_page.specs.Parts.{general_protection, peek, load_as, store_as, store, compare_exchange_as}
+use Rattle.cet_page.specs.Parts.{general_protection, read_entry, load_as, store_as, store, compare_exchange_as}
 use Rattle.cet_page.specs.Gate.{Work, stack_of, gate_in, entered, inside, leave}
 use Rattle.cet_page.specs.Row.{row, row_from, execute, fetched, address_after, instruction, boundary, instruction_bytes, next_address}
 use Rattle.cet_page.specs.PartsOfRow.{PartsOfRow}
@@ -25,7 +25,7 @@ instruction_part job arch i len pending n values due rip reads =
     ∙ ap (λ (d : Decoding). play (execute job arch i (address_after arch d)) n values) (sym reads)
 
 kernel_part : (job : JobData) (arch : Arch) (work : Work) (entry n : ℕ) (values : List ℕ) → play (entered job arch work) (suc (suc (suc n))) (entry ∷ token (stack_of job arch) ∷ values) ≡ play (work >>= leave (stack_of job arch)) n values
-unfolding entered gate_in peek compare_exchange_as store_as ◌>>=◌
+unfolding entered gate_in read_entry compare_exchange_as store_as ◌>>=◌
 kernel_part job arch work entry n values =
     let k = stack_of job arch in
     let same : (token k == token k) ≡ true = grind (arith, nat_tests) in

@@ -17,7 +17,7 @@ use Rattle.cet_isa.specs.declared.threads.Fault.{Fault}
 use Rattle.cet_page.specs.Script.{Script, done, fault, ask, tell, ◌>>=◌, Played, Completed, Faulted, Wants, play, birth, held_after}
 use Rattle.cet_page.specs.ValsData.{keeps, kept_after}
 use Rattle.cet_page.specs.Page.{allows, page_fault}
-use Rattle.cet_page.specs.Parts.{tested_as, look_in_as, look_as, probe_in, probe, peek, load_as, store_as, compare_exchange_as, swap, fetch_add_as, stores, store_each, general_protection}
+use Rattle.cet_page.specs.Parts.{tested_as, look_in_as, look_as, probe_in, probe, read_entry, load_as, store_as, compare_exchange_as, swap, fetch_add_as, stores, store_each, general_protection}
 use Rattle.cet_page.specs.Values.{limit, width}
 use Rattle.cet_page.specs.Finish.{IsMade}
 use Rattle.cet_page.specs.Gate.{gate_in, gate_out, freed}
@@ -205,9 +205,9 @@ unmoved wrote true c e = cc
 unmoved wrote false c e = refl
 
 module _ {A : Type 0} {used kept : ℕ} {wrote : Bool} {P : A → Type 0} (f : ℕ → Script A) where
-  pub walk_peek : (page : ℕ) → ((v : ℕ) → Walk (used + 1) (kept + 1) (wrote || false) P (f v)) → Walk used kept wrote P (peek page >>= f)
-  unfolding ◌>>=◌ peek
-  walk_peek page h = record { walks = (refl, λ v. (no_birth [] refl, (h v).walks)) }
+  pub walk_read_entry : (page : ℕ) → ((v : ℕ) → Walk (used + 1) (kept + 1) (wrote || false) P (f v)) → Walk used kept wrote P (read_entry page >>= f)
+  unfolding ◌>>=◌ read_entry
+  walk_read_entry page h = record { walks = (refl, λ v. (no_birth [] refl, (h v).walks)) }
 
   -- changes that leave the supervisor stack alone
   pub walk_load : (changes : ℕ → List Change) (word : ℕ) → ((v : ℕ) → BirthFits (changes v)) → ((v : ℕ) → moves (changes v) ≡ false) → ((v : ℕ) → Walk (used + 1) (kept + 1) (wrote || false) P (f v)) → Walk used kept wrote P (load_as changes word >>= f)
@@ -302,7 +302,7 @@ module _ {A B C : Type 0} {used kept : ℕ} {wrote : Bool} {P : A → Type 0} wh
   pub walk_assoc : (m : Script C) (h : C → Script B) (f : B → Script A) → Walk used kept wrote P (m >>= (λ x. h x >>= f)) → Walk used kept wrote P ((m >>= h) >>= f)
   walk_assoc m h f w = record { walks = assoc_walks used kept wrote P m h f w.walks }
 
-pub ruleset walk_parts = (walk_done, walk_fault, walk_if, walk_return, walk_fault_then, walk_if_then, walk_assoc, walk_peek, walk_load, walk_compare_exchange, walk_swap, walk_fetch_add, walk_store, walk_stores, walk_tested, walk_look, walk_probe, no_birth, birth_if, moves_if)
+pub ruleset walk_parts = (walk_done, walk_fault, walk_if, walk_return, walk_fault_then, walk_if_then, walk_assoc, walk_read_entry, walk_load, walk_compare_exchange, walk_swap, walk_fetch_add, walk_store, walk_stores, walk_tested, walk_look, walk_probe, no_birth, birth_if, moves_if)
 
 -- ---- operands
 

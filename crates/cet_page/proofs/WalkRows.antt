@@ -21,7 +21,7 @@ use Rattle.cet_isa.specs.declared.threads.Arch.{Arch}
 use Rattle.cet_isa.specs.declared.threads.What.{What}
 use Rattle.cet_isa.specs.declared.threads.What.TheVariants as what
 use Rattle.cet_page.specs.Script.{done, fault, ask, tell, ◌>>=◌, Wants, play}
-use Rattle.cet_page.specs.Parts.{load_as, peek}
+use Rattle.cet_page.specs.Parts.{load_as, read_entry}
 use Rattle.cet_page.specs.Finish.{Row, noted, above}
 use Rattle.cet_page.specs.declared.families.Family.{Family}
 use Rattle.cet_page.specs.declared.families.Family.TheVariants as families
@@ -147,7 +147,7 @@ pub walk_row : (job : JobData) (arch : Arch) → Walk 0 0 false (Ends arch) (row
 walk_row job arch = walk_from job arch arch.due
 
 begins_from : (job : JobData) (arch : Arch) (due : Option Fault) → (a : Access) × (changes : ℕ → List Change) × (play (row_from job arch due) 0 [] ≡ Wants a changes)
-unfolding boundary entered gate_in load_as peek ◌>>=◌
+unfolding boundary entered gate_in load_as read_entry ◌>>=◌
 begins_from job arch (Some e) = (_, _, refl)
 begins_from job arch None = (_, _, refl)
 

@@ -11,7 +11,7 @@ use Rattle.cet_isa.specs.declared.threads.What.TheVariants as what
 use Rattle.cet_isa.specs.declared.threads.Arch.{Arch}
 use Rattle.cet_words.specs.Change.{Change, Popped, Busied, Freed, Ended}
 use Rattle.cet_page.specs.Script.{Script, done, ◌>>=◌}
-use Rattle.cet_page.specs.Parts.{peek, load, store, stores, compare_exchange, compare_exchange_as}
+use Rattle.cet_page.specs.Parts.{read_entry, load, store, stores, compare_exchange, compare_exchange_as}
 use Rattle.cet_page.specs.Finish.{rax, rdi, counted, above}
 use Rattle.cet_page.specs.declared.finishes.Finish.{Finish}
 use Rattle.cet_page.specs.declared.finishes.Finish.TheVariants as finish
@@ -30,7 +30,7 @@ busied_if k found = if found == token k then Busied k ∷ [] else []
 -- the way in; where the stack is busy, the word found
 unfoldable pub gate_in : (k : ℕ) → Script (Option ℕ)
 gate_in k = do
-  _ ← peek (token_page k)
+  _ ← read_entry (token_page k)
   found ← compare_exchange_as (busied_if k) (token_word k) (token k) (token k + 1)
   if found == token k
       then (do

@@ -57,8 +57,8 @@ unfoldable pub probe : Who → Kind → (addr : ℕ) → Script (Option ℕ)
 probe w k addr = probe_in (page_at addr) k w
 
 -- the look at a page of which no test is made
-unfoldable pub peek : (page : ℕ) → Script ℕ
-peek page = ask (access.Look page) silent done
+unfoldable pub read_entry : (page : ℕ) → Script ℕ
+read_entry page = ask (access.Look page) silent done
 
 -- the load of a word, with its changes for each answer
 unfoldable pub load_as : (ℕ → List Change) → (word : ℕ) → Script ℕ

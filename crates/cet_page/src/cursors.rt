@@ -6,7 +6,7 @@ ghost use Rattle.cet_words.specs.Layout.{word_in, page_count, word_count};
 ghost use Rattle.cet_page.specs.Script.{play, ask, tell, done, silent};
 ghost use Rattle.cet_page.specs.Plays.{Refines, Asks, Marks};
 ghost use Rattle.cet_words.specs.Change.{Change};
-ghost use Rattle.cet_page.specs.Parts.{general_protection, invalid_opcode, tested, tested_as, look, look_as, look_in_as, probe, probe_in, peek, load, store, stores, store_each, compare_exchange, swap, fetch_add, fetch_or, fetch_and};
+ghost use Rattle.cet_page.specs.Parts.{general_protection, invalid_opcode, tested, tested_as, look, look_as, look_in_as, probe, probe_in, read_entry, load, store, stores, store_each, compare_exchange, swap, fetch_add, fetch_or, fetch_and};
 
 use crate::checks::{Kind, Who, check, page_fault};
 use cet_isa::{Fault, FaultName, is_canonical};
@@ -200,10 +200,10 @@ impl<'a> Cursor<'a> {
     }
 
     /// The look at a page of which no test is made.
-    #[tactic(auto, unfolding(crate::specs::Parts::peek))]
-    pub fn peek(&mut self, page: u32) -> Result<u64, Suspended>
+    #[tactic(auto, unfolding(crate::specs::Parts::read_entry))]
+    pub fn read_entry(&mut self, page: u32) -> Result<u64, Suspended>
         requires { page < page_count }
-        ensures { Refines (play (peek page) self.old.left self.old.rest.now) result self.new.left self.new.rest.now }
+        ensures { Refines (play (read_entry page) self.old.left self.old.rest.now) result self.new.left self.new.rest.now }
     {
         self.ask(Access::Look(page))
     }
