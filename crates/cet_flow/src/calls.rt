@@ -37,7 +37,7 @@ fn call(arch: &Arch, back: u64, target: u64, at: &mut Cursor) -> Result<(Arch, R
 {
     let sp = arch.regs[RSP].wrapping_sub(8);
     let ssp = arch.ssp.wrapping_sub(8);
-    at.tested(sp, 8)?;
+    at.check_address(sp, 8)?;
     let page = at.look(Who::User, Kind::Store, sp)?;
     let shadow = at.look(Who::User, Kind::ShadowStore, ssp)?;
     at.store(word_in(page, sp), back)?;
@@ -52,7 +52,7 @@ fn call_next(arch: &Arch, back: u64, at: &mut Cursor) -> Result<(Arch, Record), 
     ensures { Refines (play (call_next arch.now back) at.old.left at.old.rest.now) result at.new.left at.new.rest.now }
 {
     let sp = arch.regs[RSP].wrapping_sub(8);
-    at.tested(sp, 8)?;
+    at.check_address(sp, 8)?;
     let page = at.look(Who::User, Kind::Store, sp)?;
     at.store(word_in(page, sp), back)?;
     Ok(called(arch, back, sp, arch.ssp))

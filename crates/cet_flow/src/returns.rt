@@ -48,7 +48,7 @@ pub fn ret(arch: &Arch, bytes: u16, at: &mut Cursor) -> Result<(Arch, Record), S
     ensures { Refines (play (ret arch.now bytes) at.old.left at.old.rest.now) result at.new.left at.new.rest.now }
 {
     let sp = arch.regs[RSP];
-    at.tested(sp, 8)?;
+    at.check_address(sp, 8)?;
     let page = at.look(Who::User, Kind::Load, sp)?;
     let shadow = at.look(Who::User, Kind::ShadowLoad, arch.ssp)?;
     let word = at.load(word_in(page, sp))?;

@@ -34,7 +34,7 @@ use Rattle.cet_own.specs.Restores.{RestoresBy}
 use Rattle.cet_own.proofs.Standing.{stacked, AtRest, HasNone}
 use Rattle.cet_own.proofs.Owed.{State}
 use Rattle.cet_own.proofs.Classes.{pushes}
-use Rattle.cet_own.proofs.Parts.{Claim, one_after, claim_bind, claim_cond, tested_then, store_look_then, shadow_look_then, store_then}
+use Rattle.cet_own.proofs.Parts.{Claim, one_after, claim_bind, claim_cond, check_address_then, store_look_then, shadow_look_then, store_then}
 use Rattle.cet_own.proofs.OperandParts.{read_operand_then}
 use Rattle.cet_own.proofs.Places.{page_word, shadow_slot, below_is, room_below}
 use Rattle.cet_own.specs.Past.{drew, numbered}
@@ -109,7 +109,7 @@ module _ (job : JobData) (arch : Arch) where
       let high = rest.stacked.high in
       let even = rest.stacked.top.aligned in
       let is : below arch.ssp 8 ≡ arch.ssp - 8 = below_is arch.ssp low high in
-      tested_then job arch (EndsRow job arch) past before s (below (rsp arch) 8) 8 _ rest (λ c e.
+      check_address_then job arch (EndsRow job arch) past before s (below (rsp arch) 8) 8 _ rest (λ c e.
       store_look_then job arch (EndsRow job arch) past before s (below (rsp arch) 8) _ rest (λ now r page v' p.
       let rest1 = rest_kept r rest in
       shadow_look_then job arch (EndsRow job arch) _ now now kind.ShadowStore (below arch.ssp 8) _ (omega arith) (omega arith) rest1 (λ now2 r2 v known i inn.
@@ -126,7 +126,7 @@ module _ (job : JobData) (arch : Arch) where
   pub call_next_claim : (past : List Visit) (before s : State) (back : ℕ) → Resting arch.number untouched (progress past) s.book arch.ssp → IsElsewhere job arch → Claim job arch (EndsRow job arch) past before s (call_next arch back)
   unfolding call_next
   call_next_claim past before s back rest free =
-      tested_then job arch (EndsRow job arch) past before s (below (rsp arch) 8) 8 _ rest (λ c e.
+      check_address_then job arch (EndsRow job arch) past before s (below (rsp arch) 8) 8 _ rest (λ c e.
       store_look_then job arch (EndsRow job arch) past before s (below (rsp arch) 8) _ rest (λ now r page v' p.
       let rest1 = rest_kept r rest in
       store_then job arch (EndsRow job arch) _ now now (word_in page (below (rsp arch) 8)) back _ (page_word page (below (rsp arch) 8) p) (rest_stacked rest1) (λ now2 r2.

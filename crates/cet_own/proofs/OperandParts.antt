@@ -16,7 +16,7 @@ use Rattle.cet_page.specs.declared.checks.Who.TheVariants.{User}
 use Rattle.cet_own.proofs.Holds.{IsOut}
 use Rattle.cet_own.proofs.Owed.{State}
 use Rattle.cet_own.proofs.Classes.{loads, stores}
-use Rattle.cet_own.proofs.Parts.{Claim, claim_bind, tested_then, look_then, store_look_then}
+use Rattle.cet_own.proofs.Parts.{Claim, claim_bind, check_address_then, look_then, store_look_then}
 use Rattle.cet_own.proofs.Places.{page_word}
 use Rattle.cet_own.proofs.Progress.{progress, untouched}
 use Rattle.cet_page.specs.Trail.{Visit}
@@ -28,7 +28,7 @@ module _ (job : JobData) (arch : Arch) where
   load_at_then Q past before s addr count f rest h =
       claim_bind job arch Q past before s (load_at addr count) f
       (claim_bind job arch (λ p z n x. Claim job arch Q p z n (f x)) past before s (load_word addr count) _
-      (tested_then job arch (λ p z n x. Claim job arch Q p z n (f (bytes_at addr count x))) past before s addr count _ rest (λ c e.
+      (check_address_then job arch (λ p z n x. Claim job arch Q p z n (f (bytes_at addr count x))) past before s addr count _ rest (λ c e.
       look_then job arch (λ p z n x. Claim job arch Q p z n (f (bytes_at addr count x))) past before s User kind.Load addr _ rest (λ now r page v at known a.
       let rest1 = rest_kept r rest in (
         (rest_stacked rest1),
@@ -40,7 +40,7 @@ module _ (job : JobData) (arch : Arch) where
   unfolding write_place
   write_place_then Q past before s addr f rest h =
       claim_bind job arch Q past before s (write_place addr) f
-      (tested_then job arch (λ p z n x. Claim job arch Q p z n (f x)) past before s addr 8 _ rest (λ c e.
+      (check_address_then job arch (λ p z n x. Claim job arch Q p z n (f x)) past before s addr 8 _ rest (λ c e.
       store_look_then job arch (λ p z n x. Claim job arch Q p z n (f x)) past before s addr _ rest (λ now r page v l.
       h _ now now (rest_kept r rest) (word_in page addr) (page_word page addr l))))
 

@@ -14,7 +14,7 @@ use Rattle.cet_book.specs.Book.{Book, book_after, region, top}
 use Rattle.cet_book.proofs.Relies.{Relies}
 use Rattle.cet_page.specs.Script.{Script, done, fault, ◌>>=◌, silent}
 use Rattle.cet_page.specs.Page.{allows, page_fault}
-use Rattle.cet_page.specs.Parts.{tested, tested_as, look_in_as, look, look_as, read_entry, load_as, load, store_as, store, compare_exchange_as, compare_exchange, swap, fetch_add_as, fetch_add, stores, alignment_check}
+use Rattle.cet_page.specs.Parts.{check_address, check_address_as, look_in_as, look, look_as, read_entry, load_as, load, store_as, store, compare_exchange_as, compare_exchange, swap, fetch_add_as, fetch_add, stores, alignment_check}
 use Rattle.cet_page.specs.Gate.{clears}
 use Rattle.cet_page.specs.declared.checks.Kind.{Kind}
 use Rattle.cet_page.specs.declared.checks.Kind.TheVariants as kind
@@ -57,10 +57,10 @@ module _ (job : JobData) (arch : Arch) where
   pub claim_cond : {A : Type 0} (Q : List Visit → State → State → A → Type 0) (past : List Visit) (before s : State) (c : Bool) (p q : Script A) → (c ≡ true → Claim job arch Q past before s p) → (c ≡ false → Claim job arch Q past before s q) → Claim job arch Q past before s (cond c p q)
   claim_cond Q past before s c p q x y = steady_cond (rules job arch.number) (During arch) Q (λ p. Fails job arch) past before s c p q x y
 
-  pub tested_then : {A : Type 0} (Q : List Visit → State → State → A → Type 0) (past : List Visit) (before s : State) (addr size : ℕ) (f : Unit {0} → Script A) → Resting arch.number untouched (progress past) s.book arch.ssp → (canonical addr ≡ true → addr % size ≡ 0 → Claim job arch Q past before s (f tt)) → Claim job arch Q past before s (tested addr size >>= f)
-  unfolding tested_as
-  tested_then Q past before s addr size f rest h =
-      claim_bind Q past before s (tested addr size) f
+  pub check_address_then : {A : Type 0} (Q : List Visit → State → State → A → Type 0) (past : List Visit) (before s : State) (addr size : ℕ) (f : Unit {0} → Script A) → Resting arch.number untouched (progress past) s.book arch.ssp → (canonical addr ≡ true → addr % size ≡ 0 → Claim job arch Q past before s (f tt)) → Claim job arch Q past before s (check_address addr size >>= f)
+  unfolding check_address_as
+  check_address_then Q past before s addr size f rest h =
+      claim_bind Q past before s (check_address addr size) f
       (claim_cond (λ p z n x. Claim job arch Q p z n (f x)) past before s (canonical addr) _ _
       (λ c. claim_cond (λ p z n x. Claim job arch Q p z n (f x)) past before s (addr % size == 0) (done tt) (fault (alignment_check addr))
       (λ e. h c (eqb-true (addr % size) 0 e)) (λ _. (rested rest, λ _. tt, tt)))

@@ -33,7 +33,7 @@ use Rattle.cet_own.proofs.Standing.{stacked}
 use Rattle.cet_book.proofs.Held.{Free}
 use Rattle.cet_own.proofs.Owed.{State, state_after, HeadWord, Known, Owed, own_stack}
 use Rattle.cet_own.proofs.Classes.{loads, pops}
-use Rattle.cet_own.proofs.Parts.{Claim, one_after, claim_bind, tested_then, look_then, shadow_look_then, load_then}
+use Rattle.cet_own.proofs.Parts.{Claim, one_after, claim_bind, check_address_then, look_then, shadow_look_then, load_then}
 use Rattle.cet_own.proofs.Places.{shadow_slot, above_is, entry_at}
 use Rattle.cet_own.proofs.Calls.{entries_of, EndsRow, own_kept}
 use Rattle.cet_own.proofs.Progress.{progress, untouched}
@@ -128,7 +128,7 @@ module _ (job : JobData) (j : IsJob job) (arch : Arch) where
   ret_claim past before s bytes rest =
       let low = rest.stacked.low in
       let high = rest.stacked.high in
-      tested_then job arch (EndsRow job arch) past before s (rsp arch) 8 _ rest (λ c e.
+      check_address_then job arch (EndsRow job arch) past before s (rsp arch) 8 _ rest (λ c e.
       look_then job arch (EndsRow job arch) past before s User kind.Load (rsp arch) _ rest (λ now r page v at_page known a.
       let rest1 = rest_kept r rest in
       shadow_look_then job arch (EndsRow job arch) _ now now kind.ShadowLoad arch.ssp _ (omega arith) (omega arith) rest1 (λ now2 r2 v2 known2 i inn.

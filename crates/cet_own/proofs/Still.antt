@@ -107,13 +107,13 @@ restorer_shown : {image : ImageData} (a : Access) (words : List ℕ) (s : ℕ) �
 restorer_shown (access.Load word) words s size h l e =
     let d = and_true (word == action_word s) (nat_lt 1 (slice_index words word)) e in
     let same : word ≡ action_word s = eqb-true word (action_word s) d.0 in
-    let tested : nat_lt 1 (slice_index words word) ≡ true = d.1 in
+    let check_address : nat_lt 1 (slice_index words word) ≡ true = d.1 in
     let above : 1 < slice_index words word = grind (arith, nat_tests) in
     h.shown s l (subst (λ n. 1 < slice_index words n) same above)
 restorer_shown (access.Store word value) words s size h l e =
     let d = and_true (word == restorer_word s) (nat_lt 0 value) e in
     let same : word ≡ restorer_word s = eqb-true word (restorer_word s) d.0 in
-    let tested : nat_lt 0 value ≡ true = d.1 in
+    let check_address : nat_lt 0 value ≡ true = d.1 in
     let above : 0 < value = grind (arith, nat_tests) in
     let inside : restorer_word s < length words = omega arith in
     let now : slice_index (slice_set words word value) (restorer_word s) ≡ value = subst (λ n. slice_index (slice_set words n value) (restorer_word s) ≡ value) (sym same) (get_or-set_same words (restorer_word s) value 0 inside) in

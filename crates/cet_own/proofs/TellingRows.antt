@@ -21,7 +21,7 @@ use Rattle.cet_isa.specs.declared.threads.Fault.{Fault}
 use Rattle.cet_isa.specs.declared.threads.Record.{Record}
 use Rattle.cet_page.specs.Script.{Script, done, fault, ask, tell, ◌>>=◌}
 use Rattle.cet_page.specs.Page.{allows, page_fault}
-use Rattle.cet_page.specs.Parts.{tested_as, look_in_as, look_as, probe_in, probe, read_entry, load_as, store_as, compare_exchange_as, swap, fetch_add_as, stores, general_protection}
+use Rattle.cet_page.specs.Parts.{check_address_as, look_in_as, look_as, probe_in, probe, read_entry, load_as, store_as, compare_exchange_as, swap, fetch_add_as, stores, general_protection}
 use Rattle.cet_page.specs.Values.{limit, width}
 use Rattle.cet_page.specs.Finish.{Row, noted, above}
 use Rattle.cet_page.specs.Family.{family_of}
@@ -107,8 +107,8 @@ module _ {A : Type 0} {Q : Drawn → A → Type 0} {d : Drawn} (f : Unit {0} →
   tells_stores : (count word value step : ℕ) → Tells Q d (f tt) → Tells Q d (stores count word value step >>= f)
   tells_stores count word value step h = record { tells = stores_telling Q d f count word value step h.tells }
 
-  tells_tested : (misaligned : Fault) (addr size : ℕ) → d.kept ≡ [] → Tells Q d (f tt) → Tells Q d (tested_as misaligned addr size >>= f)
-  unfolding tested_as
+  tells_tested : (misaligned : Fault) (addr size : ℕ) → d.kept ≡ [] → Tells Q d (f tt) → Tells Q d (check_address_as misaligned addr size >>= f)
+  unfolding check_address_as
   tells_tested misaligned addr size n h =
       tells_if_then f (canonical addr) (cond (addr % size == 0) (done tt) (fault misaligned)) (fault general_protection)
       (tells_if_then f (addr % size == 0) (done tt) (fault misaligned) (tells_return f tt h) (tells_fault_then f _ n)) (tells_fault_then f _ n)

@@ -17,7 +17,7 @@ use Rattle.cet_isa.specs.declared.threads.Fault.{Fault}
 use Rattle.cet_page.specs.Script.{Script, done, fault, ask, tell, ◌>>=◌, Played, Completed, Faulted, Wants, play, birth, held_after}
 use Rattle.cet_page.specs.ValsData.{keeps, kept_after}
 use Rattle.cet_page.specs.Page.{allows, page_fault}
-use Rattle.cet_page.specs.Parts.{tested_as, look_in_as, look_as, probe_in, probe, read_entry, load_as, store_as, compare_exchange_as, swap, fetch_add_as, stores, store_each, general_protection}
+use Rattle.cet_page.specs.Parts.{check_address_as, look_in_as, look_as, probe_in, probe, read_entry, load_as, store_as, compare_exchange_as, swap, fetch_add_as, stores, store_each, general_protection}
 use Rattle.cet_page.specs.Values.{limit, width}
 use Rattle.cet_page.specs.Finish.{IsMade}
 use Rattle.cet_page.specs.Gate.{gate_in, gate_out, freed}
@@ -274,9 +274,9 @@ probe_in_walk used kept wrote P None kd w f h =
 probe_in_walk used kept wrote P (Some page) kd w f h = record { walks = (refl, λ v. (no_birth [] refl, (h (cond (allows v kd w) (Some page) None)).walks)) }
 
 module _ {A : Type 0} {used kept : ℕ} {P : A → Type 0} where
-  pub walk_tested : (misaligned : Fault) (addr size : ℕ) (f : Unit {0} → Script A) → Walk used kept false P (f tt) → Walk used kept false P (tested_as misaligned addr size >>= f)
-  unfolding tested_as
-  walk_tested misaligned addr size f h =
+  pub walk_check_address : (misaligned : Fault) (addr size : ℕ) (f : Unit {0} → Script A) → Walk used kept false P (f tt) → Walk used kept false P (check_address_as misaligned addr size >>= f)
+  unfolding check_address_as
+  walk_check_address misaligned addr size f h =
       let e = walks_fit used kept false P (f tt) h.walks in
       walk_if_then f (canonical addr) (cond (addr % size == 0) (done tt) (fault misaligned)) (fault general_protection)
       (λ _. walk_if_then f (addr % size == 0) (done tt) (fault misaligned) (λ _. walk_return f tt h) (λ _. walk_fault_then f _ e refl))
@@ -302,7 +302,7 @@ module _ {A B C : Type 0} {used kept : ℕ} {wrote : Bool} {P : A → Type 0} wh
   pub walk_assoc : (m : Script C) (h : C → Script B) (f : B → Script A) → Walk used kept wrote P (m >>= (λ x. h x >>= f)) → Walk used kept wrote P ((m >>= h) >>= f)
   walk_assoc m h f w = record { walks = assoc_walks used kept wrote P m h f w.walks }
 
-pub ruleset walk_parts = (walk_done, walk_fault, walk_if, walk_return, walk_fault_then, walk_if_then, walk_assoc, walk_read_entry, walk_load, walk_compare_exchange, walk_swap, walk_fetch_add, walk_store, walk_stores, walk_tested, walk_look, walk_probe, no_birth, birth_if, moves_if)
+pub ruleset walk_parts = (walk_done, walk_fault, walk_if, walk_return, walk_fault_then, walk_if_then, walk_assoc, walk_read_entry, walk_load, walk_compare_exchange, walk_swap, walk_fetch_add, walk_store, walk_stores, walk_check_address, walk_look, walk_probe, no_birth, birth_if, moves_if)
 
 -- ---- operands
 

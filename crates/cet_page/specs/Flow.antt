@@ -20,7 +20,7 @@ use Rattle.cet_words.specs.Change.{Change, Called, Returned}
 use Rattle.cet_page.specs.Flags.{status, holds}
 use Rattle.cet_page.specs.Operands.{load_at, store_at, read_operand, stepped}
 use Rattle.cet_page.specs.Script.{done, fault, ◌>>=◌}
-use Rattle.cet_page.specs.Parts.{general_protection, invalid_opcode, tested, look, load, load_as, store, store_as}
+use Rattle.cet_page.specs.Parts.{general_protection, invalid_opcode, check_address, look, load, load_as, store, store_as}
 use Rattle.cet_page.specs.Finish.{Row, above, below, rsp}
 use Rattle.cet_page.specs.declared.checks.Kind.TheVariants as kind
 use Rattle.cet_page.specs.declared.checks.Who.TheVariants.{User}
@@ -39,7 +39,7 @@ unfoldable pub call : Arch → (back target : ℕ) → Row
 call arch back target = do
   let sp = below (rsp arch) 8
   let ssp = below arch.ssp 8
-  _ ← tested sp 8
+  _ ← check_address sp 8
   page ← look User kind.Store sp
   shadow ← look User kind.ShadowStore ssp
   _ ← store (word_in page sp) back
@@ -50,7 +50,7 @@ call arch back target = do
 unfoldable pub call_next : Arch → (back : ℕ) → Row
 call_next arch back = do
   let sp = below (rsp arch) 8
-  _ ← tested sp 8
+  _ ← check_address sp 8
   page ← look User kind.Store sp
   _ ← store (word_in page sp) back
   done (called arch back sp arch.ssp)
@@ -91,7 +91,7 @@ returned_if word shadow_word = if (word == shadow_word) && canonical word then R
 
 unfoldable pub ret : Arch → (bytes : ℕ) → Row
 ret arch bytes = do
-  _ ← tested (rsp arch) 8
+  _ ← check_address (rsp arch) 8
   page ← look User kind.Load (rsp arch)
   shadow ← look User kind.ShadowLoad arch.ssp
   word ← load (word_in page (rsp arch))

@@ -18,7 +18,7 @@ use Rattle.cet_isa.specs.declared.threads.What.TheVariants as what
 use Rattle.cet_page.specs.declared.flags.Computed.{Computed}
 use Rattle.cet_page.specs.Flags.{rflags}
 use Rattle.cet_page.specs.Script.{Script, done, ◌>>=◌}
-use Rattle.cet_page.specs.Parts.{tested, look, load, store}
+use Rattle.cet_page.specs.Parts.{check_address, look, load, store}
 use Rattle.cet_page.specs.Values.{width, limit}
 use Rattle.cet_page.specs.declared.checks.Kind.TheVariants as kind
 use Rattle.cet_page.specs.declared.checks.Who.TheVariants.{User}
@@ -58,7 +58,7 @@ bytes_at addr count word = word / 2 ^ (8 * (addr % 8)) % 2 ^ (8 * count)
 -- the tests, the look and the load of the word that holds an address
 unfoldable pub load_word : (addr count : ℕ) → Script ℕ
 load_word addr count = do
-  _ ← tested addr count
+  _ ← check_address addr count
   page ← look User kind.Load addr
   load (word_in page addr)
 
@@ -71,7 +71,7 @@ load_at addr count = do
 -- the tests and the look before a write of 8 bytes, with the word's number as result
 unfoldable pub write_place : (addr : ℕ) → Script ℕ
 write_place addr = do
-  _ ← tested addr 8
+  _ ← check_address addr 8
   page ← look User kind.Store addr
   done (word_in page addr)
 

@@ -23,15 +23,15 @@ abbrev pub alignment_check : ℕ → Fault
 alignment_check addr = record { name = Ac; code = 0; a = addr; b = 0 }
 
 -- the canonical test, and then the test for a multiple of the size, which fails with this fault
-unfoldable pub tested_as : Fault → (addr size : ℕ) → Script (Unit {0})
-tested_as misaligned addr size =
+unfoldable pub check_address_as : Fault → (addr size : ℕ) → Script (Unit {0})
+check_address_as misaligned addr size =
     if canonical addr
     then (if addr % size == 0 then done tt else fault misaligned)
     else fault general_protection
 
 -- of data
-abbrev pub tested : (addr size : ℕ) → Script (Unit {0})
-tested addr size = tested_as (alignment_check addr) addr size
+abbrev pub check_address : (addr size : ℕ) → Script (Unit {0})
+check_address addr size = check_address_as (alignment_check addr) addr size
 
 -- The look at a page and the page check, with the look's changes for each entry and the page's number as result; an address
 -- on no page counts as entry 0 and costs no access.

@@ -6,7 +6,7 @@ ghost use Rattle.cet_words.specs.Layout.{word_in, page_count, word_count};
 ghost use Rattle.cet_page.specs.Script.{play, ask, tell, done, silent};
 ghost use Rattle.cet_page.specs.Plays.{Refines, Asks, Marks};
 ghost use Rattle.cet_words.specs.Change.{Change};
-ghost use Rattle.cet_page.specs.Parts.{general_protection, invalid_opcode, tested, tested_as, look, look_as, look_in_as, probe, probe_in, read_entry, load, store, stores, store_each, compare_exchange, swap, fetch_add, fetch_or, fetch_and};
+ghost use Rattle.cet_page.specs.Parts.{general_protection, invalid_opcode, check_address, check_address_as, look, look_as, look_in_as, probe, probe_in, read_entry, load, store, stores, store_each, compare_exchange, swap, fetch_add, fetch_or, fetch_and};
 
 use crate::checks::{Kind, Who, check, page_fault};
 use cet_isa::{Fault, FaultName, is_canonical};
@@ -209,10 +209,10 @@ impl<'a> Cursor<'a> {
     }
 
     /// The canonical test, and then the test for a multiple of the size in bytes.
-    #[tactic(auto, unfolding(crate::specs::Parts::tested_as))]
-    pub fn tested(&mut self, addr: u64, size: u64) -> Result<(), Suspended>
+    #[tactic(auto, unfolding(crate::specs::Parts::check_address_as))]
+    pub fn check_address(&mut self, addr: u64, size: u64) -> Result<(), Suspended>
         requires { 0 < size }
-        ensures { Refines (play (tested addr size) self.old.left self.old.rest.now) result self.new.left self.new.rest.now }
+        ensures { Refines (play (check_address addr size) self.old.left self.old.rest.now) result self.new.left self.new.rest.now }
     {
         if !is_canonical(addr) {
             return Err(general_protection());
@@ -229,10 +229,10 @@ impl<'a> Cursor<'a> {
     }
 
     /// The canonical test and the test for a multiple of the size in bytes, which both fail with #GP(0).
-    #[tactic(auto, unfolding(crate::specs::Parts::tested_as))]
-    pub fn tested_gp(&mut self, addr: u64, size: u64) -> Result<(), Suspended>
+    #[tactic(auto, unfolding(crate::specs::Parts::check_address_as))]
+    pub fn check_address_gp(&mut self, addr: u64, size: u64) -> Result<(), Suspended>
         requires { 0 < size }
-        ensures { Refines (play (tested_as general_protection addr size) self.old.left self.old.rest.now) result self.new.left self.new.rest.now }
+        ensures { Refines (play (check_address_as general_protection addr size) self.old.left self.old.rest.now) result self.new.left self.new.rest.now }
     {
         if !is_canonical(addr) || addr % size != 0 {
             return Err(general_protection());

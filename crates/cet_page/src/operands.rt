@@ -102,7 +102,7 @@ impl<'a> Cursor<'a> {
         requires { 0 < count }
         ensures { Refines (play (load_word addr count) self.old.left self.old.rest.now) result self.new.left self.new.rest.now }
     {
-        self.tested(addr, count)?;
+        self.check_address(addr, count)?;
         let page = self.look(Who::User, Kind::Load, addr)?;
         self.load(word_in(page, addr))
     }
@@ -132,7 +132,7 @@ impl<'a> Cursor<'a> {
         ensures comes { Refines (play (write_place addr) self.old.left self.old.rest.now) result self.new.left self.new.rest.now }
         ensures range { IfOk result (λ word. word < word_count) }
     {
-        self.tested(addr, 8)?;
+        self.check_address(addr, 8)?;
         let page = self.look(Who::User, Kind::Store, addr)?;
         Ok(word_in(page, addr))
     }

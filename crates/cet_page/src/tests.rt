@@ -169,15 +169,15 @@ fn looks_and_tests(rt: HostRuntime) {
         fault(FaultName::Pf, 71, top, writable[0])
     );
 
-    assert_eq!(rt; before.tested(top, 8), Ok(()));
+    assert_eq!(rt; before.check_address(top, 8), Ok(()));
     assert_eq!(rt;
-        before.tested(top + 4, 8),
+        before.check_address(top + 4, 8),
         fault(FaultName::Ac, 0, top + 4, 0)
     );
-    assert_eq!(rt; before.tested_gp(top, 8), Ok(()));
-    assert_eq!(rt; before.tested_gp(top + 4, 8), fault(FaultName::Gp, 0, 0, 0));
+    assert_eq!(rt; before.check_address_gp(top, 8), Ok(()));
+    assert_eq!(rt; before.check_address_gp(top + 4, 8), fault(FaultName::Gp, 0, 0, 0));
     assert_eq!(rt;
-        before.tested_gp(0x8000_0000_0000, 8),
+        before.check_address_gp(0x8000_0000_0000, 8),
         fault(FaultName::Gp, 0, 0, 0)
     );
 
