@@ -12,7 +12,7 @@ use Rattle.cet_isa.specs.declared.threads.Arch.{Arch}
 use Rattle.cet_isa.specs.declared.threads.Fault.{Fault}
 use Rattle.cet_book.specs.Book.{Book, book_after, region, top}
 use Rattle.cet_book.proofs.Relies.{Relies}
-use Rattle.cet_page.specs.Script.{Script, done, fault, ◌>>=◌, silent}
+use Rattle.cet_page.specs.Script.{Script, done, fault, ◌>>=◌, no_changes}
 use Rattle.cet_page.specs.Page.{allows, page_fault}
 use Rattle.cet_page.specs.Parts.{check_address, check_address_as, look_in_as, look, look_as, read_entry, load_as, load, store_as, store, compare_exchange_as, compare_exchange, swap, fetch_add_as, fetch_add, stores, alignment_check}
 use Rattle.cet_page.specs.Gate.{clears}
@@ -66,7 +66,7 @@ module _ (job : JobData) (arch : Arch) where
       (λ e. h c (eqb-true (addr % size) 0 e)) (λ _. (rested rest, λ _. tt, tt)))
       (λ _. (rested rest, λ _. tt, tt)))
 
-  look_at : {A : Type 0} (Q : List Visit → State → State → A → Type 0) (past : List Visit) (before s : State) (at : Option ℕ) (w : Who) (kd : Kind) (addr : ℕ) (f : ℕ → Script A) → Resting arch.number untouched (progress past) s.book arch.ssp → ((now : State) → Relies arch.number s.book now.book → (page v : ℕ) → at ≡ Some page → Known job.image arch.number past now.book (access.Look page) v → allows v kd w ≡ true → Claim job arch Q (visit (access.Look page) v [] ∷ past) now now (f page)) → Claim job arch (λ p z n x. Claim job arch Q p z n (f x)) past before s (look_in_as silent at kd w addr)
+  look_at : {A : Type 0} (Q : List Visit → State → State → A → Type 0) (past : List Visit) (before s : State) (at : Option ℕ) (w : Who) (kd : Kind) (addr : ℕ) (f : ℕ → Script A) → Resting arch.number untouched (progress past) s.book arch.ssp → ((now : State) → Relies arch.number s.book now.book → (page v : ℕ) → at ≡ Some page → Known job.image arch.number past now.book (access.Look page) v → allows v kd w ≡ true → Claim job arch Q (visit (access.Look page) v [] ∷ past) now now (f page)) → Claim job arch (λ p z n x. Claim job arch Q p z n (f x)) past before s (look_in_as no_changes at kd w addr)
   unfolding look_in_as
   look_at Q past before s None w kd addr f rest h = (rested rest, λ _. tt, tt)
   look_at Q past before s (Some page) w kd addr f rest h = (

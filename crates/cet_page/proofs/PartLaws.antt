@@ -10,11 +10,11 @@ use Rattle.cet_page.specs.declared.checks.Who.{Who}
 use Rattle.cet_page.specs.declared.cursors.Mark.TheVariants as marks
 use Rattle.cet_page.specs.declared.cursors.Suspended.{Suspended}
 use Rattle.cet_page.specs.declared.cursors.Suspended.TheVariants as suspended
-use Rattle.cet_page.specs.Script.{play, silent, Played, Completed, Wants}
+use Rattle.cet_page.specs.Script.{play, no_changes, Played, Completed, Wants}
 use Rattle.cet_page.specs.Parts.{stores, store_each, look, look_as, look_in_as}
 
 abbrev pub wants_store : (word value : ℕ) → Played (Unit {0})
-wants_store word value = Wants (access.Store word value) silent
+wants_store word value = Wants (access.Store word value) no_changes
 
 abbrev pub stored : (left : ℕ) → List ℕ → Played (Unit {0})
 stored left values = Completed tt left values
@@ -64,7 +64,7 @@ play_each_wants word (value ∷ rest) (suc n) values l =
 
 -- a look that comes to something without changes comes to the same with changes that its mark needn't tell
 look_in_changes : (changes : ℕ → List Change) (at : Option ℕ) (k : Kind) (w : Who) (addr : ℕ) (n : ℕ) (values : List ℕ) (result : Result ℕ Suspended) (left : ℕ) (rest : List ℕ)
-    → Marks marks.Plain changes → Refines (play (look_in_as silent at k w addr) n values) result left rest
+    → Marks marks.Plain changes → Refines (play (look_in_as no_changes at k w addr) n values) result left rest
     → Refines (play (look_in_as changes at k w addr) n values) result left rest
 unfolding look_in_as
 look_in_changes changes None k w addr n values result left rest m h = h

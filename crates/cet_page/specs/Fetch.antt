@@ -6,7 +6,7 @@ use Rattle.cet_words.specs.declared.images.Segment.{Segment}
 use Rattle.cet_words.specs.Layout.{page_at}
 use Rattle.cet_words.specs.Bytes.{code_byte}
 use Rattle.cet_words.specs.declared.accesses.Access.TheVariants as access
-use Rattle.cet_page.specs.Script.{Script, fault, ask, silent}
+use Rattle.cet_page.specs.Script.{Script, fault, ask, no_changes}
 use Rattle.cet_page.specs.Page.{page_fault}
 use Rattle.cet_page.specs.declared.checks.Kind.TheVariants as kind
 use Rattle.cet_page.specs.declared.checks.Who.TheVariants.{User}
@@ -24,7 +24,7 @@ fetchable segments addr (suc most) = joined (code_byte segments addr) (fetchable
 -- the fetch at an address whose byte can't be fetched faults, whatever the look at its page answers
 abbrev pub missing_in : {A : Type 0} → Option ℕ → (addr : ℕ) → Script A
 missing_in None addr = fault (page_fault 0 kind.Fetch User addr)
-missing_in (Some page) addr = ask (access.Look page) silent (λ entry. fault (page_fault entry kind.Fetch User addr))
+missing_in (Some page) addr = ask (access.Look page) no_changes (λ entry. fault (page_fault entry kind.Fetch User addr))
 
 unfoldable pub missing : {A : Type 0} → (addr : ℕ) → Script A
 missing addr = missing_in (page_at addr) addr

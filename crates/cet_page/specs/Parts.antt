@@ -8,7 +8,7 @@ use Rattle.cet_isa.specs.Address.{canonical}
 use Rattle.cet_isa.specs.declared.threads.Fault.{Fault}
 use Rattle.cet_isa.specs.declared.threads.FaultName.TheVariants.{Gp, Ac, Ud}
 use Rattle.cet_words.specs.Change.{Change}
-use Rattle.cet_page.specs.Script.{Script, done, fault, ask, tell, silent}
+use Rattle.cet_page.specs.Script.{Script, done, fault, ask, tell, no_changes}
 use Rattle.cet_page.specs.Page.{allows, page_fault}
 use Rattle.cet_page.specs.declared.checks.Kind.{Kind}
 use Rattle.cet_page.specs.declared.checks.Who.{Who}
@@ -45,27 +45,27 @@ unfoldable pub look_as : (ℕ → List Change) → Who → Kind → (addr : ℕ)
 look_as changes w k addr = look_in_as changes (page_at addr) k w addr
 
 abbrev pub look : Who → Kind → (addr : ℕ) → Script ℕ
-look w k addr = look_as silent w k addr
+look w k addr = look_as no_changes w k addr
 
 -- The look of a call that goes on where the page check fails: the page's number, or none. An address on no page costs no
 -- access.
 unfoldable pub probe_in : Option ℕ → Kind → Who → Script (Option ℕ)
 probe_in None k w = done None
-probe_in (Some page) k w = ask (access.Look page) silent (λ entry. done (if allows entry k w then Some page else None))
+probe_in (Some page) k w = ask (access.Look page) no_changes (λ entry. done (if allows entry k w then Some page else None))
 
 unfoldable pub probe : Who → Kind → (addr : ℕ) → Script (Option ℕ)
 probe w k addr = probe_in (page_at addr) k w
 
 -- the look at a page of which no test is made
 unfoldable pub read_entry : (page : ℕ) → Script ℕ
-read_entry page = ask (access.Look page) silent done
+read_entry page = ask (access.Look page) no_changes done
 
 -- the load of a word, with its changes for each answer
 unfoldable pub load_as : (ℕ → List Change) → (word : ℕ) → Script ℕ
 load_as changes word = ask (access.Load word) changes done
 
 abbrev pub load : (word : ℕ) → Script ℕ
-load word = load_as silent word
+load word = load_as no_changes word
 
 -- the store of a value
 unfoldable pub store_as : List Change → (word value : ℕ) → Script (Unit {0})
@@ -79,25 +79,25 @@ unfoldable pub compare_exchange_as : (ℕ → List Change) → (word expected va
 compare_exchange_as changes word expected value = ask (access.CompareExchange word expected value) changes done
 
 abbrev pub compare_exchange : (word expected value : ℕ) → Script ℕ
-compare_exchange word expected value = compare_exchange_as silent word expected value
+compare_exchange word expected value = compare_exchange_as no_changes word expected value
 
 -- the exchange of a word, with the word found as result
 unfoldable pub swap : (word value : ℕ) → Script ℕ
-swap word value = ask (access.Swap word value) silent done
+swap word value = ask (access.Swap word value) no_changes done
 
 -- the fetch-and-add of a word, with its changes for each answer and the word found as result
 unfoldable pub fetch_add_as : (ℕ → List Change) → (word value : ℕ) → Script ℕ
 fetch_add_as changes word value = ask (access.FetchAdd word value) changes done
 
 abbrev pub fetch_add : (word value : ℕ) → Script ℕ
-fetch_add word value = fetch_add_as silent word value
+fetch_add word value = fetch_add_as no_changes word value
 
 -- the fetch-and-or and the fetch-and-and of a word
 unfoldable pub fetch_or : (word value : ℕ) → Script ℕ
-fetch_or word value = ask (access.FetchOr word value) silent done
+fetch_or word value = ask (access.FetchOr word value) no_changes done
 
 unfoldable pub fetch_and : (word value : ℕ) → Script ℕ
-fetch_and word value = ask (access.FetchAnd word value) silent done
+fetch_and word value = ask (access.FetchAnd word value) no_changes done
 
 -- Stores to so many words, the lowest first: the first gets the value, and each further one the value before and the step.
 unfoldable pub stores : (count word value step : ℕ) → Script (Unit {0})

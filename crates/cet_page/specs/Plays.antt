@@ -6,7 +6,7 @@ use Rattle.cet_words.specs.declared.accesses.Access.{Access}
 use Rattle.cet_isa.specs.declared.threads.Arch.{Arch}
 use Rattle.cet_isa.specs.declared.threads.Record.{Record}
 use Rattle.cet_words.specs.Access.{InRange}
-use Rattle.cet_page.specs.Script.{Played, Completed, Faulted, Wants, ask, done, play, silent, birth, held_after}
+use Rattle.cet_page.specs.Script.{Played, Completed, Faulted, Wants, ask, done, play, no_changes, birth, held_after}
 use Rattle.cet_page.specs.declared.cursors.Mark.{Mark}
 use Rattle.cet_page.specs.declared.cursors.Mark.TheVariants as marks
 use Rattle.cet_page.specs.declared.cursors.Suspended.{Suspended}
@@ -55,8 +55,8 @@ Refines came result left values = RefinesBy (λ x. x) came result left values
 
 -- what an access comes to whose value is kept, whatever its changes are: its value, or a stop at it with this mark
 abbrev pub Asks : Access → Mark → (before : ℕ) → List ℕ → Result ℕ Suspended → (left : ℕ) → List ℕ → Type 0
-Asks a mark before seen (Ok value) left values = play (ask a silent done) before seen ≡ Completed value left values
-Asks a mark before seen (Err s) left values = (play (ask a silent done) before seen ≡ Wants a silent) × (s ≡ suspended.Access a mark) × InRange a
+Asks a mark before seen (Ok value) left values = play (ask a no_changes done) before seen ≡ Completed value left values
+Asks a mark before seen (Err s) left values = (play (ask a no_changes done) before seen ≡ Wants a no_changes) × (s ≡ suspended.Access a mark) × InRange a
 
 -- What a part of a row does next: an access, its fault, or its result. The view tells the state after it and its record, if
 -- there is one.

@@ -44,8 +44,8 @@ play (tell word value changes k) zero values = Wants (access.Store word value) (
 play (tell word value changes k) (suc n) values = play k n values
 
 -- nothing changes, whatever the access answers
-abbrev pub silent : ℕ → List Change
-silent value = []
+abbrev pub no_changes : ℕ → List Change
+no_changes value = []
 
 -- the child's number and the start of its shadow stack, where one of the changes is a birth
 abbrev pub birth : List Change → Option (ℕ × ℕ)

@@ -3,7 +3,7 @@
 ghost use Rattle.std.specs.Prelude.{◌≡◌, ◌+◌, ◌*◌, ◌/◌, ◌%◌, ◌^◌, ◌<◌, ◌≤◌, [], IfOk, IfSome, List, Some, length, ℕ};
 ghost use Rattle.cet_words.specs.Access.{InRange};
 ghost use Rattle.cet_words.specs.Layout.{word_in, page_count, word_count};
-ghost use Rattle.cet_page.specs.Script.{play, ask, tell, done, silent};
+ghost use Rattle.cet_page.specs.Script.{play, ask, tell, done, no_changes};
 ghost use Rattle.cet_page.specs.Plays.{Refines, Asks, Marks};
 ghost use Rattle.cet_words.specs.Change.{Change};
 ghost use Rattle.cet_page.specs.Parts.{general_protection, invalid_opcode, check_address, check_address_as, look, look_as, look_in_as, probe, probe_in, read_entry, load, store, stores, store_each, compare_exchange, swap, fetch_add, fetch_or, fetch_and};
@@ -77,7 +77,7 @@ impl<'a> Cursor<'a> {
     /// An access whose value is kept.
     pub fn ask(&mut self, access: Access) -> Result<u64, Suspended>
         requires { InRange access }
-        ensures { Refines (play (ask access silent done) self.old.left self.old.rest.now) result self.new.left self.new.rest.now }
+        ensures { Refines (play (ask access no_changes done) self.old.left self.old.rest.now) result self.new.left self.new.rest.now }
     {
         self.ask_as(access, Mark::Plain)
     }
@@ -264,7 +264,7 @@ impl<'a> Cursor<'a> {
     #[tactic(auto, using(crate::proofs::ScriptLaws::play_bind), unfolding(crate::specs::Parts::look_in_as))]
     fn look_in(&mut self, page: u32, who: Who, kind: Kind, addr: u64) -> Result<u32, Suspended>
         requires { page < page_count }
-        ensures comes { Refines (play (look_in_as silent (Some page) kind who addr) self.old.left self.old.rest.now) result self.new.left self.new.rest.now }
+        ensures comes { Refines (play (look_in_as no_changes (Some page) kind who addr) self.old.left self.old.rest.now) result self.new.left self.new.rest.now }
         ensures range { IfOk result (λ page. page < page_count) }
     {
         let entry = self.ask(Access::Look(page))?;
