@@ -23,7 +23,8 @@ use Rattle.cet_book.proofs.Top.{relist_top}
 use Rattle.cet_book.proofs.Ways.{called_way}
 use Rattle.cet_page.specs.Core.{kept_by}
 use Rattle.cet_page.specs.Script.{done, ◌>>=◌}
-use Rattle.cet_page.specs.Finish.{below, rsp}
+use Rattle.cet_page.specs.Finish.{rsp}
+use Rattle.cet_page.specs.Word64.{sub64}
 use Rattle.cet_page.specs.Flow.{called, call, call_next, relative, call_relative, call_indirect}
 use Rattle.cet_page.specs.Parts.{store_as}
 use Rattle.cet_page.specs.declared.checks.Kind.TheVariants as kind
@@ -72,7 +73,7 @@ module _ (job : JobData) (arch : Arch) where
   pushed b back = relist (current_of arch.number b) (Call back ∷ (region b (current_of arch.number b)).entries) b
 
   -- the return address goes on the shadow stack
-  push_claim : (past : List Visit) (before s : State) (target sp word back : ℕ) → Resting arch.number untouched (progress past) s.book arch.ssp → word ≡ slot (arch.ssp - 8) → (region s.book (current_of arch.number s.book)).start + 8 ≤ top (region s.book (current_of arch.number s.book)) → IsReturn back → IsElsewhere job arch → Claim job arch (EndsRow job arch) past before s (store_as (Called back ∷ []) word back >>= (λ _. done (called arch target sp (below arch.ssp 8))))
+  push_claim : (past : List Visit) (before s : State) (target sp word back : ℕ) → Resting arch.number untouched (progress past) s.book arch.ssp → word ≡ slot (arch.ssp - 8) → (region s.book (current_of arch.number s.book)).start + 8 ≤ top (region s.book (current_of arch.number s.book)) → IsReturn back → IsElsewhere job arch → Claim job arch (EndsRow job arch) past before s (store_as (Called back ∷ []) word back >>= (λ _. done (called arch target sp (sub64 arch.ssp 8))))
   unfolding store_as
   push_claim past before s target sp word back rest w room is_return free =
       claim_bind job arch (EndsRow job arch) past before s (store_as (Called back ∷ []) word back) _ (
@@ -89,13 +90,13 @@ module _ (job : JobData) (arch : Arch) where
             let fits = (known.sound.book.shape.fits (current_of arch.number now.book)).room in
             let way = called_way o back (omega arith) in
             let sh = (book_kept arch.number (Called back) now.book (pushed now.book back) known.sound.book way).book.shape in
-            let is : below arch.ssp 8 ≡ arch.ssp - 8 = below_is arch.ssp low high in
-            let top' = relist_top o (Call back ∷ (region now.book (current_of arch.number now.book)).entries) sh (below arch.ssp 8) (omega arith) in (
+            let is : sub64 arch.ssp 8 ≡ arch.ssp - 8 = below_is arch.ssp low high in
+            let top' = relist_top o (Call back ∷ (region now.book (current_of arch.number now.book)).entries) sh (sub64 arch.ssp 8) (omega arith) in (
               pushes (current_of arch.number now.book) back o.current (ap (λ n. access.Store n back) (w ∙ ap (λ n. slot (n - 8)) at)) room' is_return refl,
               record now { book = pushed now.book back },
               one_after arch.number now (pushed now.book back) (Called back) way,
               (
-                record { stacked = stacked arch.number (pushed now.book back) (below arch.ssp 8) sh top'; free = rest'.free },
+                record { stacked = stacked arch.number (pushed now.book back) (sub64 arch.ssp 8) sh top'; free = rest'.free },
                 λ held later. free,
                 tt,
               ),
@@ -108,28 +109,28 @@ module _ (job : JobData) (arch : Arch) where
       let low = rest.stacked.low in
       let high = rest.stacked.high in
       let even = rest.stacked.top.aligned in
-      let is : below arch.ssp 8 ≡ arch.ssp - 8 = below_is arch.ssp low high in
-      check_address_then job arch (EndsRow job arch) past before s (below (rsp arch) 8) 8 _ rest (λ c e.
-      store_look_then job arch (EndsRow job arch) past before s (below (rsp arch) 8) _ rest (λ now r page v' p.
+      let is : sub64 arch.ssp 8 ≡ arch.ssp - 8 = below_is arch.ssp low high in
+      check_address_then job arch (EndsRow job arch) past before s (sub64 (rsp arch) 8) 8 _ rest (λ c e.
+      store_look_then job arch (EndsRow job arch) past before s (sub64 (rsp arch) 8) _ rest (λ now r page v' p.
       let rest1 = rest_kept r rest in
-      shadow_look_then job arch (EndsRow job arch) _ now now kind.ShadowStore (below arch.ssp 8) _ (omega arith) (omega arith) rest1 (λ now2 r2 v known i inn.
+      shadow_look_then job arch (EndsRow job arch) _ now now kind.ShadowStore (sub64 arch.ssp 8) _ (omega arith) (omega arith) rest1 (λ now2 r2 v known i inn.
       let rest2 = rest_kept r2 rest1 in
       let at = rest2.stacked.top.at in
       let room = room_below now2.book (current_of arch.number now2.book) i known.sound.book.shape rest2.stacked.top.has
       (subst (In (region now2.book i)) (is ∙ ap (λ n. n - 8) at) inn) in
-      store_then job arch (EndsRow job arch) _ now2 now2 (word_in page (below (rsp arch) 8)) back _ (page_word page (below (rsp arch) 8) p) (rest_stacked rest2) (λ now3 r3.
+      store_then job arch (EndsRow job arch) _ now2 now2 (word_in page (sub64 (rsp arch) 8)) back _ (page_word page (sub64 (rsp arch) 8) p) (rest_stacked rest2) (λ now3 r3.
       let rest3 = rest_kept r3 rest2 in
       let same = own_kept arch.number now2.book now3.book r3 rest2.stacked.top.has in
-      push_claim _ now3 now3 target (below (rsp arch) 8) (word_in (first_shadow_page + (below arch.ssp 8 - shadow_start) / 4096) (below arch.ssp 8)) back rest3
-      (shadow_slot (below arch.ssp 8) (omega arith) (omega arith) ∙ ap slot is) (rw same room) is_return free))))
+      push_claim _ now3 now3 target (sub64 (rsp arch) 8) (word_in (first_shadow_page + (sub64 arch.ssp 8 - shadow_start) / 4096) (sub64 arch.ssp 8)) back rest3
+      (shadow_slot (sub64 arch.ssp 8) (omega arith) (omega arith) ∙ ap slot is) (rw same room) is_return free))))
 
   pub call_next_claim : (past : List Visit) (before s : State) (back : ℕ) → Resting arch.number untouched (progress past) s.book arch.ssp → IsElsewhere job arch → Claim job arch (EndsRow job arch) past before s (call_next arch back)
   unfolding call_next
   call_next_claim past before s back rest free =
-      check_address_then job arch (EndsRow job arch) past before s (below (rsp arch) 8) 8 _ rest (λ c e.
-      store_look_then job arch (EndsRow job arch) past before s (below (rsp arch) 8) _ rest (λ now r page v' p.
+      check_address_then job arch (EndsRow job arch) past before s (sub64 (rsp arch) 8) 8 _ rest (λ c e.
+      store_look_then job arch (EndsRow job arch) past before s (sub64 (rsp arch) 8) _ rest (λ now r page v' p.
       let rest1 = rest_kept r rest in
-      store_then job arch (EndsRow job arch) _ now now (word_in page (below (rsp arch) 8)) back _ (page_word page (below (rsp arch) 8) p) (rest_stacked rest1) (λ now2 r2.
+      store_then job arch (EndsRow job arch) _ now now (word_in page (sub64 (rsp arch) 8)) back _ (page_word page (sub64 (rsp arch) 8) p) (rest_stacked rest1) (λ now2 r2.
       (rested (rest_kept r2 rest1), λ held later. free, tt))))
 
   pub call_relative_claim : (past : List Visit) (before s : State) (disp : ℤ) (next : ℕ) → Resting arch.number untouched (progress past) s.book arch.ssp → IsReturn next → IsElsewhere job arch → Claim job arch (EndsRow job arch) past before s (call_relative arch disp next)

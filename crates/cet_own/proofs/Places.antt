@@ -12,7 +12,7 @@ use Rattle.cet_book.specs.Book.{Book, region, top}
 use Rattle.cet_book.specs.Shape.{Shape}
 use Rattle.cet_book.specs.Stack.{slot}
 use Rattle.cet_page.specs.Page.{allows}
-use Rattle.cet_page.specs.Finish.{above, below}
+use Rattle.cet_page.specs.Word64.{add64, sub64}
 use Rattle.cet_page.specs.declared.checks.Kind.{Kind}
 use Rattle.cet_page.specs.declared.checks.Kind.TheVariants as kind
 use Rattle.cet_page.specs.declared.checks.Who.TheVariants.{User}
@@ -76,10 +76,10 @@ shadow_page addr low high = grind (arith, nat_tests)
 pub shadow_slot : (addr : ℕ) → shadow_start ≤ addr → addr < shadow_end → word_in (first_shadow_page + (addr - shadow_start) / 4096) addr ≡ slot addr
 shadow_slot addr low high = omega arith
 
-pub below_is : (ssp : ℕ) → first_region_start ≤ ssp → ssp ≤ 0x2003ff000 → below ssp 8 ≡ ssp - 8
+pub below_is : (ssp : ℕ) → first_region_start ≤ ssp → ssp ≤ 0x2003ff000 → sub64 ssp 8 ≡ ssp - 8
 below_is ssp low high = omega arith
 
-pub above_is : (ssp : ℕ) → ssp ≤ 0x2003ff000 → above ssp 8 ≡ ssp + 8
+pub above_is : (ssp : ℕ) → ssp ≤ 0x2003ff000 → add64 ssp 8 ≡ ssp + 8
 above_is ssp high = omega arith
 
 -- an address of a page that lies in a region

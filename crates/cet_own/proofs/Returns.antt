@@ -22,7 +22,8 @@ use Rattle.cet_book.proofs.Top.{AtTop, removal_top}
 use Rattle.cet_book.proofs.Unlink.{Linked, left_there}
 use Rattle.cet_book.proofs.Ways.{with_current_at}
 use Rattle.cet_page.specs.Script.{done, fault, ◌>>=◌}
-use Rattle.cet_page.specs.Finish.{above, rsp}
+use Rattle.cet_page.specs.Finish.{rsp}
+use Rattle.cet_page.specs.Word64.{add64}
 use Rattle.cet_page.specs.Flow.{returned, returned_if, return_differs, ret}
 use Rattle.cet_page.specs.Parts.{general_protection, load_as}
 use Rattle.cet_page.specs.declared.checks.Kind.TheVariants as kind
@@ -101,13 +102,13 @@ module _ (job : JobData) (j : IsJob job) (arch : Arch) where
       let removal = returned_is r.next (region now.book (current_of arch.number now.book)).entries o refl r.is in
       let short = shortened o removal in
       let top' = removal_top o removal in
-      let up : top (region now.book (current_of arch.number now.book)) + 8 ≡ above arch.ssp 8 = ap (λ n. n + 8) (sym at) ∙ sym (above_is arch.ssp high) in
+      let up : top (region now.book (current_of arch.number now.book)) + 8 ≡ add64 arch.ssp 8 = ap (λ n. n + 8) (sym at) ∙ sym (above_is arch.ssp high) in
       let free : Free arch.number r.next = λ k q. rest.free k (ap (λ (l : List (Option ℕ)). get_or l k None) (sym short.stacks) ∙ q) in (
         pops (current_of arch.number now.book) w o.current refl refl,
         record now { book = r.next },
         one_after arch.number now r.next Returned (with_current_at o (λ m q. book_returned m q.entries now.book) ∙ r.is),
         (
-          record { stacked = stacked arch.number r.next (above arch.ssp 8) short.owned.shape (subst (AtTop arch.number r.next) up top'); free = free },
+          record { stacked = stacked arch.number r.next (add64 arch.ssp 8) short.owned.shape (subst (AtTop arch.number r.next) up top'); free = free },
           λ held later. subst (GoesRight job (entries_of arch.number now.book)) (sym same) r.goes,
           tt,
         ),

@@ -18,7 +18,8 @@ use Rattle.cet_isa.specs.declared.threads.Record.{Record}
 use Rattle.cet_book.specs.Facts.{IsReturn}
 use Rattle.cet_page.specs.Script.{◌>>=◌}
 use Rattle.cet_page.specs.Fetch.{fetchable, joined, missing, missing_in}
-use Rattle.cet_page.specs.Finish.{Row, noted, above, rax, IsMade, rdi}
+use Rattle.cet_page.specs.Finish.{Row, noted, rax, IsMade, rdi}
+use Rattle.cet_page.specs.Word64.{add64}
 use Rattle.cet_page.specs.Family.{family_of}
 use Rattle.cet_page.specs.Flow.{flow}
 use Rattle.cet_page.specs.declared.families.Family.{Family}
@@ -58,7 +59,7 @@ fetchable_place job addr (suc most) n j l =
     fetched_at job addr most n (code_byte job.image.segments addr) j refl l (fetchable_place job (addr + 1) most n j) (λ m e k. fetchable_place job (addr + 1) most m j k)
 
 -- the address after an instruction
-next_place : (job : JobData) (arch : Arch) (i : Instr) (len : ℕ) → IsJob job → decoded (instruction_bytes job arch) ≡ Read i len → IsReturn (above arch.rip len)
+next_place : (job : JobData) (arch : Arch) (i : Instr) (len : ℕ) → IsJob job → decoded (instruction_bytes job arch) ≡ Read i len → IsReturn (add64 arch.rip len)
 next_place job arch i len j e =
     let w = decoded_within (instruction_bytes job arch) i len e in
     let least = w.0 in
@@ -158,24 +159,24 @@ module _ (job : JobData) (j : IsJob job) (arch : Arch) where
   noted_claim : (past : List Visit) (before s : State) (m : Row) → Claim job arch (EndsRow job arch) past before s m → Claim job arch (Ends job arch) past before s (m >>= noted)
   noted_claim past before s m h = claim_bind job arch (Ends job arch) past before s m noted h
 
-  flow_claim : (past : List Visit) (before s : State) (i : Instr) (len : ℕ) → Resting arch.number untouched (progress past) s.book arch.ssp → decoded (instruction_bytes job arch) ≡ Read i len → Claim job arch (EndsRow job arch) past before s (flow arch i (above arch.rip len))
+  flow_claim : (past : List Visit) (before s : State) (i : Instr) (len : ℕ) → Resting arch.number untouched (progress past) s.book arch.ssp → decoded (instruction_bytes job arch) ≡ Read i len → Claim job arch (EndsRow job arch) past before s (flow arch i (add64 arch.rip len))
   flow_claim past before s (instr.CallRel disp) len rest e =
-      call_relative_claim job arch past before s disp (above arch.rip len) rest (next_place job arch (instr.CallRel disp) len j e) (elsewhere _ e (λ x. cc))
+      call_relative_claim job arch past before s disp (add64 arch.rip len) rest (next_place job arch (instr.CallRel disp) len j e) (elsewhere _ e (λ x. cc))
   flow_claim past before s (instr.CallInd target notrack) len rest e =
-      call_indirect_claim job arch past before s target (above arch.rip len) rest (next_place job arch (instr.CallInd target notrack) len j e) (elsewhere _ e (λ x. cc))
+      call_indirect_claim job arch past before s target (add64 arch.rip len) rest (next_place job arch (instr.CallInd target notrack) len j e) (elsewhere _ e (λ x. cc))
   flow_claim past before s instr.Ret len rest e = ret_claim job j arch past before s 0 rest
   flow_claim past before s (instr.RetImm bytes) len rest e = ret_claim job j arch past before s bytes rest
-  flow_claim past before s (instr.Push src) len rest e = push_claim job arch (elsewhere _ e (λ x. cc)) past before s src (above arch.rip len) rest
-  flow_claim past before s (instr.Pop r) len rest e = pop_claim job arch (elsewhere _ e (λ x. cc)) past before s r (above arch.rip len) rest
-  flow_claim past before s instr.Leave len rest e = leave_claim job arch (elsewhere _ e (λ x. cc)) past before s (above arch.rip len) rest
+  flow_claim past before s (instr.Push src) len rest e = push_claim job arch (elsewhere _ e (λ x. cc)) past before s src (add64 arch.rip len) rest
+  flow_claim past before s (instr.Pop r) len rest e = pop_claim job arch (elsewhere _ e (λ x. cc)) past before s r (add64 arch.rip len) rest
+  flow_claim past before s instr.Leave len rest e = leave_claim job arch (elsewhere _ e (λ x. cc)) past before s (add64 arch.rip len) rest
   flow_claim past before s (instr.JmpRel disp) len rest e = (rested rest, λ held now. elsewhere _ e (λ x. cc), tt)
-  flow_claim past before s (instr.JmpInd target notrack) len rest e = jump_indirect_claim job arch (elsewhere _ e (λ x. cc)) past before s target (above arch.rip len) rest
+  flow_claim past before s (instr.JmpInd target notrack) len rest e = jump_indirect_claim job arch (elsewhere _ e (λ x. cc)) past before s target (add64 arch.rip len) rest
   flow_claim past before s (instr.Jcc c disp) len rest e = (rested rest, λ held now. elsewhere _ e (λ x. cc), tt)
   flow_claim past before s i len rest e = no_return s _ rest e (λ x. cc)
 
-  family_claim : (past : List Visit) (before s : State) (i : Instr) (len : ℕ) (p : Family) → family_of i ≡ p → IsMade arch.made → Resting arch.number untouched (progress past) s.book arch.ssp → decoded (instruction_bytes job arch) ≡ Read i len → Claim job arch (Ends job arch) past before s (execute_family job arch i (above arch.rip len) p)
+  family_claim : (past : List Visit) (before s : State) (i : Instr) (len : ℕ) (p : Family) → family_of i ≡ p → IsMade arch.made → Resting arch.number untouched (progress past) s.book arch.ssp → decoded (instruction_bytes job arch) ≡ Read i len → Claim job arch (Ends job arch) past before s (execute_family job arch i (add64 arch.rip len) p)
   family_claim past before s i len families.Arithmetic f made rest e =
-      noted_claim past before s _ (arithmetic_claim job arch (elsewhere _ e (λ r. let t = returns_flow i r in cc)) past before s i (above arch.rip len) rest)
+      noted_claim past before s _ (arithmetic_claim job arch (elsewhere _ e (λ r. let t = returns_flow i r in cc)) past before s i (add64 arch.rip len) rest)
   family_claim past before s i len families.Flow f made rest e = noted_claim past before s _ (flow_claim past before s i len rest e)
   family_claim past before s i len families.SystemCall f made rest e =
       entered_claim past before s (service arch) rest (λ p z n within. service_claim p z n (elsewhere _ e (λ r. let t = returns_flow i r in cc)) made within)

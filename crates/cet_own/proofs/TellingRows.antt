@@ -23,7 +23,8 @@ use Rattle.cet_page.specs.Script.{Script, done, fault, ask, tell, ◌>>=◌}
 use Rattle.cet_page.specs.Page.{allows, page_fault}
 use Rattle.cet_page.specs.Parts.{check_address_as, look_in_as, look_as, probe_in, probe, read_entry, load_as, store_as, compare_exchange_as, swap, fetch_add_as, stores, general_protection}
 use Rattle.cet_page.specs.Values.{limit, width}
-use Rattle.cet_page.specs.Finish.{Row, noted, above}
+use Rattle.cet_page.specs.Finish.{Row, noted}
+use Rattle.cet_page.specs.Word64.{add64}
 use Rattle.cet_page.specs.Family.{family_of}
 use Rattle.cet_page.specs.Operands.{register, load_word, load_at, write_place, store_at, read_operand}
 use Rattle.cet_page.specs.Arithmetic.{operated, alu, test, imul, move, movzx, movsxd, cmov, xchg, lock_xadd, lock_cmpxchg, arithmetic}
@@ -245,7 +246,7 @@ tells_missing (Some page) addr = record { tells = λ v. refl }
 
 tells_fetched : (job : JobData) (arch : Arch) (bytes : List ℕ) (d : Decoding) → Tells EndTells nothing_drawn (fetched job arch bytes d)
 unfolding missing
-tells_fetched job arch bytes (Read i len) = tells_family job arch i (above arch.rip len) (family_of i)
+tells_fetched job arch bytes (Read i len) = tells_family job arch i (add64 arch.rip len) (family_of i)
 tells_fetched job arch bytes Short = tells_missing _ _
 tells_fetched job arch bytes Unknown = tells_fault refl
 

@@ -22,7 +22,8 @@ use Rattle.cet_isa.specs.declared.threads.What.{What}
 use Rattle.cet_isa.specs.declared.threads.What.TheVariants as what
 use Rattle.cet_page.specs.Script.{done, fault, ask, tell, ◌>>=◌, Wants, play}
 use Rattle.cet_page.specs.Parts.{load_as, read_entry}
-use Rattle.cet_page.specs.Finish.{Row, noted, above}
+use Rattle.cet_page.specs.Finish.{Row, noted}
+use Rattle.cet_page.specs.Word64.{add64}
 use Rattle.cet_page.specs.declared.families.Family.{Family}
 use Rattle.cet_page.specs.declared.families.Family.TheVariants as families
 use Rattle.cet_page.specs.declared.flags.Computed.{Computed}
@@ -127,7 +128,7 @@ walk_missing arch (Some page) addr = record { walks = (refl, λ v. (no_birth [] 
 
 walk_fetched : (job : JobData) (arch : Arch) (bytes : List ℕ) (d : Decoding) → Walk 2 2 false (Ends arch) (fetched job arch bytes d)
 unfolding missing
-walk_fetched job arch bytes (Read i len) = walk_family job arch i (above arch.rip len) (family_of i)
+walk_fetched job arch bytes (Read i len) = walk_family job arch i (add64 arch.rip len) (family_of i)
 walk_fetched job arch bytes Short = walk_missing arch (page_at (arch.rip + length bytes)) (arch.rip + length bytes)
 walk_fetched job arch bytes Unknown = walk_fault refl refl
 

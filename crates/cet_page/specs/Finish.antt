@@ -1,5 +1,5 @@
--- What rows come to, and the arithmetic of addresses. Source: own.
-use Rattle.std.specs.Prelude.{◌≡◌, ℕ, ◌+◌, ◌-◌, ◌%◌, ◌^◌, ◌≤◌, slice_index}
+-- What rows come to. Source: own.
+use Rattle.std.specs.Prelude.{◌≡◌, ℕ, ◌+◌, ◌%◌, ◌≤◌, slice_index}
 use Rattle.cet_words.specs.Layout.{shadow_end, shadow_start}
 use Rattle.cet_isa.specs.declared.threads.Arch.{Arch}
 use Rattle.cet_isa.specs.declared.threads.Record.{Record}
@@ -13,13 +13,6 @@ Row = Script (Arch × Record)
 
 abbrev pub noted : Arch × Record → Script Finish
 noted x = done (finish.Noted x.0 x.1)
-
--- sums and differences of addresses go modulo 2 ^ 64
-abbrev pub above : ℕ → ℕ → ℕ
-above addr bytes = (addr + bytes) % 2 ^ 64
-
-abbrev pub below : ℕ → ℕ → ℕ
-below addr bytes = (addr + (2 ^ 64 - bytes)) % 2 ^ 64
 
 -- the general registers that the machine names itself, by their encodings
 abbrev pub rax : Arch → ℕ

@@ -21,7 +21,8 @@ use Rattle.cet_page.specs.Flags.{status, holds}
 use Rattle.cet_page.specs.Operands.{load_at, store_at, read_operand, stepped}
 use Rattle.cet_page.specs.Script.{done, fault, ◌>>=◌}
 use Rattle.cet_page.specs.Parts.{general_protection, invalid_opcode, check_address, look, load, load_as, store, store_as}
-use Rattle.cet_page.specs.Finish.{Row, above, below, rsp}
+use Rattle.cet_page.specs.Finish.{Row, rsp}
+use Rattle.cet_page.specs.Word64.{add64, sub64}
 use Rattle.cet_page.specs.declared.checks.Kind.TheVariants as kind
 use Rattle.cet_page.specs.declared.checks.Who.TheVariants.{User}
 
@@ -37,8 +38,8 @@ called arch target sp ssp = (
 -- a call that pushes the return address on both stacks
 unfoldable pub call : Arch → (back target : ℕ) → Row
 call arch back target = do
-  let sp = below (rsp arch) 8
-  let ssp = below arch.ssp 8
+  let sp = sub64 (rsp arch) 8
+  let ssp = sub64 arch.ssp 8
   _ ← check_address sp 8
   page ← look User kind.Store sp
   shadow ← look User kind.ShadowStore ssp
@@ -49,7 +50,7 @@ call arch back target = do
 -- a relative call of displacement 0 pushes on the program stack alone
 unfoldable pub call_next : Arch → (back : ℕ) → Row
 call_next arch back = do
-  let sp = below (rsp arch) 8
+  let sp = sub64 (rsp arch) 8
   _ ← check_address sp 8
   page ← look User kind.Store sp
   _ ← store (word_in page sp) back
@@ -77,8 +78,8 @@ call_indirect arch src next = do
 -- RET with an immediate takes so many bytes more off the program stack
 abbrev pub returned : Arch → (bytes target : ℕ) → Arch × Record
 returned arch bytes target = (
-  record arch { regs = slice_set arch.regs 4 (above (rsp arch) (8 + bytes)); rip = target; ssp = above arch.ssp 8; count = arch.count + 1 },
-  record { rip = arch.rip; what = what.Ret; code = 0; a = target; b = above arch.ssp 8 },
+  record arch { regs = slice_set arch.regs 4 (add64 (rsp arch) (8 + bytes)); rip = target; ssp = add64 arch.ssp 8; count = arch.count + 1 },
+  record { rip = arch.rip; what = what.Ret; code = 0; a = target; b = add64 arch.ssp 8 },
 )
 
 -- the data word and the shadow word of a return differ (NEAR-RET)
@@ -106,14 +107,14 @@ ret arch bytes = do
 unfoldable pub push : Arch → Operand → (next : ℕ) → Row
 push arch src next = do
   value ← read_operand arch size.Qword src next
-  _ ← store_at (below (rsp arch) 8) value
-  done (stepped arch (slice_set arch.regs 4 (below (rsp arch) 8)) next arch.flags value)
+  _ ← store_at (sub64 (rsp arch) 8) value
+  done (stepped arch (slice_set arch.regs 4 (sub64 (rsp arch) 8)) next arch.flags value)
 
 -- POP of RSP leaves the value
 unfoldable pub pop : Arch → Reg → (next : ℕ) → Row
 pop arch r next = do
   value ← load_at (rsp arch) 8
-  done (stepped arch (slice_set (slice_set arch.regs 4 (above (rsp arch) 8)) (reg_number r) value) next arch.flags value)
+  done (stepped arch (slice_set (slice_set arch.regs 4 (add64 (rsp arch) 8)) (reg_number r) value) next arch.flags value)
 
 abbrev pub rbp : Arch → ℕ
 rbp arch = slice_index arch.regs 5
@@ -122,7 +123,7 @@ rbp arch = slice_index arch.regs 5
 unfoldable pub leave : Arch → (next : ℕ) → Row
 leave arch next = do
   value ← load_at (rbp arch) 8
-  done (stepped arch (slice_set (slice_set arch.regs 4 (above (rbp arch) 8)) 5 value) next arch.flags value)
+  done (stepped arch (slice_set (slice_set arch.regs 4 (add64 (rbp arch) 8)) 5 value) next arch.flags value)
 
 -- ---- jumps
 

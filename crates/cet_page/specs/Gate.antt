@@ -12,7 +12,8 @@ use Rattle.cet_isa.specs.declared.threads.Arch.{Arch}
 use Rattle.cet_words.specs.Change.{Change, Popped, Busied, Freed, Ended}
 use Rattle.cet_page.specs.Script.{Script, done, ◌>>=◌}
 use Rattle.cet_page.specs.Parts.{read_entry, load, store, stores, compare_exchange, compare_exchange_as}
-use Rattle.cet_page.specs.Finish.{rax, rdi, counted, above}
+use Rattle.cet_page.specs.Finish.{rax, rdi, counted}
+use Rattle.cet_page.specs.Word64.{add64}
 use Rattle.cet_page.specs.declared.finishes.Finish.{Finish}
 use Rattle.cet_page.specs.declared.finishes.Finish.TheVariants as finish
 use Rattle.cet_page.specs.declared.finishes.Leaving.{Leaving}
@@ -95,7 +96,7 @@ enosys = 2 ^ 64 - 38
 
 -- the address after SYSCALL, which is two bytes long
 abbrev pub after_syscall : Arch → ℕ
-after_syscall arch = above arch.rip 2
+after_syscall arch = add64 arch.rip 2
 
 -- SYSCALL leaves the address after it in RCX and RFLAGS in R11, and the result stands in RAX
 abbrev pub served : Arch → (result : ℕ) → Arch

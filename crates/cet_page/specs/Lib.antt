@@ -2,6 +2,7 @@ pub mod Script
 pub mod ValsData
 pub mod Page
 pub mod Parts
+pub mod Word64
 pub mod Finish
 pub mod Tokens
 pub mod Flags

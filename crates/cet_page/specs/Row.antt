@@ -10,7 +10,8 @@ use Rattle.cet_isa.specs.declared.threads.Fault.{Fault}
 use Rattle.cet_isa.specs.declared.threads.Arch.{Arch}
 use Rattle.cet_page.specs.Script.{Script, done, fault, ◌>>=◌}
 use Rattle.cet_page.specs.Parts.{general_protection, invalid_opcode, load}
-use Rattle.cet_page.specs.Finish.{noted, above}
+use Rattle.cet_page.specs.Finish.{noted}
+use Rattle.cet_page.specs.Word64.{add64}
 use Rattle.cet_page.specs.Arithmetic.{arithmetic}
 use Rattle.cet_page.specs.Flow.{flow}
 use Rattle.cet_page.specs.Family.{family_of}
@@ -33,13 +34,13 @@ execute job arch i next = execute_family job arch i next (family_of i)
 
 -- the address after the instruction that the bytes at RIP are; RIP itself where they are none
 abbrev pub address_after : Arch → Decoding → ℕ
-address_after arch (Read i len) = above arch.rip len
+address_after arch (Read i len) = add64 arch.rip len
 address_after arch Short = arch.rip
 address_after arch Unknown = arch.rip
 
 -- by what the fetchable bytes at RIP are
 abbrev pub fetched : JobData → Arch → List ℕ → Decoding → Script Finish
-fetched job arch bytes (Read i len) = execute job arch i (above arch.rip len)
+fetched job arch bytes (Read i len) = execute job arch i (add64 arch.rip len)
 fetched job arch bytes Short = missing (arch.rip + length bytes)
 fetched job arch bytes Unknown = fault invalid_opcode
 
