@@ -38,8 +38,8 @@ fn call(arch: &Arch, back: u64, target: u64, at: &mut Cursor) -> Result<(Arch, R
     let sp = arch.regs[RSP].wrapping_sub(8);
     let ssp = arch.ssp.wrapping_sub(8);
     at.check_address(sp, 8)?;
-    let page = at.look(Who::User, Kind::Store, sp)?;
-    let shadow = at.look(Who::User, Kind::ShadowStore, ssp)?;
+    let page = at.look(Kind::Store, Who::User, sp)?;
+    let shadow = at.look(Kind::ShadowStore, Who::User, ssp)?;
     at.store(word_in(page, sp), back)?;
     at.store(word_in(shadow, ssp), back)?;
     Ok(called(arch, target, sp, ssp))
@@ -53,7 +53,7 @@ fn call_next(arch: &Arch, back: u64, at: &mut Cursor) -> Result<(Arch, Record), 
 {
     let sp = arch.regs[RSP].wrapping_sub(8);
     at.check_address(sp, 8)?;
-    let page = at.look(Who::User, Kind::Store, sp)?;
+    let page = at.look(Kind::Store, Who::User, sp)?;
     at.store(word_in(page, sp), back)?;
     Ok(called(arch, back, sp, arch.ssp))
 }

@@ -49,8 +49,8 @@ pub fn ret(arch: &Arch, bytes: u16, at: &mut Cursor) -> Result<(Arch, Record), S
 {
     let sp = arch.regs[RSP];
     at.check_address(sp, 8)?;
-    let page = at.look(Who::User, Kind::Load, sp)?;
-    let shadow = at.look(Who::User, Kind::ShadowLoad, arch.ssp)?;
+    let page = at.look(Kind::Load, Who::User, sp)?;
+    let shadow = at.look(Kind::ShadowLoad, Who::User, arch.ssp)?;
     let word = at.load(word_in(page, sp))?;
     let shadow_word = at.load(word_in(shadow, arch.ssp))?;
     if word != shadow_word {

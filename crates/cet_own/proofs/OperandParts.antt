@@ -29,7 +29,7 @@ module _ (job : JobData) (arch : Arch) where
       claim_bind job arch Q past before s (load_at addr count) f
       (claim_bind job arch (λ p z n x. Claim job arch Q p z n (f x)) past before s (load_word addr count) _
       (check_address_then job arch (λ p z n x. Claim job arch Q p z n (f (bytes_at addr count x))) past before s addr count _ rest (λ c e.
-      look_then job arch (λ p z n x. Claim job arch Q p z n (f (bytes_at addr count x))) past before s User kind.Load addr _ rest (λ now r page v at known a.
+      look_then job arch (λ p z n x. Claim job arch Q p z n (f (bytes_at addr count x))) past before s kind.Load User addr _ rest (λ now r page v at known a.
       let rest1 = rest_kept r rest in (
         (rest_stacked rest1),
         λ later r' word known'. (loads (word_in page addr) refl refl, later, refl, h _ later later (rest_kept r' rest1) (bytes_at addr count word)),

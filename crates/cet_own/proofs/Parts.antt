@@ -66,10 +66,10 @@ module _ (job : JobData) (arch : Arch) where
       (λ e. h c (eqb-true (addr % size) 0 e)) (λ _. (rested rest, λ _. tt, tt)))
       (λ _. (rested rest, λ _. tt, tt)))
 
-  look_at : {A : Type 0} (Q : List Visit → State → State → A → Type 0) (past : List Visit) (before s : State) (at : Option ℕ) (w : Who) (kd : Kind) (addr : ℕ) (f : ℕ → Script A) → Resting arch.number untouched (progress past) s.book arch.ssp → ((now : State) → Relies arch.number s.book now.book → (page v : ℕ) → at ≡ Some page → Known job.image arch.number past now.book (access.Look page) v → allows v kd w ≡ true → Claim job arch Q (visit (access.Look page) v [] ∷ past) now now (f page)) → Claim job arch (λ p z n x. Claim job arch Q p z n (f x)) past before s (look_in_as no_changes at kd w addr)
+  look_at : {A : Type 0} (Q : List Visit → State → State → A → Type 0) (past : List Visit) (before s : State) (at : Option ℕ) (kd : Kind) (w : Who) (addr : ℕ) (f : ℕ → Script A) → Resting arch.number untouched (progress past) s.book arch.ssp → ((now : State) → Relies arch.number s.book now.book → (page v : ℕ) → at ≡ Some page → Known job.image arch.number past now.book (access.Look page) v → allows v kd w ≡ true → Claim job arch Q (visit (access.Look page) v [] ∷ past) now now (f page)) → Claim job arch (λ p z n x. Claim job arch Q p z n (f x)) past before s (look_in_as no_changes at kd w addr)
   unfolding look_in_as
-  look_at Q past before s None w kd addr f rest h = (rested rest, λ _. tt, tt)
-  look_at Q past before s (Some page) w kd addr f rest h = (
+  look_at Q past before s None kd w addr f rest h = (rested rest, λ _. tt, tt)
+  look_at Q past before s (Some page) kd w addr f rest h = (
     (rest_stacked rest),
     λ now r v known. (
       looks page refl refl,
@@ -81,19 +81,19 @@ module _ (job : JobData) (arch : Arch) where
   )
 
   -- a look, with what it found
-  pub look_then : {A : Type 0} (Q : List Visit → State → State → A → Type 0) (past : List Visit) (before s : State) (w : Who) (kd : Kind) (addr : ℕ) (f : ℕ → Script A) → Resting arch.number untouched (progress past) s.book arch.ssp → ((now : State) → Relies arch.number s.book now.book → (page v : ℕ) → page_at addr ≡ Some page → Known job.image arch.number past now.book (access.Look page) v → allows v kd w ≡ true → Claim job arch Q (visit (access.Look page) v [] ∷ past) now now (f page)) → Claim job arch Q past before s (look w kd addr >>= f)
+  pub look_then : {A : Type 0} (Q : List Visit → State → State → A → Type 0) (past : List Visit) (before s : State) (kd : Kind) (w : Who) (addr : ℕ) (f : ℕ → Script A) → Resting arch.number untouched (progress past) s.book arch.ssp → ((now : State) → Relies arch.number s.book now.book → (page v : ℕ) → page_at addr ≡ Some page → Known job.image arch.number past now.book (access.Look page) v → allows v kd w ≡ true → Claim job arch Q (visit (access.Look page) v [] ∷ past) now now (f page)) → Claim job arch Q past before s (look kd w addr >>= f)
   unfolding look_as
-  look_then Q past before s w kd addr f rest h = claim_bind Q past before s (look w kd addr) f (look_at Q past before s (page_at addr) w kd addr f rest h)
+  look_then Q past before s kd w addr f rest h = claim_bind Q past before s (look kd w addr) f (look_at Q past before s (page_at addr) kd w addr f rest h)
 
   -- the look of a store passes on pages of image, main stack and mmap area alone
-  pub store_look_then : {A : Type 0} (Q : List Visit → State → State → A → Type 0) (past : List Visit) (before s : State) (addr : ℕ) (f : ℕ → Script A) → Resting arch.number untouched (progress past) s.book arch.ssp → ((now : State) → Relies arch.number s.book now.book → (page v : ℕ) → page < first_shadow_page → Claim job arch Q (visit (access.Look page) v [] ∷ past) now now (f page)) → Claim job arch Q past before s (look User kind.Store addr >>= f)
+  pub store_look_then : {A : Type 0} (Q : List Visit → State → State → A → Type 0) (past : List Visit) (before s : State) (addr : ℕ) (f : ℕ → Script A) → Resting arch.number untouched (progress past) s.book arch.ssp → ((now : State) → Relies arch.number s.book now.book → (page v : ℕ) → page < first_shadow_page → Claim job arch Q (visit (access.Look page) v [] ∷ past) now now (f page)) → Claim job arch Q past before s (look kind.Store User addr >>= f)
   store_look_then Q past before s addr f rest h =
-      look_then Q past before s User kind.Store addr f rest (λ now r page v at known a. h now r page v (store_page job.image page v (known.entry page refl) a))
+      look_then Q past before s kind.Store User addr f rest (λ now r page v at known a. h now r page v (store_page job.image page v (known.entry page refl) a))
 
   -- a look at a shadow stack passes in regions alone
-  pub shadow_look_then : {A : Type 0} (Q : List Visit → State → State → A → Type 0) (past : List Visit) (before s : State) (kd : Kind) (addr : ℕ) (f : ℕ → Script A) → shadow_start ≤ addr → addr < shadow_end → Resting arch.number untouched (progress past) s.book arch.ssp → ((now : State) → (r : Relies arch.number s.book now.book) → (v : ℕ) → Known job.image arch.number past now.book (access.Look (first_shadow_page + (addr - shadow_start) / 4096)) v → (i : ℕ) → In (region now.book i) addr → Claim job arch Q (visit (access.Look (first_shadow_page + (addr - shadow_start) / 4096)) v [] ∷ past) now now (f (first_shadow_page + (addr - shadow_start) / 4096))) → Claim job arch Q past before s (look User kd addr >>= f)
+  pub shadow_look_then : {A : Type 0} (Q : List Visit → State → State → A → Type 0) (past : List Visit) (before s : State) (kd : Kind) (addr : ℕ) (f : ℕ → Script A) → shadow_start ≤ addr → addr < shadow_end → Resting arch.number untouched (progress past) s.book arch.ssp → ((now : State) → (r : Relies arch.number s.book now.book) → (v : ℕ) → Known job.image arch.number past now.book (access.Look (first_shadow_page + (addr - shadow_start) / 4096)) v → (i : ℕ) → In (region now.book i) addr → Claim job arch Q (visit (access.Look (first_shadow_page + (addr - shadow_start) / 4096)) v [] ∷ past) now now (f (first_shadow_page + (addr - shadow_start) / 4096))) → Claim job arch Q past before s (look kd User addr >>= f)
   shadow_look_then Q past before s kd addr f low high rest h =
-      look_then Q past before s User kd addr f rest (λ now r page v at known a.
+      look_then Q past before s kd User addr f rest (λ now r page v at known a.
       let is : first_shadow_page + (addr - shadow_start) / 4096 ≡ page = (let e = shadow_page addr low high in cc) in
       let known' = subst (λ p. Known job.image arch.number past now.book (access.Look p) v) (sym is) known in
       let lies = known'.look (first_shadow_page + (addr - shadow_start) / 4096) refl (omega arith) (omega arith) (entry_there kd v a) in

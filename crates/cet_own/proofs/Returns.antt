@@ -130,7 +130,7 @@ module _ (job : JobData) (j : IsJob job) (arch : Arch) where
       let low = rest.stacked.low in
       let high = rest.stacked.high in
       check_address_then job arch (EndsRow job arch) past before s (rsp arch) 8 _ rest (λ c e.
-      look_then job arch (EndsRow job arch) past before s User kind.Load (rsp arch) _ rest (λ now r page v at_page known a.
+      look_then job arch (EndsRow job arch) past before s kind.Load User (rsp arch) _ rest (λ now r page v at_page known a.
       let rest1 = rest_kept r rest in
       shadow_look_then job arch (EndsRow job arch) _ now now kind.ShadowLoad arch.ssp _ (omega arith) (omega arith) rest1 (λ now2 r2 v2 known2 i inn.
       let rest2 = rest_kept r2 rest1 in

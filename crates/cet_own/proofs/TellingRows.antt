@@ -133,13 +133,13 @@ assoc_telling Q d (ask a changes c) h f w = λ v. assoc_telling Q (draws (change
 assoc_telling Q d (tell word value changes s) h f w = assoc_telling Q (draws changes d) s h f w
 
 module _ {A : Type 0} {Q : Drawn → A → Type 0} {d : Drawn} where
-  tells_look : (changes : ℕ → List Change) (w : Who) (kd : Kind) (addr : ℕ) (f : ℕ → Script A) → ((v : ℕ) → draws (changes v) d ≡ d) → d.kept ≡ [] → ((page : ℕ) → Tells Q d (f page)) → Tells Q d (look_as changes w kd addr >>= f)
+  tells_look : (changes : ℕ → List Change) (kd : Kind) (w : Who) (addr : ℕ) (f : ℕ → Script A) → ((v : ℕ) → draws (changes v) d ≡ d) → d.kept ≡ [] → ((page : ℕ) → Tells Q d (f page)) → Tells Q d (look_as changes kd w addr >>= f)
   unfolding look_as
-  tells_look changes w kd addr f c n h = look_in_tells Q d changes (page_at addr) kd w addr f c n h
+  tells_look changes kd w addr f c n h = look_in_tells Q d changes (page_at addr) kd w addr f c n h
 
-  tells_probe : (w : Who) (kd : Kind) (addr : ℕ) (f : Option ℕ → Script A) → ((found : Option ℕ) → Tells Q d (f found)) → Tells Q d (probe w kd addr >>= f)
+  tells_probe : (kd : Kind) (w : Who) (addr : ℕ) (f : Option ℕ → Script A) → ((found : Option ℕ) → Tells Q d (f found)) → Tells Q d (probe kd w addr >>= f)
   unfolding probe
-  tells_probe w kd addr f h = probe_in_tells Q d (page_at addr) kd w f h
+  tells_probe kd w addr f h = probe_in_tells Q d (page_at addr) kd w f h
 
 module _ {A B C : Type 0} {Q : Drawn → A → Type 0} {d : Drawn} where
   tells_assoc : (m : Script C) (h : C → Script B) (f : B → Script A) → Tells Q d (m >>= (λ x. h x >>= f)) → Tells Q d ((m >>= h) >>= f)

@@ -77,7 +77,7 @@ look_in_changes changes (Some page) k w addr (suc n) [] (Err (suspended.Fault e)
 look_in_changes changes (Some page) k w addr (suc n) (value ∷ values) result left rest m h = h
 
 pub look_changes : (changes : ℕ → List Change) (w : Who) (k : Kind) (addr : ℕ) (n : ℕ) (values : List ℕ) (result : Result ℕ Suspended) (left : ℕ) (rest : List ℕ)
-    → Marks marks.Plain changes → Refines (play (look w k addr) n values) result left rest
-    → Refines (play (look_as changes w k addr) n values) result left rest
+    → Marks marks.Plain changes → Refines (play (look k w addr) n values) result left rest
+    → Refines (play (look_as changes k w addr) n values) result left rest
 unfolding look_as
 look_changes changes w k addr n values result left rest m h = look_in_changes changes (page_at addr) k w addr n values result left rest m h

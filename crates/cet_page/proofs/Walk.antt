@@ -282,14 +282,14 @@ module _ {A : Type 0} {used kept : ℕ} {P : A → Type 0} where
       (λ _. walk_if_then f (addr % size == 0) (done tt) (fault misaligned) (λ _. walk_return f tt h) (λ _. walk_fault_then f _ e refl))
       (λ _. walk_fault_then f _ e refl)
 
-  pub walk_look : (changes : ℕ → List Change) (w : Who) (kd : Kind) (addr : ℕ) (f : ℕ → Script A) → ((v : ℕ) → BirthFits (changes v)) → ((v : ℕ) → moves (changes v) ≡ false) → ((page : ℕ) → Walk (used + 1) (kept + 1) false P (f page)) → Walk used kept false P (look_as changes w kd addr >>= f)
+  pub walk_look : (changes : ℕ → List Change) (kd : Kind) (w : Who) (addr : ℕ) (f : ℕ → Script A) → ((v : ℕ) → BirthFits (changes v)) → ((v : ℕ) → moves (changes v) ≡ false) → ((page : ℕ) → Walk (used + 1) (kept + 1) false P (f page)) → Walk used kept false P (look_as changes kd w addr >>= f)
   unfolding look_as
-  walk_look changes w kd addr f c m h = look_in_walk used kept P changes (page_at addr) kd w addr f c m h
+  walk_look changes kd w addr f c m h = look_in_walk used kept P changes (page_at addr) kd w addr f c m h
 
 module _ {A : Type 0} {used kept : ℕ} {wrote : Bool} {P : A → Type 0} where
-  pub walk_probe : (w : Who) (kd : Kind) (addr : ℕ) (f : Option ℕ → Script A) → ((found : Option ℕ) → Walk (used + 1) (kept + 1) (wrote || false) P (f found)) → Walk used kept wrote P (probe w kd addr >>= f)
+  pub walk_probe : (kd : Kind) (w : Who) (addr : ℕ) (f : Option ℕ → Script A) → ((found : Option ℕ) → Walk (used + 1) (kept + 1) (wrote || false) P (f found)) → Walk used kept wrote P (probe kd w addr >>= f)
   unfolding probe
-  walk_probe w kd addr f h = probe_in_walk used kept wrote P (page_at addr) kd w f h
+  walk_probe kd w addr f h = probe_in_walk used kept wrote P (page_at addr) kd w f h
 
 assoc_walks : {A B C : Type 0} (used kept : ℕ) (wrote : Bool) (P : A → Type 0) (m : Script C) (h : C → Script B) (f : B → Script A) → Walks used kept wrote P (m >>= (λ x. h x >>= f)) → Walks used kept wrote P ((m >>= h) >>= f)
 unfolding ◌>>=◌

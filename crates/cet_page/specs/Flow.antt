@@ -41,8 +41,8 @@ call arch back target = do
   let sp = sub64 (rsp arch) 8
   let ssp = sub64 arch.ssp 8
   _ ← check_address sp 8
-  page ← look User kind.Store sp
-  shadow ← look User kind.ShadowStore ssp
+  page ← look kind.Store User sp
+  shadow ← look kind.ShadowStore User ssp
   _ ← store (word_in page sp) back
   _ ← store_as (Called back ∷ []) (word_in shadow ssp) back
   done (called arch target sp ssp)
@@ -52,7 +52,7 @@ unfoldable pub call_next : Arch → (back : ℕ) → Row
 call_next arch back = do
   let sp = sub64 (rsp arch) 8
   _ ← check_address sp 8
-  page ← look User kind.Store sp
+  page ← look kind.Store User sp
   _ ← store (word_in page sp) back
   done (called arch back sp arch.ssp)
 
@@ -93,8 +93,8 @@ returned_if word shadow_word = if (word == shadow_word) && canonical word then R
 unfoldable pub ret : Arch → (bytes : ℕ) → Row
 ret arch bytes = do
   _ ← check_address (rsp arch) 8
-  page ← look User kind.Load (rsp arch)
-  shadow ← look User kind.ShadowLoad arch.ssp
+  page ← look kind.Load User (rsp arch)
+  shadow ← look kind.ShadowLoad User arch.ssp
   word ← load (word_in page (rsp arch))
   shadow_word ← load_as (returned_if word) (word_in shadow arch.ssp)
   if word == shadow_word

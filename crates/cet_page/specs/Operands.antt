@@ -59,7 +59,7 @@ bytes_at addr count word = word / 2 ^ (8 * (addr % 8)) % 2 ^ (8 * count)
 unfoldable pub load_word : (addr count : ℕ) → Script ℕ
 load_word addr count = do
   _ ← check_address addr count
-  page ← look User kind.Load addr
+  page ← look kind.Load User addr
   load (word_in page addr)
 
 -- the load of 1, 4 or 8 bytes
@@ -72,7 +72,7 @@ load_at addr count = do
 unfoldable pub write_place : (addr : ℕ) → Script ℕ
 write_place addr = do
   _ ← check_address addr 8
-  page ← look User kind.Store addr
+  page ← look kind.Store User addr
   done (word_in page addr)
 
 -- the store of 8 bytes

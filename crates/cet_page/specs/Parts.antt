@@ -41,11 +41,11 @@ look_in_as changes (Some page) k w addr =
     ask (access.Look page) changes (λ entry. if allows entry k w then done page else fault (page_fault entry k w addr))
 
 -- the look at the page of an address
-unfoldable pub look_as : (ℕ → List Change) → Who → Kind → (addr : ℕ) → Script ℕ
-look_as changes w k addr = look_in_as changes (page_at addr) k w addr
+unfoldable pub look_as : (ℕ → List Change) → Kind → Who → (addr : ℕ) → Script ℕ
+look_as changes k w addr = look_in_as changes (page_at addr) k w addr
 
-abbrev pub look : Who → Kind → (addr : ℕ) → Script ℕ
-look w k addr = look_as no_changes w k addr
+abbrev pub look : Kind → Who → (addr : ℕ) → Script ℕ
+look k w addr = look_as no_changes k w addr
 
 -- The look of a call that goes on where the page check fails: the page's number, or none. An address on no page costs no
 -- access.
@@ -53,8 +53,8 @@ unfoldable pub probe_in : Option ℕ → Kind → Who → Script (Option ℕ)
 probe_in None k w = done None
 probe_in (Some page) k w = ask (access.Look page) no_changes (λ entry. done (if allows entry k w then Some page else None))
 
-unfoldable pub probe : Who → Kind → (addr : ℕ) → Script (Option ℕ)
-probe w k addr = probe_in (page_at addr) k w
+unfoldable pub probe : Kind → Who → (addr : ℕ) → Script (Option ℕ)
+probe k w addr = probe_in (page_at addr) k w
 
 -- the look at a page of which no test is made
 unfoldable pub read_entry : (page : ℕ) → Script ℕ

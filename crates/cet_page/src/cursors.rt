@@ -242,27 +242,27 @@ impl<'a> Cursor<'a> {
 
     /// The look at the page of an address, with the page check; the answer is the page's number.
     #[tactic(auto, unfolding(crate::specs::Parts::look_as, crate::specs::Parts::look_in_as))]
-    pub fn look(&mut self, who: Who, kind: Kind, addr: u64) -> Result<u32, Suspended>
-        ensures comes { Refines (play (look who kind addr) self.old.left self.old.rest.now) result self.new.left self.new.rest.now }
+    pub fn look(&mut self, kind: Kind, who: Who, addr: u64) -> Result<u32, Suspended>
+        ensures comes { Refines (play (look kind who addr) self.old.left self.old.rest.now) result self.new.left self.new.rest.now }
         ensures range { IfOk result (λ page. page < page_count) }
     {
         let Some(page) = page_of(addr) else {
             return Err(Suspended::Fault(page_fault(0, kind, who, addr)));
         };
-        self.look_in(page, who, kind, addr)
+        self.look_in(page, kind, who, addr)
     }
 
     /// The same look, where it has changes that its mark needn't tell.
     #[tactic(auto, using(crate::proofs::PartLaws::look_changes))]
-    pub fn look_as(&mut self, who: Who, kind: Kind, addr: u64) -> Result<u32, Suspended>
-        ensures comes { (changes : ℕ → List Change) → Marks Mark.Plain changes → Refines (play (look_as changes who kind addr) self.old.left self.old.rest.now) result self.new.left self.new.rest.now }
+    pub fn look_as(&mut self, kind: Kind, who: Who, addr: u64) -> Result<u32, Suspended>
+        ensures comes { (changes : ℕ → List Change) → Marks Mark.Plain changes → Refines (play (look_as changes kind who addr) self.old.left self.old.rest.now) result self.new.left self.new.rest.now }
         ensures range { IfOk result (λ page. page < page_count) }
     {
-        self.look(who, kind, addr)
+        self.look(kind, who, addr)
     }
 
     #[tactic(auto, using(crate::proofs::ScriptLaws::play_bind), unfolding(crate::specs::Parts::look_in_as))]
-    fn look_in(&mut self, page: u32, who: Who, kind: Kind, addr: u64) -> Result<u32, Suspended>
+    fn look_in(&mut self, page: u32, kind: Kind, who: Who, addr: u64) -> Result<u32, Suspended>
         requires { page < page_count }
         ensures comes { Refines (play (look_in_as no_changes (Some page) kind who addr) self.old.left self.old.rest.now) result self.new.left self.new.rest.now }
         ensures range { IfOk result (λ page. page < page_count) }
@@ -277,18 +277,18 @@ impl<'a> Cursor<'a> {
     /// The look at the page of an address where nothing faults: the page's number, or none where the
     /// page check fails.
     #[tactic(auto, unfolding(crate::specs::Parts::probe, crate::specs::Parts::probe_in))]
-    pub fn probe(&mut self, who: Who, kind: Kind, addr: u64) -> Result<Option<u32>, Suspended>
-        ensures comes { Refines (play (probe who kind addr) self.old.left self.old.rest.now) result self.new.left self.new.rest.now }
+    pub fn probe(&mut self, kind: Kind, who: Who, addr: u64) -> Result<Option<u32>, Suspended>
+        ensures comes { Refines (play (probe kind who addr) self.old.left self.old.rest.now) result self.new.left self.new.rest.now }
         ensures range { IfOk result (λ found. IfSome found (λ page. page < page_count)) }
     {
         let Some(page) = page_of(addr) else {
             return Ok(None);
         };
-        self.probe_in(page, who, kind, addr)
+        self.probe_in(page, kind, who, addr)
     }
 
     #[tactic(auto, using(crate::proofs::ScriptLaws::play_bind), unfolding(crate::specs::Parts::probe_in))]
-    fn probe_in(&mut self, page: u32, who: Who, kind: Kind, addr: u64) -> Result<Option<u32>, Suspended>
+    fn probe_in(&mut self, page: u32, kind: Kind, who: Who, addr: u64) -> Result<Option<u32>, Suspended>
         requires { page < page_count }
         ensures comes { Refines (play (probe_in (Some page) kind who) self.old.left self.old.rest.now) result self.new.left self.new.rest.now }
         ensures range { IfOk result (λ found. IfSome found (λ page. page < page_count)) }

@@ -103,7 +103,7 @@ impl<'a> Cursor<'a> {
         ensures { Refines (play (load_word addr count) self.old.left self.old.rest.now) result self.new.left self.new.rest.now }
     {
         self.check_address(addr, count)?;
-        let page = self.look(Who::User, Kind::Load, addr)?;
+        let page = self.look(Kind::Load, Who::User, addr)?;
         self.load(word_in(page, addr))
     }
 
@@ -133,7 +133,7 @@ impl<'a> Cursor<'a> {
         ensures range { IfOk result (λ word. word < word_count) }
     {
         self.check_address(addr, 8)?;
-        let page = self.look(Who::User, Kind::Store, addr)?;
+        let page = self.look(Kind::Store, Who::User, addr)?;
         Ok(word_in(page, addr))
     }
 

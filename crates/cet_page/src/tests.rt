@@ -154,18 +154,18 @@ fn looks_and_tests(rt: HostRuntime) {
     let nowhere = 0x7000_0000_0000;
     let entry = [0x8000_0000_0094_8065];
     let writable = [0x8000_0000_0094_8067];
-    let (who, kind) = (Who::User, Kind::ShadowStore);
+    let (kind, who) = (Kind::ShadowStore, Who::User);
     let vals = Vals::new();
     let mut before = vals.start();
     let wanted = Suspended::Access(Access::Look(2120), Mark::Plain);
-    assert_eq!(rt; before.probe(who, kind, top), Err(wanted));
-    assert_eq!(rt; before.look_as(who, kind, top), Err(wanted));
-    assert_eq!(rt; before.probe(who, kind, nowhere), Ok(None));
-    assert_eq!(rt; after(&entry).probe(who, kind, top), Ok(Some(2120)));
-    assert_eq!(rt; after(&entry).look_as(who, kind, top), Ok(2120));
-    assert_eq!(rt; after(&writable).probe(who, kind, top), Ok(None));
+    assert_eq!(rt; before.probe(kind, who, top), Err(wanted));
+    assert_eq!(rt; before.look_as(kind, who, top), Err(wanted));
+    assert_eq!(rt; before.probe(kind, who, nowhere), Ok(None));
+    assert_eq!(rt; after(&entry).probe(kind, who, top), Ok(Some(2120)));
+    assert_eq!(rt; after(&entry).look_as(kind, who, top), Ok(2120));
+    assert_eq!(rt; after(&writable).probe(kind, who, top), Ok(None));
     assert_eq!(rt;
-        after(&writable).look_as(who, kind, top),
+        after(&writable).look_as(kind, who, top),
         fault(FaultName::Pf, 71, top, writable[0])
     );
 
