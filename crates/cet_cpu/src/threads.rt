@@ -91,7 +91,7 @@ pub fn first(job: &Job) -> Cpu
 {
     let image = job.image;
     let mut cpu = thread_at(image.entry);
-    cpu.wait(job);
+    cpu.await_access(job);
     cpu
 }
 
@@ -200,8 +200,8 @@ impl Cpu {
         ensures fault { (r : Record) (name : FaultName) → result.noted ≡ Some r → r.what ≡ What.Fault name → Faults job.now self.old.core self.new.core answer r }
     {
         let child = self.child(job, answer);
-        let noted = self.answered(job, answer);
-        self.wait(job);
+        let noted = self.accept_answer(job, answer);
+        self.await_access(job);
         Taken {
             noted,
             child,
@@ -219,7 +219,7 @@ impl Cpu {
     {
         let mut child = self.unborn(job, answer);
         if let Some(cpu) = &mut child {
-            cpu.wait(job);
+            cpu.await_access(job);
         }
         child
     }
@@ -244,7 +244,7 @@ impl Cpu {
 
     /// Keeps the access that the thread waits for.
     #[tactic(auto, using(cet_page::proofs::PlayLaws::wanted_access), unfolding(cet_page::specs::Core::next_access))]
-    fn wait(&mut self, job: &Job)
+    fn await_access(&mut self, job: &Job)
         requires state { IsCore job.now self.old.core }
         requires waits { IfSome self.old.next (IsNext job.now self.old.core) }
         requires code { KeepsCode job.now self.old }
@@ -254,14 +254,14 @@ impl Cpu {
         if self.next.is_some() || self.over.is_some() {
             return;
         }
-        if let Err(Suspended::Access(access, mark)) = self.play(job) {
+        if let Err(Suspended::Access(access, mark)) = self.replay_row(job) {
             self.next = Some((access, mark));
         }
     }
 
     /// What the thread's row comes to after the accesses so far. Where it is over, the state is the one after
     /// it, but for the thread's number and the supervisor stack that it holds.
-    fn play(&mut self, job: &Job) -> Result<RowEnd, Suspended>
+    fn replay_row(&mut self, job: &Job) -> Result<RowEnd, Suspended>
         requires count { self.old.core.arch.count < 2 ^ 32 - 1 }
         requires made { IsMade self.old.core.arch.made }
         requires number { self.old.core.arch.number < 32 }
@@ -282,7 +282,7 @@ impl Cpu {
 
     /// Takes the answer, and keeps the access that is waited for, but for the first one of a new row.
     #[tactic(auto, unfolding(cet_page::specs::Core::taken, cet_page::specs::Core::next_access))]
-    fn answered(&mut self, job: &Job, answer: u64) -> Option<Record>
+    fn accept_answer(&mut self, job: &Job, answer: u64) -> Option<Record>
         requires state { IsCpu job.now self.old }
         requires going { self.old.core.over ≡ None }
         requires room { length self.old.core.vals.values < 32 }
@@ -295,7 +295,7 @@ impl Cpu {
         let (access, mark) = self.next?;
         self.arch.held = held_by(mark, answer, self.arch.held);
         self.vals.add(access, answer);
-        match self.play(job) {
+        match self.replay_row(job) {
             Err(Suspended::Access(access, mark)) => {
                 self.next = Some((access, mark));
                 None
@@ -304,30 +304,30 @@ impl Cpu {
                 let noted = fault_record(&self.arch, &fault);
                 self.arch.due = Some(fault);
                 self.arch.count += 1;
-                self.settle(job);
+                self.end_row(job);
                 Some(noted)
             }
             Ok(RowEnd::Noted(noted)) => {
-                self.settle(job);
+                self.end_row(job);
                 Some(noted)
             }
             Ok(RowEnd::Posted) => {
-                self.begin(None);
+                self.begin_row(None);
                 None
             }
             Ok(RowEnd::Exited(noted, status)) => {
-                self.begin(Some(End::Exit(status)));
+                self.begin_row(Some(End::Exit(status)));
                 Some(noted)
             }
             Ok(RowEnd::Stopped) => {
-                self.begin(Some(End::Group));
+                self.begin_row(Some(End::Group));
                 None
             }
         }
     }
 
     /// The thread after a record, which may bring it to its limit.
-    fn settle(&mut self, job: &Job)
+    fn end_row(&mut self, job: &Job)
         ensures core { self.new.core ≡ recorded job.now self.old.core.arch }
         ensures waits { self.new.next ≡ None }
         ensures code { self.new.code ≡ None }
@@ -337,11 +337,11 @@ impl Cpu {
         } else {
             None
         };
-        self.begin(over);
+        self.begin_row(over);
     }
 
     /// The thread before the first access of its row, or at its end.
-    fn begin(&mut self, over: Option<End>)
+    fn begin_row(&mut self, over: Option<End>)
         ensures core { self.new.core ≡ record { arch = self.old.core.arch; vals = no_vals; over = over } }
         ensures waits { self.new.next ≡ None }
         ensures code { self.new.code ≡ None }

@@ -10,7 +10,7 @@ use Rattle.cet_cpu.specs.Changes.{finish_with, Stays}
 use Rattle.cet_cpu.specs.Cpu.{RefinesRow, CpuData}
 use Rattle.cet_cpu.specs.declared.gate.RowEnd.{RowEnd}
 use Rattle.cet_cpu.specs.declared.gate.RowEnd.TheVariants as row_end
-use Rattle.cet_cpu.proofs.threads.Cpu.play.Goals as goal
+use Rattle.cet_cpu.proofs.threads.Cpu.replay_row.Goals as goal
 
 -- the place of the cursor afterwards doesn't matter
 came_to : (before after : Arch) (came : Played Finish) (result : Result RowEnd Suspended) (left : ℕ) (values : List ℕ)
