@@ -9,7 +9,8 @@ ghost use Rattle.cet_page.specs.Arithmetic.{move, movzx, movsxd, cmov};
 
 use cet_isa::{Arch, Cond, Mem, Operand, Record, Reg, Size};
 use cet_page::{
-    Cursor, StatusFlags, Suspended, assigned, effective, invalid_opcode, register_of, stepped, truncated,
+    Cursor, StatusFlags, Suspended, assigned, effective, invalid_opcode, register_of, stepped,
+    truncated,
 };
 
 /// MOV to a register, or of 64 bits to memory.

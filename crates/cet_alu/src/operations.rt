@@ -14,8 +14,8 @@ use crate::values::{
 };
 use cet_isa::{AluOp, Arch, Count, Operand, Record, Reg, Size};
 use cet_page::{
-    Cursor, StatusFlags, Suspended, assigned, compared, invalid_opcode, register, register_of, settled,
-    stepped,
+    Cursor, StatusFlags, Suspended, assigned, compared, invalid_opcode, register, register_of,
+    settled, stepped,
 };
 
 /// CF.

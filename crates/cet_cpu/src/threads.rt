@@ -15,7 +15,7 @@ ghost use Rattle.cet_cpu.specs.Code.{IsCode};
 ghost use Rattle.cet_cpu.specs.Cpu.{awaited, RefinesRow, CpuData, IsCpu, IsNext, KeepsCode};
 
 use crate::fetches::Code;
-use crate::gate::{RowEnd, R11, RAX, RCX, SYSCALL_LENGTH};
+use crate::gate::{R11, RAX, RCX, RowEnd, SYSCALL_LENGTH};
 use crate::rows::row;
 use cet_isa::{Arch, End, Fault, Record, What};
 use cet_page::{Mark, Suspended, Vals};

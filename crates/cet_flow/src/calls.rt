@@ -74,7 +74,12 @@ pub fn call_relative(
     call(arch, next, relative(next, disp), at)
 }
 
-fn call_to(arch: &Arch, back: u64, target: u64, at: &mut Cursor) -> Result<(Arch, Record), Suspended>
+fn call_to(
+    arch: &Arch,
+    back: u64,
+    target: u64,
+    at: &mut Cursor,
+) -> Result<(Arch, Record), Suspended>
     requires { arch.now.count < 2 ^ 32 - 1 }
     ensures { Refines (play (call_to arch.now back target) at.old.left at.old.rest.now) result at.new.left at.new.rest.now }
 {

@@ -11,7 +11,12 @@ use cet_page::{Cursor, Suspended, stepped};
 
 /// PUSH. The value is read before RSP changes.
 #[tactic(auto, using(cet_page::proofs::ScriptLaws::play_bind), unfolding(cet_page::specs::Flow::push))]
-pub fn push(arch: &Arch, src: Operand, next: u64, at: &mut Cursor) -> Result<(Arch, Record), Suspended>
+pub fn push(
+    arch: &Arch,
+    src: Operand,
+    next: u64,
+    at: &mut Cursor,
+) -> Result<(Arch, Record), Suspended>
     requires { arch.now.count < 2 ^ 32 - 1 }
     ensures { Refines (play (push arch.now src next) at.old.left at.old.rest.now) result at.new.left at.new.rest.now }
 {

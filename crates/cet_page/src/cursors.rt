@@ -122,7 +122,12 @@ impl<'a> Cursor<'a> {
 
     /// A compare-and-exchange; the answer is the word found.
     #[tactic(auto, unfolding(crate::specs::Parts::compare_exchange_as))]
-    pub fn compare_exchange(&mut self, word: u32, expected: u64, value: u64) -> Result<u64, Suspended>
+    pub fn compare_exchange(
+        &mut self,
+        word: u32,
+        expected: u64,
+        value: u64,
+    ) -> Result<u64, Suspended>
         requires { word < word_count }
         ensures { Refines (play (compare_exchange word expected value) self.old.left self.old.rest.now) result self.new.left self.new.rest.now }
     {
@@ -288,7 +293,13 @@ impl<'a> Cursor<'a> {
     }
 
     #[tactic(auto, using(crate::proofs::ScriptLaws::play_bind), unfolding(crate::specs::Parts::probe_in))]
-    fn probe_in(&mut self, page: u32, kind: Kind, who: Who, addr: u64) -> Result<Option<u32>, Suspended>
+    fn probe_in(
+        &mut self,
+        page: u32,
+        kind: Kind,
+        who: Who,
+        addr: u64,
+    ) -> Result<Option<u32>, Suspended>
         requires { page < page_count }
         ensures comes { Refines (play (probe_in (Some page) kind who) self.old.left self.old.rest.now) result self.new.left self.new.rest.now }
         ensures range { IfOk result (λ found. IfSome found (λ page. page < page_count)) }

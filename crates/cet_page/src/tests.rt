@@ -1,8 +1,9 @@
 //! The page check by the codes of the manual; what a row keeps.
 
 use crate::{
-    Cursor, Kind, Mark, Suspended, Vals, Who, check, frame_ssp, frame_word, index_of, is_frame_word,
-    is_previous_token, previous_ssp, previous_token, restore_token, restore_token_at, saved_at,
+    Cursor, Kind, Mark, Suspended, Vals, Who, check, frame_ssp, frame_word, index_of,
+    is_frame_word, is_previous_token, previous_ssp, previous_token, restore_token,
+    restore_token_at, saved_at,
 };
 use cet_isa::{Fault, FaultName};
 use cet_words::Access;
@@ -175,7 +176,10 @@ fn looks_and_tests(rt: HostRuntime) {
         fault(FaultName::Ac, 0, top + 4, 0)
     );
     assert_eq!(rt; before.check_address_gp(top, 8), Ok(()));
-    assert_eq!(rt; before.check_address_gp(top + 4, 8), fault(FaultName::Gp, 0, 0, 0));
+    assert_eq!(rt;
+        before.check_address_gp(top + 4, 8),
+        fault(FaultName::Gp, 0, 0, 0)
+    );
     assert_eq!(rt;
         before.check_address_gp(0x8000_0000_0000, 8),
         fault(FaultName::Gp, 0, 0, 0)
