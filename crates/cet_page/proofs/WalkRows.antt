@@ -29,6 +29,7 @@ use Rattle.cet_page.specs.declared.families.Family.TheVariants as families
 use Rattle.cet_page.specs.declared.flags.Computed.{Computed}
 use Rattle.cet_page.specs.Family.{family_of}
 use Rattle.cet_page.specs.Arithmetic.{operated, alu, test, imul, move, movzx, movsxd, cmov, xchg, lock_xadd, lock_cmpxchg, arithmetic}
+use Rattle.cet_page.specs.ShadowStacks.{shadow_stacks, rstorssp, save, saveprevssp, incsspq}
 use Rattle.cet_page.specs.Flow.{call, call_next, call_indirect, ret, push, pop, leave, jump_indirect, flow}
 use Rattle.cet_page.specs.Gate.{gate_in, entered, exit, exit_group, syscall, kill, delivery, deliver}
 use Rattle.cet_page.specs.Fetch.{missing, missing_in}
@@ -93,6 +94,11 @@ pub walk_flow : (arch : Arch) (i : Instr) (next : ℕ) → Walk 2 2 false (EndsR
 unfolding call call_next call_indirect ret push pop leave jump_indirect
 walk_flow arch (instr.CallRel disp) next = search rules depth 99 fits 9000
 walk_flow arch i next = search rules depth 99 fits 9000
+
+pub walk_shadow_stacks : (arch : Arch) (i : Instr) (next : ℕ) → Walk 2 2 false (EndsRow arch) (shadow_stacks arch i next)
+unfolding rstorssp save saveprevssp incsspq
+walk_shadow_stacks arch (instr.Incsspq r) next = search rules depth 99 fits 9000
+walk_shadow_stacks arch i next = search rules depth 99 fits 9000
 
 -- ---- the kernel
 

@@ -11,6 +11,7 @@ pub mod Operands
 pub mod Arithmetic
 pub mod Family
 pub mod Flow
+pub mod ShadowStacks
 pub mod Gate
 pub mod Fetch
 pub mod Row
