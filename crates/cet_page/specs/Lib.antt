@@ -13,6 +13,7 @@ pub mod Family
 pub mod Flow
 pub mod ShadowStacks
 pub mod Gate
+pub mod MapShadowStack
 pub mod Fetch
 pub mod Row
 pub mod Core

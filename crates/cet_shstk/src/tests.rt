@@ -252,17 +252,24 @@ fn raises() -> [Row; 7] {
     ]
 }
 
-/// Gives an instruction of 4 bytes its answers one after another.
-fn expect_row(rt: &impl Abort, row: &Row) {
-    let (instr, [flags, ssp, rbx], answers, accesses, end) = row;
-    let arch = thread(*flags, *ssp, *rbx);
+/// An instruction of 4 bytes with these answers, after so many accesses of which so many were kept.
+fn after(arch: &Arch, instr: &Instr, left: u32, rest: &[u64]) -> Result<(Arch, Record), Suspended>
+    requires { arch.now.count < 2 ^ 32 - 1 }
+{
+    follow(arch, instr, 0x40_1004, &mut Cursor { left, rest })
+}
+
+/// Gives an instruction its answers one after another.
+fn expect_row(rt: &impl Abort, row: Row) {
+    let (instr, before, answers, accesses, end) = row;
+    let arch = thread(before[0], before[1], before[2]);
     let mut left = 0;
     let mut kept = 0;
-    for access in *accesses {
+    for access in accesses {
         let rest = answers.get(..kept).expect(rt, "too few answers");
-        let stop = follow(&arch, instr, 0x40_1004, &mut Cursor { left, rest });
+        let stop = after(&arch, &instr, left, rest).err();
         assert_eq!(rt;
-            stop.err(),
+            stop,
             Some(Suspended::Access(*access, Mark::Plain)),
             "{instr:?}"
         );
@@ -271,25 +278,21 @@ fn expect_row(rt: &impl Abort, row: &Row) {
             kept = kept.checked_add(1).expect(rt, "too many answers");
         }
     }
-    let mut at = Cursor {
-        left,
-        rest: answers,
-    };
-    let came = follow(&arch, instr, 0x40_1004, &mut at);
+    let came = after(&arch, &instr, left, answers);
     let told = came.map(|(after, noted)| (noted, after.flags, after.ssp));
-    assert_eq!(rt; told, *end, "{instr:?}");
+    assert_eq!(rt; told, end, "{instr:?}");
 }
 
 #[test]
 fn rows_of_accesses(rt: HostRuntime) {
     for row in restores() {
-        expect_row(&rt, &row);
+        expect_row(&rt, row);
     }
     for row in saves() {
-        expect_row(&rt, &row);
+        expect_row(&rt, row);
     }
     for row in raises() {
-        expect_row(&rt, &row);
+        expect_row(&rt, row);
     }
 }
 
