@@ -1,16 +1,17 @@
 -- map_shadow_stack (453), which makes a shadow stack. Source: Linux, Documentation/arch/x86/shstk.rst. Own: the order of the tests, and that places are drawn from a counter and never given back.
-use Rattle.std.specs.Prelude.{ℕ, ◌+◌, ◌-◌, ◌*◌, ◌/◌, ◌%◌, ◌^◌, ◌==◌, ◌&&◌, ◌||◌, not, nat_le, nat_lt, Bool, true, false, if◌then◌else◌, slice_index, List, [], ◌∷◌}
+use Rattle.std.specs.Prelude.{ℕ, ◌+◌, ◌-◌, ◌*◌, ◌/◌, ◌%◌, ◌^◌, ◌==◌, ◌&&◌, ◌||◌, nat_le, nat_lt, Bool, if◌then◌else◌, slice_index, List, [], ◌∷◌, Option, Some, None}
 use Rattle.cet_words.specs.Change.{Change, Claimed, Seeded}
 use Rattle.cet_words.specs.Entries.{entry_with, no_execute}
 use Rattle.cet_words.specs.Layout.{draw_shadow_word, entry_word, first_shadow_page, page_up, shadow_start, word_in}
 use Rattle.cet_isa.specs.declared.threads.Arch.{Arch}
 use Rattle.cet_isa.specs.declared.threads.Record.{Record}
 use Rattle.cet_isa.specs.declared.threads.What.TheVariants as what
-use Rattle.cet_page.specs.Finish.{rdi}
+use Rattle.cet_page.specs.Finish.{rax, rdi}
 use Rattle.cet_page.specs.Gate.{Work, failed, served}
 use Rattle.cet_page.specs.Parts.{fetch_add_as, store_as, stores}
 use Rattle.cet_page.specs.Script.{Script, done, ◌>>=◌}
 use Rattle.cet_page.specs.Tokens.{restore_token}
+use Rattle.cet_page.specs.declared.services.Errno.{Errno}
 use Rattle.cet_page.specs.declared.services.Errno.TheVariants as errno
 use Rattle.cet_page.specs.declared.finishes.Leaving.{Leaving}
 use Rattle.cet_page.specs.declared.finishes.Leaving.TheVariants as leaving
@@ -82,17 +83,21 @@ draw_stack arch size pages token = do
 
 -- ---- the call
 
--- bit 0 of the flags asks for a restore token
-abbrev pub map_by : Arch → (address size flags : ℕ) → Work
-map_by arch address size flags =
-    if nat_lt 1 flags then done (failed arch errno.Inval)
-    else if flags == 1 && nat_lt size 8 then done (failed arch errno.NoSpc)
-    else if nat_lt 0 address && nat_lt address (2 ^ 32) then done (failed arch errno.Range)
-    else if nat_le (2 ^ 64) (page_up size) then done (failed arch errno.Overflow)
-    else if size == 0 || (flags == 1 && nat_lt 0 (size % 8)) then done (failed arch errno.Inval)
-    else if nat_lt 0 address then done (failed arch errno.Exist)
-    else if nat_le (pages_of size) most_stack_pages then draw_stack arch size (pages_of size) (flags == 1)
-    else done (failed arch errno.NoMem)
+-- the error of an address, a size in bytes and flags, by the first test that fails; bit 0 of the flags asks for a restore token
+abbrev pub refused : (address size flags : ℕ) → Option Errno
+refused address size flags =
+    if nat_lt 1 flags then Some errno.Inval
+    else if flags == 1 && nat_lt size 8 then Some errno.NoSpc
+    else if nat_lt 0 address && nat_lt address (2 ^ 32) then Some errno.Range
+    else if nat_le (2 ^ 64) (page_up size) then Some errno.Overflow
+    else if size == 0 || (flags == 1 && nat_lt 0 (size % 8)) then Some errno.Inval
+    else if nat_lt 0 address then Some errno.Exist
+    else if nat_lt most_stack_pages (pages_of size) then Some errno.NoMem
+    else None
+
+abbrev pub map_by : Arch → (size flags : ℕ) → Option Errno → Work
+map_by arch size flags (Some error) = done (failed arch error)
+map_by arch size flags None = draw_stack arch size (pages_of size) (flags == 1)
 
 abbrev pub rsi : Arch → ℕ
 rsi arch = slice_index arch.regs 6
@@ -100,6 +105,10 @@ rsi arch = slice_index arch.regs 6
 abbrev pub rdx : Arch → ℕ
 rdx arch = slice_index arch.regs 2
 
--- address, size in bytes and flags
 abbrev pub map_shadow_stack : Arch → Work
-map_shadow_stack arch = map_by arch (rdi arch) (rsi arch) (rdx arch)
+map_shadow_stack arch = map_by arch (rsi arch) (rdx arch) (refused (rdi arch) (rsi arch) (rdx arch))
+
+-- ---- the services on memory, by their numbers; every other one is no call
+
+abbrev pub memory_service : Arch → Work
+memory_service arch = if rax arch == 453 then map_shadow_stack arch else done (failed arch errno.NoSys)
