@@ -7,11 +7,13 @@ ghost use Rattle.cet_page.specs.Script.{play};
 ghost use Rattle.cet_page.specs.Plays.{Refines, RefinesBy};
 ghost use Rattle.cet_page.specs.Parts.{compare_exchange_as};
 ghost use Rattle.cet_page.specs.Finish.{IsMade, counted};
-ghost use Rattle.cet_page.specs.Gate.{busied_if, stack_of, gate_in, gate_out, finish_of, found_busy, entered, clears, made_page, exit_status, exit, exit_group, service, syscall, signal_of, is_masked, killed, kill, delivery, deliver};
+ghost use Rattle.cet_page.specs.Services.{service, syscall};
+ghost use Rattle.cet_page.specs.Gate.{busied_if, stack_of, gate_in, gate_out, finish_of, found_busy, entered, clears, made_page, exit_status, exit, exit_group, signal_of, is_masked, killed, kill, delivery, deliver};
 ghost use Rattle.cet_cpu.specs.Changes.{finish_with, Stays};
 ghost use Rattle.cet_cpu.specs.Entry.{work_of};
 
 use cet_isa::{Arch, Fault, FaultName, Record, What};
+use cet_kmem::map_shadow_stack;
 use cet_page::{Cursor, Errno, Leaving, Mark, RAX, Suspended, failed, serve, sys_record};
 use cet_words::{
     Access, EXIT_WORD, FIRST_ENTRY_WORD, FIRST_SHADOW_PAGE, Job, KERNEL_RETURN, SHADOW_START,
@@ -38,6 +40,9 @@ const EXIT: u64 = 60;
 
 /// The number of the service exit_group.
 const EXIT_GROUP: u64 = 231;
+
+/// The number of the service map_shadow_stack.
+const MAP_SHADOW_STACK: u64 = 453;
 
 /// The supervisor stack of a thread's processor, below 8.
 fn stack_of(job: &Job, arch: &Arch) -> u8
@@ -176,6 +181,7 @@ fn service(arch: &Arch, at: &mut Cursor) -> Result<(Arch, Record, Leaving), Susp
     match arch.regs[RAX] {
         EXIT => exit(arch, at),
         EXIT_GROUP => exit_group(arch, at),
+        MAP_SHADOW_STACK => map_shadow_stack(arch, at),
         _ => Ok(failed(arch, Errno::NoSys)),
     }
 }

@@ -10,3 +10,4 @@ mod shadow_stacks;
 mod tests;
 
 pub use services::{follow, next};
+pub use shadow_stacks::map_shadow_stack;

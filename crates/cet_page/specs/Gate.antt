@@ -150,17 +150,6 @@ exit_group arch = do
   _ ← compare_exchange exit_word 0 (0x100 + exit_status arch)
   done (serve arch (exit_status arch))
 
--- the service whose number is in RAX; every number that isn't built is no call
-abbrev pub service : Arch → Work
-service arch =
-    if rax arch == 60 then exit arch
-    else if rax arch == 231 then exit_group arch
-    else done (failed arch errno.NoSys)
-
--- SYSCALL
-abbrev pub syscall : JobData → Arch → Script Finish
-syscall job arch = entered job arch (service arch)
-
 -- ---- the kill, and the delivery of a due fault
 
 abbrev pub killed : Arch → (signal before : ℕ) → Arch × Record × Leaving
