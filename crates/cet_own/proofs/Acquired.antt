@@ -1,16 +1,16 @@
 -- RSTORSSP's exchange: the token of a parked region becomes the word of the region that the thread leaves, or no token is found
 -- and nothing changes. Source: own.
-use Rattle.std.proofs.Common.{◌≡◌, ◌≢◌, ℕ, ◌+◌, ◌-◌, ◌*◌, ◌<◌, ◌≤◌, inl, List, [], ◌∷◌, length, Some, refl, sym, ◌∙◌, ap, subst, arith}
+use Rattle.std.proofs.Common.{◌≡◌, ◌≢◌, ℕ, ◌+◌, ◌-◌, ◌*◌, inl, List, [], ◌∷◌, length, refl, sym, ◌∙◌, ap, subst, arith}
 use Rattle.std.specs.Prelude.{slice_index, slice_set}
 use Rattle.cet_words.specs.Access.{answer, after}
 use Rattle.cet_words.specs.Change.{Change, Acquired}
 use Rattle.cet_words.specs.Job.{ImageData}
 use Rattle.cet_words.specs.declared.accesses.Access.{Access}
 use Rattle.cet_words.specs.declared.accesses.Access.TheVariants as access
-use Rattle.cet_book.specs.Book.{Book, Region, region, top, acquire, book_after}
+use Rattle.cet_book.specs.Book.{Book, Region, region, top, acquire}
 use Rattle.cet_book.specs.Facts.{In, Owns, Place, Stack}
 use Rattle.cet_book.specs.Shape.{Shape}
-use Rattle.cet_book.specs.Stack.{slot, slot_word, tops}
+use Rattle.cet_book.specs.Stack.{slot, tops}
 use Rattle.cet_book.specs.declared.entries.Entry.TheVariants.{Previous}
 use Rattle.cet_book.specs.declared.entries.Holder.TheVariants.{Current, Left, Parked}
 use Rattle.cet_book.proofs.Acquire.{Takes, taken_there, taken_apart, acquire_all, acquire_same, acquire_top, acquire_other, acquire_taken, unlinked, parked_fits}

@@ -1,5 +1,5 @@
 -- A draw on the counter of shadow pages: a region is claimed, or the draw fails and the counter stays raised. Source: own.
-use Rattle.std.proofs.Common.{◌≡◌, ◌≢◌, ℕ, ◌+◌, ◌-◌, ◌*◌, ◌%◌, ◌^◌, ◌<◌, ◌≤◌, inl, inr, Bool, true, false, List, [], ◌∷◌, length, Some, refl, sym, ◌∙◌, ap, subst, arith, get_or-set_same}
+use Rattle.std.proofs.Common.{◌≡◌, ℕ, ◌+◌, ◌-◌, ◌*◌, ◌%◌, ◌^◌, ◌<◌, ◌≤◌, inl, inr, Bool, true, false, List, [], ◌∷◌, length, refl, sym, ◌∙◌, ap, subst, arith, get_or-set_same}
 use Rattle.std.specs.Prelude.{nat_lt, slice_index, slice_set}
 use Rattle.std.proofs.lemmas.Bool.{cases_lt}
 use Rattle.std.proofs.lemmas.Bool.Decides.{nat_tests}
@@ -22,7 +22,7 @@ use Rattle.cet_book.proofs.Kept.{claims}
 use Rattle.cet_book.proofs.Ways.{claimed_way}
 use Rattle.cet_page.specs.Script.{birth}
 use Rattle.cet_page.specs.Trail.{Visit}
-use Rattle.cet_own.specs.Past.{draw_word, next_word, drew}
+use Rattle.cet_own.specs.Past.{draw_word, drew}
 use Rattle.cet_own.specs.Stands.{OwnWord, own_slot, below_token}
 use Rattle.cet_own.proofs.Changed.{Spares, changed}
 use Rattle.cet_own.proofs.Classes.{Spared, word_other, keeps_restorers}

@@ -1,12 +1,12 @@
 -- What a thread claims of map_shadow_stack. Source: own.
 use Rattle.std.proofs.Common.{zero, suc, ◌≡◌, ◌≢◌, ℕ, ◌+◌, ◌-◌, ◌*◌, ◌/◌, ◌%◌, ◌^◌, ◌<◌, ◌≤◌, Bool, true, false, ◌&&◌, ◌||◌, List, [], ◌∷◌, length, replicate, Option, Some, None, refl, sym, ◌∙◌, ap, subst, arith}
 use Rattle.std.specs.Prelude.{◌==◌, if◌then◌else◌, nat_lt, nat_le}
-use Rattle.std.proofs.lemmas.Bool.{eqb-true, false≢true}
+use Rattle.std.proofs.lemmas.Bool.{false≢true}
 use Rattle.std.proofs.lemmas.Bool.Decides.{nat_tests}
 use Rattle.cet_words.specs.Change.{Claimed, Seeded}
-use Rattle.cet_words.specs.Entries.{entry_of, entry_with, no_execute}
+use Rattle.cet_words.specs.Entries.{entry_of}
 use Rattle.cet_words.specs.Job.{JobData, ImageData}
-use Rattle.cet_words.specs.Layout.{draw_shadow_word, entry_word, first_kernel_page, first_shadow_page, first_stack_page, page_up, shadow_start, token_word, word_in}
+use Rattle.cet_words.specs.Layout.{draw_shadow_word, entry_word, first_kernel_page, first_shadow_page, first_stack_page, page_up, shadow_start, token_word}
 use Rattle.cet_words.specs.declared.accesses.Access.TheVariants as access
 use Rattle.cet_isa.specs.declared.threads.Arch.{Arch}
 use Rattle.cet_book.specs.Book.{Book, Region, region, top, claim, current_of, is_current}
@@ -23,7 +23,7 @@ use Rattle.cet_book.proofs.Top.{AtTop}
 use Rattle.cet_book.proofs.Ways.{claimed_way, seeded_way}
 use Rattle.cet_page.specs.Finish.{rdi}
 use Rattle.cet_page.specs.Gate.{failed}
-use Rattle.cet_page.specs.MapShadowStack.{can_draw, claimed, claimed_if, draw_stack, drawn_page, drawn_start, fill_drawn, fill_stack, map_by, map_shadow_stack, most_stack_pages, pages_of, rdx, refused, rsi, seed_if, seed_word, shadow_entry}
+use Rattle.cet_page.specs.MapShadowStack.{can_draw, claimed, claimed_if, draw_stack, drawn_page, drawn_start, fill_stack, map_by, map_shadow_stack, most_stack_pages, pages_of, rdx, refused, rsi, seed_if, seed_word, shadow_entry}
 use Rattle.cet_page.specs.Parts.{fetch_add_as, store_as, stores}
 use Rattle.cet_page.specs.Script.{done, ◌>>=◌}
 use Rattle.cet_page.specs.Tokens.{restore_token}
@@ -39,7 +39,7 @@ use Rattle.cet_own.proofs.KernelParts.{counted_by, Leaves, Within, failed_claim}
 use Rattle.cet_own.proofs.Looks.{restore_token_is}
 use Rattle.cet_own.proofs.MadePages.{makes}
 use Rattle.cet_own.proofs.Owed.{State, state_after, Known, Owed, own_stack}
-use Rattle.cet_own.proofs.Parts.{Claim, one_after, claim_bind, claim_cond}
+use Rattle.cet_own.proofs.Parts.{Claim, one_after, claim_bind}
 use Rattle.cet_own.proofs.Places.{shadow_slot}
 use Rattle.cet_own.proofs.Progress.{Progress, progress, untouched}
 use Rattle.cet_own.proofs.Resting.{Inside, inside_kept, inside_left, inside_stacked, rested}

@@ -1,7 +1,7 @@
 -- INCSSPQ's last look: the newest entries of the thread's own region go, and no word is written. Source: own.
-use Rattle.std.proofs.Common.{◌≡◌, ◌≢◌, ℕ, ◌≤◌, List, [], ◌∷◌, Some, refl, sym, ◌∙◌, ap, subst}
+use Rattle.std.proofs.Common.{◌≡◌, ℕ, List, [], ◌∷◌, Some, refl, sym, ◌∙◌, ap, subst}
 use Rattle.std.specs.Prelude.{slice_index}
-use Rattle.cet_words.specs.Access.{answer, after}
+use Rattle.cet_words.specs.Access.{after}
 use Rattle.cet_words.specs.Change.{Change, Raised}
 use Rattle.cet_words.specs.Job.{ImageData}
 use Rattle.cet_words.specs.declared.accesses.Access.{Access}

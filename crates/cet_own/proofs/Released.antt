@@ -1,7 +1,7 @@
 -- SAVEPREVSSP's store: the region that was left gets its restore token, and the entry that led to it goes. Source: own.
-use Rattle.std.proofs.Common.{◌≡◌, ◌≢◌, ℕ, ◌+◌, ◌-◌, ◌*◌, ◌<◌, ◌≤◌, inl, List, [], ◌∷◌, length, Some, refl, sym, ◌∙◌, ap, subst, arith}
-use Rattle.std.specs.Prelude.{slice_index, slice_set}
-use Rattle.cet_words.specs.Access.{answer, after}
+use Rattle.std.proofs.Common.{◌≡◌, ◌≢◌, ℕ, ◌+◌, ◌-◌, ◌≤◌, inl, List, [], ◌∷◌, refl, sym, ap, subst, arith}
+use Rattle.std.specs.Prelude.{slice_set}
+use Rattle.cet_words.specs.Access.{after}
 use Rattle.cet_words.specs.Change.{Change, Released}
 use Rattle.cet_words.specs.Job.{ImageData}
 use Rattle.cet_words.specs.declared.accesses.Access.{Access}
@@ -12,7 +12,7 @@ use Rattle.cet_book.specs.Shape.{Shape}
 use Rattle.cet_book.specs.Stack.{slot, tops}
 use Rattle.cet_book.specs.declared.entries.Entry.{Entry}
 use Rattle.cet_book.specs.declared.entries.Entry.TheVariants.{Previous}
-use Rattle.cet_book.specs.declared.entries.Holder.TheVariants.{Current, Left, Parked}
+use Rattle.cet_book.specs.declared.entries.Holder.TheVariants.{Current, Parked}
 use Rattle.cet_book.proofs.Unlink.{Linked, linked_left, left_there, unlink_all, unlink_same, unlink_other, unlink_top, unlink_gone}
 use Rattle.cet_book.proofs.Ways.{released_way}
 use Rattle.cet_page.specs.Script.{birth}

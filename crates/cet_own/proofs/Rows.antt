@@ -44,10 +44,9 @@ use Rattle.cet_own.proofs.ShadowClaims.{shadow_stacks_claim}
 use Rattle.cet_own.proofs.Calls.{Ends, EndsRow, call_relative_claim, call_indirect_claim}
 use Rattle.cet_own.proofs.Returns.{ret_claim}
 use Rattle.cet_own.proofs.Steps.{push_claim, pop_claim, leave_claim, jump_indirect_claim, arithmetic_claim}
-use Rattle.cet_own.specs.Past.{left_in}
 use Rattle.cet_own.proofs.Progress.{Progress, progress, untouched}
 use Rattle.cet_page.specs.Trail.{Visit}
-use Rattle.cet_own.proofs.Resting.{Resting, rest_kept, Inside, inside_kept, inside_left, rest_stacked, inside_stacked, rested, row_starts}
+use Rattle.cet_own.proofs.Resting.{Resting, rest_kept, inside_kept, inside_left, rest_stacked, inside_stacked, rested, row_starts}
 
 -- ---- where instructions lie
 

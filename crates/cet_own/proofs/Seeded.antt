@@ -1,9 +1,9 @@
 -- The store of a new stack's restore token: the region that was being made is parked, with blanks above its token. Source: own.
-use Rattle.std.proofs.Common.{zero, suc, ◌≡◌, ◌≢◌, ℕ, ◌+◌, ◌-◌, ◌*◌, ◌%◌, ◌<◌, ◌≤◌, inl, inr, List, [], ◌∷◌, length, replicate, Some, refl, sym, ◌∙◌, ap, subst, arith}
-use Rattle.std.specs.Prelude.{slice_index, slice_set}
+use Rattle.std.proofs.Common.{zero, suc, ◌≡◌, ◌≢◌, ℕ, ◌+◌, ◌-◌, ◌*◌, ◌%◌, ◌<◌, ◌≤◌, inl, inr, List, [], ◌∷◌, length, replicate, refl, sym, ◌∙◌, ap, subst, arith}
+use Rattle.std.specs.Prelude.{slice_set}
 use Rattle.std.proofs.lemmas.Bool.Decides.{eqb_tells}
 use Rattle.std.proofs.lemmas.List.{length-replicate}
-use Rattle.cet_words.specs.Access.{answer, after}
+use Rattle.cet_words.specs.Access.{after}
 use Rattle.cet_words.specs.Change.{Change, Seeded}
 use Rattle.cet_words.specs.Job.{ImageData}
 use Rattle.cet_words.specs.declared.accesses.Access.{Access}

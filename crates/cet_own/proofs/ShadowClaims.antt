@@ -1,11 +1,11 @@
 -- What a thread claims of the instructions on shadow stacks. Source: own.
-use Rattle.std.proofs.Common.{◌≡◌, ◌≢◌, ℕ, ◌+◌, ◌-◌, ◌*◌, ◌/◌, ◌%◌, ◌<◌, ◌≤◌, inl, inr, Bool, true, false, List, [], ◌∷◌, length, Option, Some, None, refl, sym, ◌∙◌, ap, subst, arith, get_or}
+use Rattle.std.proofs.Common.{◌≡◌, ℕ, ◌+◌, ◌-◌, ◌*◌, ◌/◌, ◌%◌, ◌<◌, ◌≤◌, inl, inr, Bool, true, false, List, [], ◌∷◌, length, Option, Some, None, refl, sym, ◌∙◌, ap, subst, arith, get_or}
 use Rattle.std.specs.Prelude.{◌==◌, if◌then◌else◌, max}
 use Rattle.std.proofs.lemmas.Bool.{eqb-true}
 use Rattle.std.proofs.lemmas.Bool.Decides.{eqb_tells}
 use Rattle.cet_words.specs.Change.{Acquired, Raised, Released}
 use Rattle.cet_words.specs.Job.{JobData}
-use Rattle.cet_words.specs.Layout.{word_in, first_shadow_page, image_end, image_start, shadow_end, shadow_start}
+use Rattle.cet_words.specs.Layout.{word_in, first_shadow_page, image_end, image_start, shadow_start}
 use Rattle.cet_words.specs.declared.accesses.Access.TheVariants as access
 use Rattle.cet_isa.specs.Address.{canonical}
 use Rattle.cet_isa.specs.declared.instructions.Instr.{Instr}
@@ -30,14 +30,13 @@ use Rattle.cet_book.proofs.Ways.{acquired_way, released_way, raised_way}
 use Rattle.cet_page.specs.Operands.{effective, register}
 use Rattle.cet_page.specs.Page.{allows, page_fault}
 use Rattle.cet_page.specs.Parts.{general_protection, load, load_as, store_as, compare_exchange_as, look_as, look_in_as}
-use Rattle.cet_page.specs.Script.{done, fault, ◌>>=◌}
-use Rattle.cet_page.specs.ShadowStacks.{acquired_if, restored, rstorssp, saved, save, save_checked, save_by, saveprevssp, raised_if, raised, incsspq, shadow_stacks}
+use Rattle.cet_page.specs.Script.{done, fault}
+use Rattle.cet_page.specs.ShadowStacks.{rstorssp, save, save_by, saveprevssp, raised, incsspq, shadow_stacks}
 use Rattle.cet_page.specs.Tokens.{restore_token, restore_token_at, previous_token, is_previous_token, previous_ssp, saved_at}
 use Rattle.cet_page.specs.Trail.{Visit, visit}
 use Rattle.cet_page.specs.Word64.{add64}
 use Rattle.cet_page.specs.declared.checks.Kind.TheVariants as kind
 use Rattle.cet_page.specs.declared.checks.Who.TheVariants.{User}
-use Rattle.cet_own.specs.Restores.{IsToken}
 use Rattle.cet_own.specs.Safe.{IsElsewhere}
 use Rattle.cet_own.proofs.Acquired.{takes, misses}
 use Rattle.cet_own.proofs.Calls.{entries_of, EndsRow, own_kept}
@@ -73,12 +72,13 @@ leads_by (Blank ∷ es) o e some f w = nowhere_by_bit (omega arith)
 -- the entry stays, and so does the region that it leads to
 linked_kept : {t m s : ℕ} {es : List Entry} {b now : Book} → Relies t b now → Shape now → Linked t m s es b → Linked t m s es now × (region now s ≡ region b s)
 linked_kept {t = t} {m = m} {s = s} {b = b} r h l =
-    let same = r.kept m (owns_current t (region b m).holder l.owned.current) in
-    (record {
-      owned = record { shape = h; current = ap (λ (q : Region). q.holder) same ∙ l.owned.current };
-      entries = ap (λ (q : Region). q.entries) same ∙ l.entries;
-    },
-    r.below m s l.owned.current (linked_left l))
+    let same = r.kept m (owns_current t (region b m).holder l.owned.current) in (
+      record {
+        owned = record { shape = h; current = ap (λ (q : Region). q.holder) same ∙ l.owned.current };
+        entries = ap (λ (q : Region). q.entries) same ∙ l.entries;
+      },
+      r.below m s l.owned.current (linked_left l),
+    )
 
 module _ (job : JobData) (arch : Arch) (free : IsElsewhere job arch) where
   -- ---- RSTORSSP

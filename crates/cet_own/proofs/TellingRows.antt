@@ -245,7 +245,7 @@ abbrev one_drawn : (start pages : ℕ) (kept : List ℕ) → Drawn
 one_drawn start pages kept = record { claimed = claimed_span start pages ∷ []; kept = kept }
 
 tells_seed : (arch : Arch) (start size k : ℕ) (token : Bool) → Tells EndTells (one_drawn start (pages_of size) []) ((seed_if start size (pages_of size) token >>= (λ _. done (claimed arch start size))) >>= leave k)
-tells_seed arch start size k true = 
+tells_seed arch start size k true =
     tells_assoc _ _ _ (tells_stored _ _ _ _ (tells_return _ _ (tells_gate_out _ k _ (tells_done (tells_stack (claimed_span start (pages_of size)) refl refl (inr refl))))))
 tells_seed arch start size k false =
     tells_assoc _ _ _ (tells_return _ _ (tells_return _ _ (tells_gate_out _ k _ (tells_done (tells_stack (claimed_span start (pages_of size)) refl refl (inl refl))))))
