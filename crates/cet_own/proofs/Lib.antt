@@ -24,7 +24,6 @@ pub mod Acquired
 pub mod Released
 pub mod Raised
 pub mod Claimed
-pub mod MadePages
 pub mod Seeded
 pub mod HeldAfter
 pub mod Places

@@ -34,10 +34,10 @@ use Rattle.cet_own.specs.Past.{draw_word, drew, left_in}
 use Rattle.cet_own.specs.Safe.{IsElsewhere}
 use Rattle.cet_own.proofs.Calls.{Ends}
 use Rattle.cet_own.proofs.Claimed.{draws, overdraws, draw_can_claim}
+use Rattle.cet_own.proofs.Classes.{makes_page}
 use Rattle.cet_own.proofs.GateParts.{gate_out_then}
 use Rattle.cet_own.proofs.KernelParts.{counted_by, Leaves, Within, failed_claim}
 use Rattle.cet_own.proofs.Looks.{restore_token_is}
-use Rattle.cet_own.proofs.MadePages.{makes}
 use Rattle.cet_own.proofs.Owed.{State, state_after, Known, Owed, own_stack}
 use Rattle.cet_own.proofs.Parts.{Claim, one_after, claim_bind}
 use Rattle.cet_own.proofs.Places.{shadow_slot}
@@ -186,7 +186,7 @@ module _ (job : JobData) (arch : Arch) (l : own_stack job arch.number < 8) (free
         let lies : LiesIn (region now.book i) page = record { low = omega arith; high = omega arith } in
         let entry : value ≡ entry_of job.image page = v ∙ sym (shadow_entry_is job.image page first (omega arith)) in
         let apart : (word == token_word gate - 1) ≡ false = (let n : word ≢ token_word gate - 1 = omega arith in grind (arith, nat_tests)) in (
-          makes page i (ap (λ w. access.Store w value) e ∙ ap (access.Store (entry_word page)) entry) first (omega arith) lies refl,
+          makes_page page i (ap (λ w. access.Store w value) e ∙ ap (access.Store (entry_word page)) entry) first (omega arith) lies refl,
           now,
           refl,
           entries_claim Q _ now now count (page + 1) (word + 1) (value + 4096) i start end maker (omega arith) (omega arith) (omega arith) (omega arith) (omega arith) most (inside_left (rw apart refl) within1) begun1 h,

@@ -33,9 +33,9 @@ blanks_stand : (words : List ℕ) (f : ℕ → ℕ) (a n : ℕ) → ((x : ℕ) �
 blanks_stand words f a zero h = tt
 blanks_stand words f a (suc n) h = (h a (omega arith) (omega arith) refl, blanks_stand words f (a + 8) n (λ x lo hi e. h x (omega arith) (omega arith) (omega arith)))
 
--- a word of a region that is being made
-pub maker_zero : (words : List ℕ) (b : Book) (t s p : ℕ) → Made t s b → Marks words b → Place p → In (region b s) p → slot_word words p ≡ 0
-maker_zero words b t s p m h pp inn = elim (eqb_tells (slot_word words p) 0) [
+-- the words of a region that is being made are 0
+pub making_zero : (words : List ℕ) (b : Book) (t s p : ℕ) → Made t s b → Marks words b → Place p → In (region b s) p → slot_word words p ≡ 0
+making_zero words b t s p m h pp inn = elim (eqb_tells (slot_word words p) 0) [
   | inl u ↦ u.1
   | inr u ↦ absurd (
       let k = h.zeros p pp u.1 in
@@ -99,7 +99,7 @@ module _ {t s : ℕ} {b : Book} (m : Made t s b) (n p : ℕ) (room : (region b s
             (blanks_stand (with_token words) (tops seeded) (p + 8) n (λ x lo hi e.
             let inn : In (region b s) x = record { low = omega arith; high = omega arith } in
             let pp = in_place b s x m.shape inn (omega arith) in
-            slot_other words p x (p + 9) place.0 pp (omega arith) ∙ maker_zero words b t s x m h.marks pp inn)))
+            slot_other words p x (p + 9) place.0 pp (omega arith) ∙ making_zero words b t s x m h.marks pp inn)))
             (λ i u. old i);
         pages = pages_same image (with_token words) b seeded (hand_same (seeds m n)) (pages_out image words b (slot p) (p + 9) (omega arith) h.pages);
         gates = gates_same (with_token words) b seeded refl (gates_out words b (slot p) (p + 9) (λ k lk. omega arith) h.gates);
