@@ -1,6 +1,7 @@
 -- What the kernel is entered for, and its work there. Source: own.
 use Rattle.cet_isa.specs.declared.threads.Arch.{Arch}
-use Rattle.cet_page.specs.Gate.{Work, service, delivery, signal_of}
+use Rattle.cet_page.specs.Gate.{Work, delivery, signal_of}
+use Rattle.cet_page.specs.Services.{service}
 use Rattle.cet_cpu.specs.declared.gate.Entry.{Entry}
 use Rattle.cet_cpu.specs.declared.gate.Entry.TheVariants as entry
 

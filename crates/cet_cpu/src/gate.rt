@@ -7,27 +7,20 @@ ghost use Rattle.cet_page.specs.Script.{play};
 ghost use Rattle.cet_page.specs.Plays.{Refines, RefinesBy};
 ghost use Rattle.cet_page.specs.Parts.{compare_exchange_as};
 ghost use Rattle.cet_page.specs.Finish.{IsMade, counted};
-ghost use Rattle.cet_page.specs.Gate.{busied_if, stack_of, gate_in, gate_out, finish_of, found_busy, entered, sys_record, served, serve, clears, made_page, exit_status, exit, exit_group, service, syscall, signal_of, is_masked, killed, kill, delivery, deliver};
+ghost use Rattle.cet_page.specs.Services.{service, syscall};
+ghost use Rattle.cet_page.specs.Gate.{busied_if, stack_of, gate_in, gate_out, finish_of, found_busy, entered, clears, made_page, exit_status, exit, exit_group, signal_of, is_masked, killed, kill, delivery, deliver};
 ghost use Rattle.cet_cpu.specs.Changes.{finish_with, Stays};
 ghost use Rattle.cet_cpu.specs.Entry.{work_of};
 
 use cet_isa::{Arch, Fault, FaultName, Record, What};
-use cet_page::{Cursor, Leaving, Mark, Suspended};
+use cet_kmem::{MAP_SHADOW_STACK, map_shadow_stack};
+use cet_page::{Cursor, Errno, Leaving, Mark, RAX, Suspended, failed, serve, sys_record};
 use cet_words::{
     Access, EXIT_WORD, FIRST_ENTRY_WORD, FIRST_SHADOW_PAGE, Job, KERNEL_RETURN, SHADOW_START,
     action_word, token, token_page, token_word,
 };
 
-pub const RAX: usize = 0;
-
-pub const RCX: usize = 1;
-
 const RDI: usize = 7;
-
-pub const R11: usize = 11;
-
-/// SYSCALL is `0F 05`.
-pub const SYSCALL_LENGTH: u64 = 2;
 
 /// What a row comes to beside the state after it, which is changed in its place.
 #[derive(Clone, Copy)]
@@ -47,9 +40,6 @@ const EXIT: u64 = 60;
 
 /// The number of the service exit_group.
 const EXIT_GROUP: u64 = 231;
-
-/// Minus 38: no such call.
-const ENOSYS: u64 = u64::MAX - 37;
 
 /// The supervisor stack of a thread's processor, below 8.
 fn stack_of(job: &Job, arch: &Arch) -> u8
@@ -148,45 +138,6 @@ fn found_busy(arch: &mut Arch, k: u8, found: u64) -> RowEnd
     RowEnd::Noted(noted)
 }
 
-fn sys_record(arch: &Arch, outcome: u64) -> Record
-    ensures { result ≡ sys_record arch.now outcome }
-{
-    Record {
-        rip: arch.rip,
-        what: What::Sys,
-        code: 0,
-        a: arch.regs[RAX],
-        b: outcome,
-    }
-}
-
-/// The state after a kernel call that goes back to the instruction after SYSCALL.
-fn served(arch: &Arch, outcome: u64) -> Arch
-    requires { arch.now.count < 2 ^ 32 - 1 }
-    ensures { result ≡ served arch.now outcome }
-{
-    let next = arch.rip.wrapping_add(SYSCALL_LENGTH);
-    let mut after = *arch;
-    after.regs[RCX] = next;
-    after.regs[R11] = arch.flags;
-    after.regs[RAX] = outcome;
-    after.rip = next;
-    after.count = arch.count + 1;
-    after
-}
-
-/// What a service comes to that goes back with an outcome.
-fn serve(arch: &Arch, outcome: u64) -> (Arch, Record, Leaving)
-    requires { arch.now.count < 2 ^ 32 - 1 }
-    ensures { result ≡ serve arch.now outcome }
-{
-    (
-        served(arch, outcome),
-        sys_record(arch, outcome),
-        Leaving::Back,
-    )
-}
-
 /// The status of exit and exit_group: the low byte of RDI.
 fn exit_status(arch: &Arch) -> u8
     ensures { result ≡ exit_status arch.now }
@@ -227,7 +178,8 @@ fn service(arch: &Arch, at: &mut Cursor) -> Result<(Arch, Record, Leaving), Susp
     match arch.regs[RAX] {
         EXIT => exit(arch, at),
         EXIT_GROUP => exit_group(arch, at),
-        _ => Ok(serve(arch, ENOSYS)),
+        MAP_SHADOW_STACK => map_shadow_stack(arch, at),
+        _ => Ok(failed(arch, Errno::NoSys)),
     }
 }
 

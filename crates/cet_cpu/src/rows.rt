@@ -41,6 +41,11 @@ fn execute(
             *arch = after;
             Ok(RowEnd::Noted(noted))
         }
+        Family::ShadowStacks => {
+            let (after, noted) = cet_shstk::follow(arch, instr, next, at)?;
+            *arch = after;
+            Ok(RowEnd::Noted(noted))
+        }
         Family::SystemCall => syscall(job, arch, at),
         Family::Unbuilt => Err(invalid_opcode()),
     }

@@ -15,10 +15,10 @@ ghost use Rattle.cet_cpu.specs.Code.{IsCode};
 ghost use Rattle.cet_cpu.specs.Cpu.{awaited, RefinesRow, CpuData, IsCpu, IsNext, KeepsCode};
 
 use crate::fetches::Code;
-use crate::gate::{R11, RAX, RCX, RowEnd, SYSCALL_LENGTH};
+use crate::gate::RowEnd;
 use crate::rows::row;
 use cet_isa::{Arch, End, Fault, Record, What};
-use cet_page::{Mark, Suspended, Vals};
+use cet_page::{Mark, R11, RAX, RCX, SYSCALL_LENGTH, Suspended, Vals};
 use cet_words::{Access, FIRST_REGION_END, FIRST_REGION_START, Job, token};
 use std::marker::Model;
 

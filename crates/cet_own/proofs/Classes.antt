@@ -2,12 +2,13 @@
 use Rattle.std.proofs.Common.{◌≡◌, ◌≢◌, ℕ, ◌+◌, ◌-◌, ◌%◌, ◌^◌, ◌<◌, ◌≤◌, inl, inr, Bool, true, false, List, [], ◌∷◌, Option, Some, None, refl, sym, ◌∙◌, ap, subst, arith, get_or-set_other}
 use Rattle.std.specs.Prelude.{slice_index, slice_set, ◌==◌, if◌then◌else◌}
 use Rattle.cet_words.specs.Access.{answer, after}
+use Rattle.cet_words.specs.Entries.{entry_of}
 use Rattle.cet_words.specs.Job.{ImageData}
 use Rattle.cet_words.specs.Layout.{exit_word, entry_word, token, token_word, kernel_return, first_entry_word, first_kernel_page, first_shadow_page}
 use Rattle.cet_words.specs.Change.{Change, Called, Returned, Ended, Busied, Freed}
 use Rattle.cet_words.specs.declared.accesses.Access.{Access}
 use Rattle.cet_words.specs.declared.accesses.Access.TheVariants as access
-use Rattle.cet_book.specs.Facts.{IsReturn, Place, In, Owns}
+use Rattle.cet_book.specs.Facts.{IsReturn, LiesIn, Place, In, Owns}
 use Rattle.cet_book.specs.declared.entries.Entry.TheVariants.{Call}
 use Rattle.cet_book.specs.declared.entries.Holder.TheVariants.{Current, Lost}
 use Rattle.cet_book.specs.Book.{Book, region, top, stack_of, put_stack, relist, returned, book_after, books_after}
@@ -17,9 +18,9 @@ use Rattle.cet_book.proofs.Removes.{Removal, returned_is}
 use Rattle.cet_book.specs.Stack.{slot}
 use Rattle.cet_book.proofs.Ways.{with_current_at, called_way, ended_way, freed_way, busied_way}
 use Rattle.cet_own.proofs.Holds.{Sound, Holds, IsOut, NoAction}
-use Rattle.cet_own.specs.Stands.{busy}
+use Rattle.cet_own.specs.Stands.{IsEntry, busy}
 use Rattle.cet_book.proofs.Held.{Free}
-use Rattle.cet_own.proofs.Kept.{holds_ended, holds_out, holds_clear, holds_below_token}
+use Rattle.cet_own.proofs.Kept.{holds_ended, holds_out, holds_entry, holds_below_token}
 use Rattle.cet_own.proofs.Own.{below_top, holds_push, holds_pop}
 use Rattle.cet_own.proofs.Owed.{Owed}
 use Rattle.cet_book.proofs.Changes.{same_book, then_by}
@@ -106,7 +107,7 @@ own_out y w word b out (own_slot addr p o e) z =
     elim out.shadow [ inl l ↦ omega arith | inr g ↦ omega arith ]
 own_out y w word b out (below_token k l h e) z = out.below k l (sym e ∙ z)
 
-pub own_entry : (y w word : ℕ) (b : Book) → first_entry_word ≤ word → OwnWord y b w → w ≢ word
+own_entry : (y w word : ℕ) (b : Book) → first_entry_word ≤ word → OwnWord y b w → w ≢ word
 own_entry y w word b lo (own_slot addr p o e) z = let high = p.high in omega arith
 own_entry y w word b lo (below_token k l h e) z = omega arith
 
@@ -219,15 +220,21 @@ module _ {image : ImageData} {t k : ℕ} {past : List Visit} {b : Book} {a : Acc
         },
       ))
 
-  -- the entry of a page of the shadow area is cleared
-  pub clears : (page : ℕ) → a ≡ access.Store (entry_word page) 0 → first_shadow_page ≤ page → page < first_kernel_page → changes ≡ [] → Owed image t k past b a v changes
-  clears page e lo hi ev = quiet ev (leaves_by e (other_word (entry_word page) (omega arith)) (next_other (entry_word page) (omega arith))) (λ words is h. subst (λ c. Holds image (after words c) b × Spared b words (after words c)) (sym e) (
-    holds_clear image words b page lo hi h,
+  -- the entry of a page of the shadow area is stored: 0, or where the page lies in a region its present one
+  pub sets_page : (page x : ℕ) → a ≡ access.Store (entry_word page) x → first_shadow_page ≤ page → page < first_kernel_page → IsEntry image page x → (x ≢ 0 → (i : ℕ) × LiesIn (region b i) page) → changes ≡ [] → Owed image t k past b a v changes
+  sets_page page x e lo hi entry lies ev = quiet ev (leaves_by e (other_word (entry_word page) (omega arith)) (next_other (entry_word page) (omega arith))) (λ words is h. subst (λ c. Holds image (after words c) b × Spared b words (after words c)) (sym e) (
+    holds_entry image words b page x lo hi entry lies h,
     record {
-      own = λ y w own. word_other words (entry_word page) 0 w (own_entry y w (entry_word page) b (omega arith) own);
-      restorers = keeps_restorers words (entry_word page) 0 (inr (omega arith));
+      own = λ y w own. word_other words (entry_word page) x w (own_entry y w (entry_word page) b (omega arith) own);
+      restorers = keeps_restorers words (entry_word page) x (inr (omega arith));
     },
   ))
+
+  pub clears : (page : ℕ) → a ≡ access.Store (entry_word page) 0 → first_shadow_page ≤ page → page < first_kernel_page → changes ≡ [] → Owed image t k past b a v changes
+  clears page e lo hi ev = sets_page page 0 e lo hi (inl refl) (λ n. absurd (n refl)) ev
+
+  pub makes_page : (page i : ℕ) → a ≡ access.Store (entry_word page) (entry_of image page) → first_shadow_page ≤ page → page < first_kernel_page → LiesIn (region b i) page → changes ≡ [] → Owed image t k past b a v changes
+  makes_page page i e lo hi lies ev = sets_page page (entry_of image page) e lo hi (inr refl) (λ _. (i, lies)) ev
 
   -- the way in finds the supervisor stack busy
   pub refused : (value : ℕ) → k < 8 → a ≡ access.CompareExchange (token_word k) (token k) value → v ≢ token k → changes ≡ [] → Owed image t k past b a v changes

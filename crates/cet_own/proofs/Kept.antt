@@ -139,34 +139,36 @@ holds_below_token image words b k x l h = record {
   ending = ending_out words (token_word k - 1) x (omega arith) h.ending;
 }
 
-pages_clear : (image : ImageData) (words : List ℕ) (b : Book) (page : ℕ) → length words ≡ word_count → first_shadow_page ≤ page → page < first_kernel_page → Pages image words b → Pages image (slice_set words (entry_word page) 0) b
-pages_clear image words b page size lo hi h =
+-- a word that a page's entry may be is stored as that of a page of the shadow area, where it isn't 0 one of a region
+pages_entry : (image : ImageData) (words : List ℕ) (b : Book) (page x : ℕ) → length words ≡ word_count → first_shadow_page ≤ page → page < first_kernel_page → IsEntry image page x → (x ≢ 0 → (i : ℕ) × LiesIn (region b i) page) → Pages image words b → Pages image (slice_set words (entry_word page) x) b
+pages_entry image words b page x size lo hi is lies h =
     let inside : entry_word page < length words = omega arith in
-    let same : (p : ℕ) → p ≢ page → slice_index (slice_set words (entry_word page) 0) (entry_word p) ≡ slice_index words (entry_word p) = λ p n. (let other : entry_word p ≢ entry_word page = omega arith in get_or-set_other words (entry_word page) (entry_word p) 0 0 other) in
-    let here : slice_index (slice_set words (entry_word page) 0) (entry_word page) ≡ 0 = get_or-set_same words (entry_word page) 0 0 inside in
+    let same : (p : ℕ) → p ≢ page → slice_index (slice_set words (entry_word page) x) (entry_word p) ≡ slice_index words (entry_word p) = λ p n. (let other : entry_word p ≢ entry_word page = omega arith in get_or-set_other words (entry_word page) (entry_word p) x 0 other) in
+    let here : slice_index (slice_set words (entry_word page) x) (entry_word page) ≡ x = get_or-set_same words (entry_word page) x 0 inside in
     record {
       entries = λ p. elim (eqb_tells p page) [
-        | inl u ↦ inl (subst (λ q. slice_index (slice_set words (entry_word page) 0) (entry_word q) ≡ 0) (sym u.1) here)
+        | inl u ↦ subst (λ q. IsEntry image q (slice_index (slice_set words (entry_word page) x) (entry_word q))) (sym u.1) (subst (IsEntry image page) (sym here) is)
         | inr u ↦ subst (IsEntry image p) (sym (same p u.1)) (h.entries p)
       ];
       fixed = λ p f.
           let n : p ≢ page = elim f [ inl l ↦ omega arith | inr g ↦ (let low = g.0 in omega arith) ] in
           same p n ∙ h.fixed p f;
       shadow = λ p lo' hi' n. elim (eqb_tells p page) [
-        | inl u ↦ absurd (n (subst (λ q. slice_index (slice_set words (entry_word page) 0) (entry_word q) ≡ 0) (sym u.1) here))
+        | inl u ↦
+            let l = lies (λ z. n (subst (λ q. slice_index (slice_set words (entry_word page) x) (entry_word q) ≡ 0) (sym u.1) (here ∙ z))) in
+            (l.0, subst (LiesIn (region b l.0)) (sym u.1) l.1)
         | inr u ↦ h.shadow p lo' hi' (λ z. n (same p u.1 ∙ z))
       ];
     }
 
--- the entry of a page of the shadow area is cleared
-pub holds_clear : (image : ImageData) (words : List ℕ) (b : Book) (page : ℕ) → first_shadow_page ≤ page → page < first_kernel_page → Holds image words b → Holds image (slice_set words (entry_word page) 0) b
-holds_clear image words b page lo hi h = record {
-  size = size_kept words (entry_word page) 0 h.size;
+pub holds_entry : (image : ImageData) (words : List ℕ) (b : Book) (page x : ℕ) → first_shadow_page ≤ page → page < first_kernel_page → IsEntry image page x → (x ≢ 0 → (i : ℕ) × LiesIn (region b i) page) → Holds image words b → Holds image (slice_set words (entry_word page) x) b
+holds_entry image words b page x lo hi is lies h = record {
+  size = size_kept words (entry_word page) x h.size;
   sound = h.sound;
-  stacks = lists_out words b (entry_word page) 0 h.sound.book.shape (inr (omega arith)) h.stacks;
-  pages = pages_clear image words b page h.size lo hi h.pages;
-  gates = gates_out words b (entry_word page) 0 (λ k l. omega arith) h.gates;
-  restorers = restorers_out image words (entry_word page) 0 (inr (omega arith)) h.restorers;
-  marks = marks_out words b (entry_word page) 0 (inr (omega arith)) (omega arith) h.sound.book.shape h.marks;
-  ending = ending_out words (entry_word page) 0 (omega arith) h.ending;
+  stacks = lists_out words b (entry_word page) x h.sound.book.shape (inr (omega arith)) h.stacks;
+  pages = pages_entry image words b page x h.size lo hi is lies h.pages;
+  gates = gates_out words b (entry_word page) x (λ j lj. omega arith) h.gates;
+  restorers = restorers_out image words (entry_word page) x (inr (omega arith)) h.restorers;
+  marks = marks_out words b (entry_word page) x (inr (omega arith)) (omega arith) h.sound.book.shape h.marks;
+  ending = ending_out words (entry_word page) x (omega arith) h.ending;
 }

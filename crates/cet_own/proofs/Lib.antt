@@ -20,6 +20,11 @@ pub mod Owed
 pub mod ClassLaws
 pub mod Classes
 pub mod Changed
+pub mod Acquired
+pub mod Released
+pub mod Raised
+pub mod Claimed
+pub mod Seeded
 pub mod HeldAfter
 pub mod Places
 pub mod Progress
@@ -29,6 +34,10 @@ pub mod OperandParts
 pub mod GateParts
 pub mod Calls
 pub mod Returns
+pub mod Looks
+pub mod ShadowClaims
+pub mod KernelParts
+pub mod MapClaims
 pub mod Steps
 pub mod Rows
 pub mod Threads

@@ -57,14 +57,17 @@ module _ (job : JobData) (arch : Arch) where
   pub claim_cond : {A : Type 0} (Q : List Visit → State → State → A → Type 0) (past : List Visit) (before s : State) (c : Bool) (p q : Script A) → (c ≡ true → Claim job arch Q past before s p) → (c ≡ false → Claim job arch Q past before s q) → Claim job arch Q past before s (cond c p q)
   claim_cond Q past before s c p q x y = steady_cond (rules job arch.number) (During arch) Q (λ p. Fails job arch) past before s c p q x y
 
-  pub check_address_then : {A : Type 0} (Q : List Visit → State → State → A → Type 0) (past : List Visit) (before s : State) (addr size : ℕ) (f : Unit {0} → Script A) → Resting arch.number untouched (progress past) s.book arch.ssp → (canonical addr ≡ true → addr % size ≡ 0 → Claim job arch Q past before s (f tt)) → Claim job arch Q past before s (check_address addr size >>= f)
+  pub check_address_as_then : {A : Type 0} (Q : List Visit → State → State → A → Type 0) (past : List Visit) (before s : State) (misaligned : Fault) (addr size : ℕ) (f : Unit {0} → Script A) → Resting arch.number untouched (progress past) s.book arch.ssp → (AtReturn job arch → IsReturnFault misaligned.name misaligned.code) × MissesToken s.book misaligned.code misaligned.a misaligned.name → (canonical addr ≡ true → addr % size ≡ 0 → Claim job arch Q past before s (f tt)) → Claim job arch Q past before s (check_address_as misaligned addr size >>= f)
   unfolding check_address_as
-  check_address_then Q past before s addr size f rest h =
-      claim_bind Q past before s (check_address addr size) f
+  check_address_as_then Q past before s misaligned addr size f rest named h =
+      claim_bind Q past before s (check_address_as misaligned addr size) f
       (claim_cond (λ p z n x. Claim job arch Q p z n (f x)) past before s (canonical addr) _ _
-      (λ c. claim_cond (λ p z n x. Claim job arch Q p z n (f x)) past before s (addr % size == 0) (done tt) (fault (alignment_check addr))
-      (λ e. h c (eqb-true (addr % size) 0 e)) (λ _. (rested rest, λ _. tt, tt)))
+      (λ c. claim_cond (λ p z n x. Claim job arch Q p z n (f x)) past before s (addr % size == 0) (done tt) (fault misaligned)
+      (λ e. h c (eqb-true (addr % size) 0 e)) (λ _. (rested rest, named.0, named.1)))
       (λ _. (rested rest, λ _. tt, tt)))
+
+  pub check_address_then : {A : Type 0} (Q : List Visit → State → State → A → Type 0) (past : List Visit) (before s : State) (addr size : ℕ) (f : Unit {0} → Script A) → Resting arch.number untouched (progress past) s.book arch.ssp → (canonical addr ≡ true → addr % size ≡ 0 → Claim job arch Q past before s (f tt)) → Claim job arch Q past before s (check_address addr size >>= f)
+  check_address_then Q past before s addr size f rest h = check_address_as_then Q past before s (alignment_check addr) addr size f rest (λ _. tt, tt) h
 
   look_at : {A : Type 0} (Q : List Visit → State → State → A → Type 0) (past : List Visit) (before s : State) (at : Option ℕ) (kd : Kind) (w : Who) (addr : ℕ) (f : ℕ → Script A) → Resting arch.number untouched (progress past) s.book arch.ssp → ((now : State) → Relies arch.number s.book now.book → (page v : ℕ) → at ≡ Some page → Known job.image arch.number past now.book (access.Look page) v → allows v kd w ≡ true → Claim job arch Q (visit (access.Look page) v [] ∷ past) now now (f page)) → Claim job arch (λ p z n x. Claim job arch Q p z n (f x)) past before s (look_in_as no_changes at kd w addr)
   unfolding look_in_as

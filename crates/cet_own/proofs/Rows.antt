@@ -24,8 +24,10 @@ use Rattle.cet_page.specs.Family.{family_of}
 use Rattle.cet_page.specs.Flow.{flow}
 use Rattle.cet_page.specs.declared.families.Family.{Family}
 use Rattle.cet_page.specs.declared.families.Family.TheVariants as families
-use Rattle.cet_page.specs.Gate.{exit_status, made_page, clears, enosys, serve, exit, exit_group, service, Work, inside, leave, entered, signal_of, is_masked, kill, delivery}
+use Rattle.cet_page.specs.Gate.{exit_status, made_page, clears, exit, exit_group, Work, inside, leave, entered, signal_of, is_masked, kill, delivery}
+use Rattle.cet_page.specs.Services.{service}
 use Rattle.cet_page.specs.declared.finishes.Leaving.{Leaving}
+use Rattle.cet_page.specs.declared.services.Errno.TheVariants as errno
 use Rattle.cet_page.specs.Parts.{invalid_opcode}
 use Rattle.cet_page.specs.Row.{execute_family, fetched, instruction, instruction_bytes, boundary, row, row_from}
 use Rattle.cet_own.specs.Safe.{is_near_return, IsElsewhere, IsNearReturn}
@@ -36,13 +38,15 @@ use Rattle.cet_own.specs.ExitWord.{IsEnding}
 use Rattle.cet_own.proofs.Endings.{by_signal, by_status}
 use Rattle.cet_own.proofs.Parts.{Fails, Claim, claim_bind, claim_cond, load_then, end_then, clears_claim}
 use Rattle.cet_own.proofs.GateParts.{gate_in_then, gate_out_then, exit_out_then}
+use Rattle.cet_own.proofs.KernelParts.{Leaves as LeavesOf, Within as WithinBy, failed_claim, serve_claim}
+use Rattle.cet_own.proofs.MapClaims.{map_shadow_stack_claim}
+use Rattle.cet_own.proofs.ShadowClaims.{shadow_stacks_claim}
 use Rattle.cet_own.proofs.Calls.{Ends, EndsRow, call_relative_claim, call_indirect_claim}
 use Rattle.cet_own.proofs.Returns.{ret_claim}
 use Rattle.cet_own.proofs.Steps.{push_claim, pop_claim, leave_claim, jump_indirect_claim, arithmetic_claim}
-use Rattle.cet_own.specs.Past.{left_in}
 use Rattle.cet_own.proofs.Progress.{Progress, progress, untouched}
 use Rattle.cet_page.specs.Trail.{Visit}
-use Rattle.cet_own.proofs.Resting.{Resting, rest_kept, Inside, inside_kept, inside_left, rest_stacked, inside_stacked, rested, row_starts}
+use Rattle.cet_own.proofs.Resting.{Resting, rest_kept, inside_kept, inside_left, rest_stacked, inside_stacked, rested, row_starts}
 
 -- ---- where instructions lie
 
@@ -100,13 +104,14 @@ module _ (job : JobData) (j : IsJob job) (arch : Arch) where
 
   -- ---- kernel calls and the kill
 
-  -- the thread is in the kernel, and has left the kernel's return address below its token
-  abbrev pub Within : List Visit → State → Type 0
-  Within past s = Inside arch.number (own_stack job arch.number) untouched (progress past) (left_in past (token_word (own_stack job arch.number) - 1)) s.book arch.ssp
+  abbrev below_eight : own_stack job arch.number < 8
+  below_eight = stack_below job arch.number j
 
-  -- what a piece of the kernel's work leads to: the way out, and the end of the row
-  abbrev pub Leaves : List Visit → State → State → Arch × Record × Leaving → Type 0
-  Leaves past before s x = Claim job arch (Ends job arch) past before s (leave (own_stack job arch.number) x)
+  abbrev Within : List Visit → State → Type 0
+  Within past s = WithinBy job arch below_eight untouched past s
+
+  abbrev Leaves : List Visit → State → State → Arch × Record × Leaving → Type 0
+  Leaves past before s x = LeavesOf job arch below_eight past before s x
 
   exit_claim : (past : List Visit) (before s : State) → IsElsewhere job arch → IsMade arch.made → Within past s → Claim job arch Leaves past before s (exit arch)
   unfolding exit
@@ -117,21 +122,18 @@ module _ (job : JobData) (j : IsJob job) (arch : Arch) where
       (clears_claim job arch (own_stack job arch.number) (stack_below job arch.number j) _ past before s 8 (made_page arch) (omega arith) (omega arith) inside (λ p z n inside'.
       exit_out_then job arch (stack_below job arch.number j) (Ends job arch) p z n (exit_status arch) _ inside' (λ p' z' n' none. (none, λ held now. free, tt))))
 
-  serve_claim : (past : List Visit) (before s : State) (result : ℕ) → IsElsewhere job arch → Within past s → Leaves past before s (serve arch result)
-  serve_claim past before s result free within =
-      gate_out_then job arch (stack_below job arch.number j) (Ends job arch) past before s _ within (λ p z n rest. (rested rest, λ held now. free, tt))
-
   exit_group_claim : (past : List Visit) (before s : State) → IsElsewhere job arch → Within past s → Claim job arch Leaves past before s (exit_group arch)
   unfolding exit_group
   exit_group_claim past before s free within =
       end_then job arch Leaves past before s (0x100 + exit_status arch) _ (by_status (rdi arch)) (inside_stacked within) (λ now r found.
-      serve_claim _ now now (exit_status arch) free (inside_left (rw (exit_apart (own_stack job arch.number)) refl) (inside_kept r within)))
+      serve_claim job arch below_eight {drawing = false} {numbering = false} _ now now (exit_status arch) free (inside_left (rw (exit_apart (own_stack job arch.number)) refl) (inside_kept r within)))
 
   service_claim : (past : List Visit) (before s : State) → IsElsewhere job arch → IsMade arch.made → Within past s → Claim job arch Leaves past before s (service arch)
   service_claim past before s free made within =
       claim_cond job arch Leaves past before s (rax arch == 60) _ _ (λ _. exit_claim past before s free made within)
       (λ _. claim_cond job arch Leaves past before s (rax arch == 231) _ _ (λ _. exit_group_claim past before s free within)
-      (λ _. serve_claim past before s enosys free within))
+      (λ _. claim_cond job arch Leaves past before s (rax arch == 453) _ _ (λ _. map_shadow_stack_claim job arch below_eight free past before s within)
+      (λ _. failed_claim job arch below_eight {drawing = false} {numbering = false} past before s errno.NoSys free within)))
 
   kill_claim : (past : List Visit) (before s : State) (signal : ℕ) → IsEnding (0x200 + signal) → Within past s → Claim job arch Leaves past before s (kill arch signal)
   unfolding kill
@@ -178,6 +180,8 @@ module _ (job : JobData) (j : IsJob job) (arch : Arch) where
   family_claim past before s i len families.Arithmetic f made rest e =
       noted_claim past before s _ (arithmetic_claim job arch (elsewhere _ e (λ r. let t = returns_flow i r in cc)) past before s i (add64 arch.rip len) rest)
   family_claim past before s i len families.Flow f made rest e = noted_claim past before s _ (flow_claim past before s i len rest e)
+  family_claim past before s i len families.ShadowStacks f made rest e =
+      noted_claim past before s _ (shadow_stacks_claim job arch (elsewhere _ e (λ r. let t = returns_flow i r in cc)) past before s i (add64 arch.rip len) rest)
   family_claim past before s i len families.SystemCall f made rest e =
       entered_claim past before s (service arch) rest (λ p z n within. service_claim p z n (elsewhere _ e (λ r. let t = returns_flow i r in cc)) made within)
   family_claim past before s i len families.Unbuilt f made rest e = no_return s _ rest e (λ r. let t = returns_flow i r in cc)

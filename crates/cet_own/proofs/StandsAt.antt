@@ -1,43 +1,24 @@
 -- The facts of the ownership invariant, from what is carried from turn to turn. Source: own.
-use Rattle.std.proofs.Common.{◌≡◌, ℕ, ◌+◌, ◌-◌, ◌*◌, ◌/◌, ◌%◌, ◌^◌, ◌<◌, inl, inr, List, Option, Some, None, refl, sym, ◌∙◌, ap, subst, arith, lit<}
+use Rattle.std.proofs.Common.{◌≡◌, ℕ, ◌+◌, ◌-◌, ◌<◌, inl, inr, List, Option, Some, None, sym, ◌∙◌, subst, arith}
 use Rattle.std.specs.Prelude.{◌↔◌, slice_get, bit_or}
-use Rattle.std.specs.Int.Bits.{or_zero_r}
-use Rattle.std.proofs.lemmas.Nat.{or_block}
 use Rattle.std.proofs.lemmas.Bool.Decides.{eqb_tells}
 use Rattle.cet_words.specs.Job.{JobData}
 use Rattle.cet_isa.specs.declared.threads.End.{End}
 use Rattle.cet_isa.specs.declared.threads.End.TheVariants as ending
 use Rattle.cet_book.specs.Book.{Book, region, top}
-use Rattle.cet_book.specs.Facts.{In, Place}
+use Rattle.cet_book.specs.Facts.{Place}
 use Rattle.cet_book.specs.Stack.{slot_word}
 use Rattle.cet_book.proofs.Hand.{Made, made_empty}
 use Rattle.cet_page.specs.Machine.{Machine, Thread}
 use Rattle.cet_page.specs.Within.{CoreAt}
 use Rattle.cet_own.specs.Restores.{IsToken}
 use Rattle.cet_own.specs.Stands.{ShadowPages, AllBounds, Stands}
-use Rattle.cet_own.proofs.Holds.{IsMaker, Marks}
+use Rattle.cet_own.proofs.Holds.{Marks}
+use Rattle.cet_own.proofs.Looks.{restore_token_is}
 use Rattle.cet_own.proofs.Owed.{State}
+use Rattle.cet_own.proofs.Seeded.{making_zero}
 use Rattle.cet_own.proofs.Threads.{CoreStands, ThreadStands}
 use Rattle.cet_own.proofs.Turns.{Invariant, safe_at}
-use Rattle.cet_own.proofs.Writes.{in_one}
-
-or_one : (n : ℕ) → n % 8 ≡ 0 → bit_or n 1 ≡ n + 1
-or_one n e =
-    let whole : n ≡ n / 8 * 2 ^ 3 + 0 = omega arith in
-    let bit : 1 ≡ 0 * 2 ^ 3 + 1 = omega arith in
-    let parts : bit_or (n / 8 * 2 ^ 3 + 0) (0 * 2 ^ 3 + 1) ≡ bit_or (n / 8) 0 * 2 ^ 3 + bit_or 0 1 = or_block 3 (n / 8) 0 0 1 (lit< tt) (lit< tt) in
-    ap (λ x. bit_or x 1) whole ∙ ap (bit_or (n / 8 * 2 ^ 3 + 0)) bit ∙ parts ∙ rw (or_zero_r (n / 8)) (let one : bit_or 0 1 ≡ 1 = refl in omega arith)
-
--- the words of a region that is being made are 0
-pub making_zero : (words : List ℕ) (b : Book) (t s p : ℕ) → Made t s b → Marks words b → Place p → In (region b s) p → slot_word words p ≡ 0
-making_zero words b t s p m h place inn = elim (eqb_tells (slot_word words p) 0) [
-  | inl u ↦ u.1
-  | inr u ↦ absurd (
-      let used = h.zeros p place u.1 in
-      let same = in_one b used.0 s p m.shape used.1.inside inn in
-      let making : IsMaker (region b s).holder = subst IsMaker (sym m.maker) tt in
-      used.1.made (subst (λ j. IsMaker (region b j).holder) (sym same) making))
-]
 
 -- a word is a restore token exactly where a parked region has its token
 pub token_found : (words : List ℕ) (b : Book) (p : ℕ) → Marks words b → Place p → slot_word words p ≡ p + 9 ↔ IsToken b p
@@ -77,7 +58,7 @@ module _ (job : JobData) (m : Machine) (s : State) (st : Invariant job m s) wher
   tokens : (p : ℕ) → Place p → slot_word m.words p ≡ bit_or (p + 8) 1 ↔ IsToken s.book p
   tokens p place =
       let even = place.even in
-      let bits : bit_or (p + 8) 1 ≡ p + 9 = or_one (p + 8) (omega arith) ∙ omega arith in
+      let bits : bit_or (p + 8) 1 ≡ p + 9 = restore_token_is (p + 8) (omega arith) ∙ omega arith in
       subst (λ n. slot_word m.words p ≡ n ↔ IsToken s.book p) (sym bits) (token_found m.words s.book p st.holds.marks place)
 
   all_bounds : AllBounds job.image m.words s.book

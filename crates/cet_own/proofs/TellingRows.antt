@@ -1,10 +1,10 @@
--- No row draws a stack yet, and no record tells of one: each row pays what it owes. Source: own.
-use Rattle.std.proofs.Common.{◌≡◌, ℕ, zero, suc, ◌+◌, ◌%◌, Bool, true, false, cond, List, [], Option, Some, None, refl, subst, sym}
-use Rattle.std.specs.Prelude.{◌==◌}
+-- What the record of each row tells of: of the stack that map_shadow_stack has claimed, and else of none. Source: own.
+use Rattle.std.proofs.Common.{◌≡◌, ℕ, zero, suc, ◌+◌, ◌%◌, Bool, true, false, inl, inr, cond, List, [], ◌∷◌, Option, Some, None, refl, subst, sym}
+use Rattle.std.specs.Prelude.{◌==◌, if◌then◌else◌}
 use Rattle.std.specs.Int.{cast_unsigned}
 use Rattle.cet_words.specs.Layout.{page_at}
 use Rattle.cet_words.specs.Job.{JobData}
-use Rattle.cet_words.specs.Change.{Change}
+use Rattle.cet_words.specs.Change.{Change, Claimed}
 use Rattle.cet_isa.specs.Address.{canonical}
 use Rattle.cet_isa.specs.Reading.{Decoding, Read, Short, Unknown}
 use Rattle.cet_isa.specs.declared.instructions.AluOp.{AluOp}
@@ -23,13 +23,16 @@ use Rattle.cet_page.specs.Script.{Script, done, fault, ask, tell, ◌>>=◌}
 use Rattle.cet_page.specs.Page.{allows, page_fault}
 use Rattle.cet_page.specs.Parts.{check_address_as, look_in_as, look_as, probe_in, probe, read_entry, load_as, store_as, compare_exchange_as, swap, fetch_add_as, stores, general_protection}
 use Rattle.cet_page.specs.Values.{limit, width}
-use Rattle.cet_page.specs.Finish.{Row, noted}
+use Rattle.cet_page.specs.Finish.{Row, noted, rdi}
 use Rattle.cet_page.specs.Word64.{add64}
 use Rattle.cet_page.specs.Family.{family_of}
 use Rattle.cet_page.specs.Operands.{register, load_word, load_at, write_place, store_at, read_operand}
 use Rattle.cet_page.specs.Arithmetic.{operated, alu, test, imul, move, movzx, movsxd, cmov, xchg, lock_xadd, lock_cmpxchg, arithmetic}
-use Rattle.cet_page.specs.Flow.{call, call_next, call_indirect, ret, push, pop, leave, jump_indirect, flow}
-use Rattle.cet_page.specs.Gate.{gate_in, gate_out, freed, entered, exit, exit_group, syscall, kill, delivery, deliver}
+use Rattle.cet_page.specs.Flow.{call, call_next, call_indirect, ret, push, pop, leave as leave_frame, jump_indirect, flow}
+use Rattle.cet_page.specs.Gate.{failed, gate_in, gate_out, freed, leave, entered, exit, exit_group, kill, delivery, deliver}
+use Rattle.cet_page.specs.MapShadowStack.{can_draw, claimed, drawn_start, fill_stack, draw_stack, map_by, map_shadow_stack, pages_of, rdx, refused, rsi, seed_if}
+use Rattle.cet_page.specs.Services.{syscall}
+use Rattle.cet_page.specs.ShadowStacks.{rstorssp, save, saveprevssp, incsspq, shadow_stacks}
 use Rattle.cet_page.specs.Fetch.{missing, missing_in}
 use Rattle.cet_page.specs.Row.{execute_family, fetched, instruction, boundary, row, row_from}
 use Rattle.cet_page.specs.declared.checks.Kind.{Kind}
@@ -38,8 +41,10 @@ use Rattle.cet_page.specs.declared.families.Family.{Family}
 use Rattle.cet_page.specs.declared.families.Family.TheVariants as families
 use Rattle.cet_page.specs.declared.finishes.Leaving.{Leaving}
 use Rattle.cet_page.specs.declared.finishes.Leaving.TheVariants as leaving
+use Rattle.cet_page.specs.declared.services.Errno.{Errno}
+use Rattle.cet_page.specs.declared.services.Errno.TheVariants as errno
 use Rattle.cet_page.specs.declared.flags.Computed.{Computed}
-use Rattle.cet_own.proofs.Drawn.{Drawn, nothing_drawn, draws, tells_nothing, EndTells, RowTells, Telling}
+use Rattle.cet_own.proofs.Drawn.{Drawn, nothing_drawn, claimed_span, draws, tells_nothing, tells_stack, EndTells, RowTells, Telling}
 
 -- ---- one lemma for each part, with what follows it; changes that draw nothing
 
@@ -91,6 +96,11 @@ module _ {A : Type 0} {Q : Drawn → A → Type 0} {d : Drawn} (f : ℕ → Scri
   unfolding ◌>>=◌ swap
   tells_swap word value h = record { tells = λ v. (h v).tells }
 
+  -- its changes may draw
+  tells_added : (changes : ℕ → List Change) (word value : ℕ) → ((v : ℕ) → Tells Q (draws (changes v) d) (f v)) → Tells Q d (fetch_add_as changes word value >>= f)
+  unfolding ◌>>=◌ fetch_add_as
+  tells_added changes word value h = record { tells = λ v. (h v).tells }
+
   tells_fetch_add : (changes : ℕ → List Change) (word value : ℕ) → ((v : ℕ) → draws (changes v) d ≡ d) → ((v : ℕ) → Tells Q d (f v)) → Tells Q d (fetch_add_as changes word value >>= f)
   unfolding ◌>>=◌ fetch_add_as
   tells_fetch_add changes word value n h = record { tells = λ v. subst (λ x. Telling Q x (f v)) (sym (n v)) (h v).tells }
@@ -104,6 +114,11 @@ module _ {A : Type 0} {Q : Drawn → A → Type 0} {d : Drawn} (f : Unit {0} →
   tells_store : (changes : List Change) (word value : ℕ) → draws changes d ≡ d → Tells Q d (f tt) → Tells Q d (store_as changes word value >>= f)
   unfolding ◌>>=◌ store_as
   tells_store changes word value n h = record { tells = subst (λ x. Telling Q x (f tt)) (sym n) h.tells }
+
+  -- its changes may draw
+  tells_stored : (changes : List Change) (word value : ℕ) → Tells Q (draws changes d) (f tt) → Tells Q d (store_as changes word value >>= f)
+  unfolding ◌>>=◌ store_as
+  tells_stored changes word value h = record { tells = h.tells }
 
   tells_stores : (count word value step : ℕ) → Tells Q d (f tt) → Tells Q d (stores count word value step >>= f)
   tells_stores count word value step h = record { tells = stores_telling Q d f count word value step h.tells }
@@ -215,13 +230,52 @@ tells_arithmetic arch (instr.Mov s dst src) next = search arithmetic_rules depth
 tells_arithmetic arch i next = search arithmetic_rules depth 99 fits 9000
 
 tells_flow : (arch : Arch) (i : Instr) (next : ℕ) → Tells RowTells nothing_drawn (flow arch i next)
-unfolding call call_next call_indirect ret push pop leave jump_indirect
+unfolding call call_next call_indirect ret push pop leave_frame jump_indirect
 tells_flow arch (instr.CallRel disp) next = search rules depth 99 fits 9000
 tells_flow arch i next = search rules depth 99 fits 9000
 
+tells_shadow_stacks : (arch : Arch) (i : Instr) (next : ℕ) → Tells RowTells nothing_drawn (shadow_stacks arch i next)
+unfolding rstorssp save saveprevssp incsspq
+tells_shadow_stacks arch (instr.Rdsspq r) next = search rules depth 99 fits 9000
+tells_shadow_stacks arch i next = search rules depth 99 fits 9000
+
+-- ---- map_shadow_stack: its record tells of the stack that was claimed, which is parked where it gets a token
+
+abbrev one_drawn : (start pages : ℕ) (kept : List ℕ) → Drawn
+one_drawn start pages kept = record { claimed = claimed_span start pages ∷ []; kept = kept }
+
+tells_seed : (arch : Arch) (start size k : ℕ) (token : Bool) → Tells EndTells (one_drawn start (pages_of size) []) ((seed_if start size (pages_of size) token >>= (λ _. done (claimed arch start size))) >>= leave k)
+tells_seed arch start size k true =
+    tells_assoc _ _ _ (tells_stored _ _ _ _ (tells_return _ _ (tells_gate_out _ k _ (tells_done (tells_stack (claimed_span start (pages_of size)) refl refl (inr refl))))))
+tells_seed arch start size k false =
+    tells_assoc _ _ _ (tells_return _ _ (tells_return _ _ (tells_gate_out _ k _ (tells_done (tells_stack (claimed_span start (pages_of size)) refl refl (inl refl))))))
+
+tells_fill : (arch : Arch) (d size k : ℕ) (token : Bool) → Tells EndTells (one_drawn (drawn_start d) (pages_of size) []) (fill_stack arch d size (pages_of size) token >>= leave k)
+unfolding fill_stack
+tells_fill arch d size k token = tells_assoc _ _ _ (tells_stores _ _ _ _ _ (tells_seed arch (drawn_start d) size k token))
+
+tells_failed : (arch : Arch) (error : Errno) (k : ℕ) → Tells EndTells nothing_drawn (done (failed arch error) >>= leave k)
+tells_failed arch error k = tells_return _ _ (tells_gate_out _ k _ (tells_done (tells_nothing refl refl)))
+
+-- by whether the draw succeeds
+tells_drawn : (arch : Arch) (d size k : ℕ) (token c : Bool) → Tells EndTells (draws (if c then Claimed (drawn_start d) (pages_of size) token ∷ [] else []) nothing_drawn) ((if c then fill_stack arch d size (pages_of size) token else done (failed arch errno.NoMem)) >>= leave k)
+tells_drawn arch d size k token true = tells_fill arch d size k token
+tells_drawn arch d size k token false = tells_failed arch errno.NoMem k
+
+tells_draw : (arch : Arch) (size k : ℕ) (token : Bool) → Tells EndTells nothing_drawn (draw_stack arch size (pages_of size) token >>= leave k)
+unfolding draw_stack
+tells_draw arch size k token = tells_assoc _ _ _ (tells_added _ _ _ _ (λ v. tells_drawn arch v size k token (can_draw (pages_of size) v)))
+
+tells_map_by : (arch : Arch) (size flags k : ℕ) (o : Option Errno) → Tells EndTells nothing_drawn (map_by arch size flags o >>= leave k)
+tells_map_by arch size flags k (Some error) = tells_failed arch error k
+tells_map_by arch size flags k None = tells_draw arch size k (flags == 1)
+
+tells_map : (arch : Arch) (k : ℕ) → Tells EndTells nothing_drawn (map_shadow_stack arch >>= leave k)
+tells_map arch k = tells_map_by arch (rsi arch) (rdx arch) k (refused (rdi arch) (rsi arch) (rdx arch))
+
 tells_syscall : (job : JobData) (arch : Arch) → Tells EndTells nothing_drawn (syscall job arch)
 unfolding entered exit exit_group
-tells_syscall job arch = search rules depth 99 fits 9000
+tells_syscall job arch = search (rules, tells_map) depth 99 fits 9000
 
 tells_deliver : (job : JobData) (arch : Arch) (e : Fault) → Tells EndTells nothing_drawn (deliver job arch e)
 unfolding entered delivery kill
@@ -237,6 +291,7 @@ noted_telling d (tell word value changes s) h = noted_telling (draws changes d) 
 tells_family : (job : JobData) (arch : Arch) (i : Instr) (next : ℕ) (p : Family) → Tells EndTells nothing_drawn (execute_family job arch i next p)
 tells_family job arch i next families.Arithmetic = record { tells = noted_telling nothing_drawn _ (tells_arithmetic arch i next).tells }
 tells_family job arch i next families.Flow = record { tells = noted_telling nothing_drawn _ (tells_flow arch i next).tells }
+tells_family job arch i next families.ShadowStacks = record { tells = noted_telling nothing_drawn _ (tells_shadow_stacks arch i next).tells }
 tells_family job arch i next families.SystemCall = tells_syscall job arch
 tells_family job arch i next families.Unbuilt = tells_fault refl
 

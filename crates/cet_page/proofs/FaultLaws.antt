@@ -23,8 +23,9 @@ use Rattle.cet_page.specs.Faults.{KeepsWords, Faults}
 use Rattle.cet_page.specs.Row.{row}
 use Rattle.cet_page.specs.Core.{Core, unheld, row_played, wanted, access_of, next_access, core_by, noted_by, answered, taken}
 use Rattle.cet_page.proofs.Walk.{Walks, OnOver, over_play, writes, moves, acted, unacted, none_written, still_at, held_still}
-use Rattle.cet_page.proofs.WalkRows.{EndsRow, Ends, tells, walk_row, walk_arithmetic, walk_flow}
+use Rattle.cet_page.proofs.WalkRows.{EndsRow, Ends, tells, walk_row, walk_arithmetic, walk_flow, walk_shadow_stacks}
 use Rattle.cet_page.specs.Arithmetic.{arithmetic}
+use Rattle.cet_page.specs.ShadowStacks.{shadow_stacks}
 use Rattle.cet_page.specs.Flow.{flow}
 use Rattle.cet_page.specs.Plays.{next_of}
 use Rattle.cet_page.proofs.PlayLaws.{faulted_of}
@@ -70,6 +71,9 @@ arithmetic_clean arch i next n values e h = fault_clean (EndsRow arch) (arithmet
 
 pub flow_clean : (arch : Arch) (i : Instr) (next n : ℕ) (values : List ℕ) (e : Fault) → next_of (play (flow arch i next) n values) ≡ nexts.Fault e → All KeepsWords (trail n (flow arch i next) values [])
 flow_clean arch i next n values e h = fault_clean (EndsRow arch) (flow arch i next) 2 2 n values e (walk_flow arch i next).walks (faulted_of _ e h)
+
+pub shadow_stacks_clean : (arch : Arch) (i : Instr) (next n : ℕ) (values : List ℕ) (e : Fault) → next_of (play (shadow_stacks arch i next) n values) ≡ nexts.Fault e → All KeepsWords (trail n (shadow_stacks arch i next) values [])
+shadow_stacks_clean arch i next n values e h = fault_clean (EndsRow arch) (shadow_stacks arch i next) 2 2 n values e (walk_shadow_stacks arch i next).walks (faulted_of _ e h)
 
 -- ---- what the answer to an access leaves
 

@@ -1,6 +1,8 @@
 -- Every row walks within the bounds, and begins with an access. Source: own.
 use Rattle.std.proofs.Common.{true, false, cond, refl}
-use Rattle.std.specs.Prelude.{◌≡◌, ℕ, ◌+◌, Bool, List, [], length, Option, Some, None}
+use Rattle.std.specs.Prelude.{◌≡◌, ℕ, ◌+◌, Bool, List, [], length, nat_le, Option, Some, None}
+use Rattle.std.proofs.Common.{arith}
+use Rattle.std.proofs.lemmas.Bool.Decides.{nat_tests}
 use Rattle.cet_words.specs.Job.{JobData}
 use Rattle.cet_words.specs.Layout.{page_at}
 use Rattle.cet_words.specs.Change.{Change}
@@ -29,8 +31,14 @@ use Rattle.cet_page.specs.declared.families.Family.TheVariants as families
 use Rattle.cet_page.specs.declared.flags.Computed.{Computed}
 use Rattle.cet_page.specs.Family.{family_of}
 use Rattle.cet_page.specs.Arithmetic.{operated, alu, test, imul, move, movzx, movsxd, cmov, xchg, lock_xadd, lock_cmpxchg, arithmetic}
+use Rattle.cet_page.specs.ShadowStacks.{shadow_stacks, rstorssp, save, saveprevssp, incsspq}
 use Rattle.cet_page.specs.Flow.{call, call_next, call_indirect, ret, push, pop, leave, jump_indirect, flow}
-use Rattle.cet_page.specs.Gate.{gate_in, entered, exit, exit_group, syscall, kill, delivery, deliver}
+use Rattle.cet_page.specs.Gate.{gate_in, entered, exit, exit_group, kill, delivery, deliver}
+use Rattle.cet_page.specs.Gate.{leave as leave_kernel}
+use Rattle.cet_page.specs.MapShadowStack.{fill_stack, draw_stack, map_by, map_shadow_stack, pages_of, rdx, refused, rsi}
+use Rattle.cet_page.specs.Finish.{rdi}
+use Rattle.cet_page.specs.declared.services.Errno.{Errno}
+use Rattle.cet_page.specs.Services.{syscall}
 use Rattle.cet_page.specs.Fetch.{missing, missing_in}
 use Rattle.cet_page.specs.Row.{execute_family, fetched, instruction, boundary, row, row_from}
 use Rattle.cet_page.proofs.Walk.{Walks, Walk, acted, walk_fault, no_birth, walk_rules}
@@ -94,11 +102,29 @@ unfolding call call_next call_indirect ret push pop leave jump_indirect
 walk_flow arch (instr.CallRel disp) next = search rules depth 99 fits 9000
 walk_flow arch i next = search rules depth 99 fits 9000
 
+pub walk_shadow_stacks : (arch : Arch) (i : Instr) (next : ℕ) → Walk 2 2 false (EndsRow arch) (shadow_stacks arch i next)
+unfolding rstorssp save saveprevssp incsspq
+walk_shadow_stacks arch (instr.Incsspq r) next = search rules depth 99 fits 9000
+walk_shadow_stacks arch i next = search rules depth 99 fits 9000
+
 -- ---- the kernel
+
+-- a stack that may be drawn has at most 1,022 pages
+few_pages : (address size flags : ℕ) → refused address size flags ≡ None → nat_le (pages_of size) 1022 ≡ true
+few_pages address size flags e = grind (arith, nat_tests)
+
+walk_map_by : (arch : Arch) (k : ℕ) (w : Bool) (size flags : ℕ) (o : Option Errno) → (o ≡ None → nat_le (pages_of size) 1022 ≡ true) → Walk 5 4 w (Ends arch) (map_by arch size flags o >>= leave_kernel k)
+unfolding fill_stack draw_stack
+walk_map_by arch k w size flags (Some error) few = search rules depth 99 fits 9000
+walk_map_by arch k w size flags None few = let fits : nat_le (pages_of size) 1022 ≡ true = few refl in search rules depth 99 fits 9000
+
+-- behind the way in: five accesses, of which four were kept
+walk_map : (arch : Arch) (k : ℕ) (w : Bool) → Walk 5 4 w (Ends arch) (map_shadow_stack arch >>= leave_kernel k)
+walk_map arch k w = walk_map_by arch k w (rsi arch) (rdx arch) (refused (rdi arch) (rsi arch) (rdx arch)) (few_pages (rdi arch) (rsi arch) (rdx arch))
 
 pub walk_syscall : (job : JobData) (arch : Arch) → Walk 2 2 false (Ends arch) (syscall job arch)
 unfolding entered exit exit_group
-walk_syscall job arch = search rules depth 99 fits 9000
+walk_syscall job arch = search (rules, walk_map) depth 99 fits 9000
 
 pub walk_deliver : (job : JobData) (arch : Arch) (e : Fault) → Walk 0 0 false (Ends arch) (deliver job arch e)
 unfolding entered delivery kill
@@ -119,6 +145,7 @@ walk_noted {n} {k} {w} {arch} m h = record { walks = noted_walks n k w arch m h.
 walk_family : (job : JobData) (arch : Arch) (i : Instr) (next : ℕ) (p : Family) → Walk 2 2 false (Ends arch) (execute_family job arch i next p)
 walk_family job arch i next families.Arithmetic = walk_noted _ (walk_arithmetic arch i next)
 walk_family job arch i next families.Flow = walk_noted _ (walk_flow arch i next)
+walk_family job arch i next families.ShadowStacks = walk_noted _ (walk_shadow_stacks arch i next)
 walk_family job arch i next families.SystemCall = walk_syscall job arch
 walk_family job arch i next families.Unbuilt = walk_fault refl refl
 

@@ -4,7 +4,7 @@ use Rattle.cet_isa.specs.declared.instructions.Instr.TheVariants as instr
 use Rattle.cet_page.specs.declared.families.Family.{Family}
 use Rattle.cet_page.specs.declared.families.Family.TheVariants as families
 
--- The eight instructions of shadow stacks aren't built. Every other one has a family.
+-- SETSSBSY and CLRSSBSY aren't built. Every other instruction has a family.
 abbrev pub family_of : Instr → Family
 family_of (instr.CallRel disp) = families.Flow
 family_of (instr.CallInd target notrack) = families.Flow
@@ -17,14 +17,14 @@ family_of (instr.JmpRel disp) = families.Flow
 family_of (instr.JmpInd target notrack) = families.Flow
 family_of (instr.Jcc c disp) = families.Flow
 family_of instr.Syscall = families.SystemCall
-family_of (instr.Incsspq r) = families.Unbuilt
-family_of (instr.Rdsspq r) = families.Unbuilt
-family_of (instr.Rstorssp m) = families.Unbuilt
-family_of instr.Saveprevssp = families.Unbuilt
+family_of (instr.Incsspq r) = families.ShadowStacks
+family_of (instr.Rdsspq r) = families.ShadowStacks
+family_of (instr.Rstorssp m) = families.ShadowStacks
+family_of instr.Saveprevssp = families.ShadowStacks
 family_of instr.Setssbsy = families.Unbuilt
 family_of (instr.Clrssbsy m) = families.Unbuilt
-family_of (instr.Wrssq m r) = families.Unbuilt
-family_of (instr.Wrussq m r) = families.Unbuilt
+family_of (instr.Wrssq m r) = families.ShadowStacks
+family_of (instr.Wrussq m r) = families.ShadowStacks
 family_of (instr.Alu op s dst src) = families.Arithmetic
 family_of (instr.Test s dst src) = families.Arithmetic
 family_of (instr.Mov s dst src) = families.Arithmetic

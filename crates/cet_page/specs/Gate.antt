@@ -1,4 +1,4 @@
--- The gate into the kernel, its services, the delivery of a fault and the kill. Source: Intel SDM volume 1 (supervisor
+-- The gate into the kernel, exit and exit_group, the delivery of a fault and the kill. Source: Intel SDM volume 1 (supervisor
 -- shadow-stack tokens, SETSSBSY and CLRSSBSY) for the token; Linux for the calls' numbers and errors; the fixed order is own.
 use Rattle.std.specs.Prelude.{ℕ, ◌+◌, ◌-◌, ◌/◌, ◌%◌, ◌^◌, Bool, List, [], ◌∷◌, Option, Some, None, ◌==◌, if◌then◌else◌, slice_set}
 use Rattle.cet_words.specs.Layout.{entry_word, first_shadow_page, shadow_start, exit_word, action_word, token, token_page, token_word, kernel_return}
@@ -16,6 +16,8 @@ use Rattle.cet_page.specs.Finish.{rax, rdi, counted}
 use Rattle.cet_page.specs.Word64.{add64}
 use Rattle.cet_page.specs.declared.finishes.Finish.{Finish}
 use Rattle.cet_page.specs.declared.finishes.Finish.TheVariants as finish
+use Rattle.cet_page.specs.declared.services.Errno.{Errno}
+use Rattle.cet_page.specs.declared.services.Errno.TheVariants as errno
 use Rattle.cet_page.specs.declared.finishes.Leaving.{Leaving}
 use Rattle.cet_page.specs.declared.finishes.Leaving.TheVariants as leaving
 
@@ -90,9 +92,19 @@ entered job arch work = do
 abbrev pub sys_record : Arch → (result : ℕ) → Record
 sys_record arch result = record { rip = arch.rip; what = what.Sys; code = 0; a = rax arch; b = result }
 
--- minus 38, no such call
-abbrev pub enosys : ℕ
-enosys = 2 ^ 64 - 38
+abbrev pub error_number : Errno → ℕ
+error_number errno.Perm = 1
+error_number errno.Srch = 3
+error_number errno.BadF = 9
+error_number errno.Again = 11
+error_number errno.NoMem = 12
+error_number errno.Fault = 14
+error_number errno.Exist = 17
+error_number errno.Inval = 22
+error_number errno.NoSpc = 28
+error_number errno.Range = 34
+error_number errno.NoSys = 38
+error_number errno.Overflow = 75
 
 -- the address after SYSCALL, which is two bytes long
 abbrev pub after_syscall : Arch → ℕ
@@ -109,6 +121,10 @@ served arch result = record arch {
 -- a service that goes back to the thread with a result
 abbrev pub serve : Arch → (result : ℕ) → Arch × Record × Leaving
 serve arch result = (served arch result, sys_record arch result, leaving.Back)
+
+-- the result of an error is minus its number
+abbrev pub failed : Arch → Errno → Arch × Record × Leaving
+failed arch error = serve arch (2 ^ 64 - error_number error)
 
 -- stores of 0 to the entries of so many pages, the lowest first
 abbrev pub clears : (count page : ℕ) → Script (Unit {0})
@@ -133,17 +149,6 @@ unfoldable pub exit_group : Arch → Work
 exit_group arch = do
   _ ← compare_exchange exit_word 0 (0x100 + exit_status arch)
   done (serve arch (exit_status arch))
-
--- the service whose number is in RAX; every number that isn't built is no call
-abbrev pub service : Arch → Work
-service arch =
-    if rax arch == 60 then exit arch
-    else if rax arch == 231 then exit_group arch
-    else done (serve arch enosys)
-
--- SYSCALL
-abbrev pub syscall : JobData → Arch → Script Finish
-syscall job arch = entered job arch (service arch)
 
 -- ---- the kill, and the delivery of a due fault
 

@@ -11,7 +11,10 @@ pub mod Operands
 pub mod Arithmetic
 pub mod Family
 pub mod Flow
+pub mod ShadowStacks
 pub mod Gate
+pub mod MapShadowStack
+pub mod Services
 pub mod Fetch
 pub mod Row
 pub mod Core

@@ -11,6 +11,7 @@ use Rattle.cet_page.specs.declared.cursors.Mark.{Mark}
 use Rattle.cet_page.specs.declared.cursors.Mark.TheVariants as marks
 use Rattle.cet_page.specs.declared.cursors.Suspended.{Suspended}
 use Rattle.cet_page.specs.declared.cursors.Suspended.TheVariants as suspended
+use Rattle.cet_page.specs.declared.finishes.Leaving.{Leaving}
 use Rattle.cet_page.specs.declared.nexts.Next.{Next}
 use Rattle.cet_page.specs.declared.nexts.Next.TheVariants as nexts
 
@@ -68,6 +69,10 @@ next_by view (Completed x left values) = nexts.Done (view x).0 (view x).1
 -- an instruction ends with a record
 abbrev pub with_record : Arch × Record → Arch × Option Record
 with_record x = (x.0, Some x.1)
+
+-- and a service that goes back to the thread, before the way out
+abbrev pub with_leaving : Arch × Record × Leaving → Arch × Option Record
+with_leaving x = (x.0, Some x.1)
 
 abbrev pub next_of : Played (Arch × Record) → Next
 next_of came = next_by with_record came

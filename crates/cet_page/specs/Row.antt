@@ -17,7 +17,9 @@ use Rattle.cet_page.specs.Flow.{flow}
 use Rattle.cet_page.specs.Family.{family_of}
 use Rattle.cet_page.specs.declared.families.Family.{Family}
 use Rattle.cet_page.specs.declared.families.Family.TheVariants as families
-use Rattle.cet_page.specs.Gate.{syscall, deliver}
+use Rattle.cet_page.specs.ShadowStacks.{shadow_stacks}
+use Rattle.cet_page.specs.Gate.{deliver}
+use Rattle.cet_page.specs.Services.{syscall}
 use Rattle.cet_page.specs.Fetch.{fetchable, missing}
 use Rattle.cet_page.specs.declared.finishes.Finish.{Finish}
 use Rattle.cet_page.specs.declared.finishes.Finish.TheVariants as finish
@@ -25,6 +27,7 @@ use Rattle.cet_page.specs.declared.finishes.Finish.TheVariants as finish
 abbrev pub execute_family : JobData → Arch → Instr → (next : ℕ) → Family → Script Finish
 execute_family job arch i next families.Arithmetic = arithmetic arch i next >>= noted
 execute_family job arch i next families.Flow = flow arch i next >>= noted
+execute_family job arch i next families.ShadowStacks = shadow_stacks arch i next >>= noted
 execute_family job arch i next families.SystemCall = syscall job arch
 execute_family job arch i next families.Unbuilt = fault invalid_opcode
 

@@ -12,6 +12,8 @@ pub enum Family {
     Arithmetic,
     /// Calls, returns, pushes, pops and jumps.
     Flow,
+    /// What the user does with shadow stacks.
+    ShadowStacks,
     /// SYSCALL.
     SystemCall,
     /// What is an invalid opcode for want of being built.
@@ -38,10 +40,9 @@ pub fn family_of(instr: &Instr) -> Family
         | Instr::Rdsspq { .. }
         | Instr::Rstorssp { .. }
         | Instr::Saveprevssp
-        | Instr::Setssbsy
-        | Instr::Clrssbsy { .. }
         | Instr::Wrssq { .. }
-        | Instr::Wrussq { .. } => Family::Unbuilt,
+        | Instr::Wrussq { .. } => Family::ShadowStacks,
+        Instr::Setssbsy | Instr::Clrssbsy { .. } => Family::Unbuilt,
         _ => Family::Arithmetic,
     }
 }

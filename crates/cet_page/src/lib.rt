@@ -15,6 +15,7 @@ mod flags;
 mod laws;
 mod nexts;
 mod operands;
+mod services;
 #[cfg(test)]
 mod tests;
 mod tokens;
@@ -32,6 +33,7 @@ pub use operands::{
     assigned, compared, effective, register, register_of, settled, stepped, truncated,
     with_register,
 };
+pub use services::{Errno, R11, RAX, RCX, SYSCALL_LENGTH, failed, serve, served, sys_record};
 pub use tokens::{
     frame_ssp, frame_word, is_frame_word, is_previous_token, previous_ssp, previous_token,
     restore_token, restore_token_at, saved_at,

@@ -3,6 +3,7 @@
 ghost use Rattle.std.specs.Prelude.{◌≡◌, ◌<◌, ◌^◌, ◌-◌};
 
 use crate::cursors::Suspended;
+use crate::finishes::Leaving;
 use cet_isa::{Arch, Fault, Record};
 use cet_words::Access;
 
@@ -16,7 +17,7 @@ pub enum Next {
 }
 
 impl Next {
-    ghost use Rattle.cet_page.specs.Plays.{next_after, with_record};
+    ghost use Rattle.cet_page.specs.Plays.{next_after, with_leaving, with_record};
 
     /// What a part of a row does next, by how far its accesses have led: a state with a record, or
     /// with none.
@@ -36,6 +37,16 @@ impl Next {
     {
         match reached {
             Ok((arch, noted)) => Next::of(Ok((arch, Some(noted)))),
+            Err(stop) => Next::of(Err(stop)),
+        }
+    }
+
+    /// The same of a service, before the way out.
+    pub fn leaving(reached: Result<(Arch, Record, Leaving), Suspended>) -> Next
+        ensures { result ≡ next_after with_leaving reached }
+    {
+        match reached {
+            Ok((arch, noted, _)) => Next::of(Ok((arch, Some(noted)))),
             Err(stop) => Next::of(Err(stop)),
         }
     }

@@ -1,0 +1,13 @@
+//! Services of the kernel that make memory: map_shadow_stack.
+//!
+//! Each is a script of accesses in the `specs/` of cet_page, without the kernel's entry round it. The
+//! functions here run such a script over the answers that a thread has kept.
+#![tactic(auto)]
+
+mod services;
+mod shadow_stacks;
+#[cfg(test)]
+mod tests;
+
+pub use services::{MAP_SHADOW_STACK, follow, next};
+pub use shadow_stacks::map_shadow_stack;

@@ -1,0 +1,23 @@
+-- The services of the kernel by their numbers, and SYSCALL. Source: Intel SDM volume 2 (SYSCALL), and Linux for the numbers
+-- (arch/x86/entry/syscalls).
+use Rattle.std.specs.Prelude.{◌==◌, if◌then◌else◌}
+use Rattle.cet_words.specs.Job.{JobData}
+use Rattle.cet_isa.specs.declared.threads.Arch.{Arch}
+use Rattle.cet_page.specs.Finish.{rax}
+use Rattle.cet_page.specs.Gate.{Work, entered, exit, exit_group, failed}
+use Rattle.cet_page.specs.MapShadowStack.{map_shadow_stack}
+use Rattle.cet_page.specs.Script.{Script, done}
+use Rattle.cet_page.specs.declared.finishes.Finish.{Finish}
+use Rattle.cet_page.specs.declared.services.Errno.TheVariants as errno
+
+-- the service whose number is in RAX; every number that isn't built is no call
+abbrev pub service : Arch → Work
+service arch =
+    if rax arch == 60 then exit arch
+    else if rax arch == 231 then exit_group arch
+    else if rax arch == 453 then map_shadow_stack arch
+    else done (failed arch errno.NoSys)
+
+-- SYSCALL
+abbrev pub syscall : JobData → Arch → Script Finish
+syscall job arch = entered job arch (service arch)

@@ -1,0 +1,65 @@
+//! RSTORSSP: another shadow stack is taken by its restore token (Intel SDM volume 2).
+
+ghost use Rattle.std.specs.Prelude.{◌≡◌, ◌-◌, ◌^◌, ◌<◌};
+ghost use Rattle.cet_page.specs.Script.{play};
+ghost use Rattle.cet_page.specs.Plays.{Refines};
+ghost use Rattle.cet_page.specs.ShadowStacks.{restored, rstorssp, no_restore_token};
+
+use cet_isa::{Arch, Fault, FaultName, Record, What};
+use cet_page::{Cursor, Kind, Suspended, Who, previous_token, restore_token_at, word_in};
+
+/// RFLAGS with CF, PF, AF, ZF, SF and OF clear.
+const CLEAR: u64 = 2;
+
+fn restored(arch: &Arch, addr: u64, next: u64) -> (Arch, Record)
+    requires { arch.now.count < 2 ^ 32 - 1 }
+    ensures { result ≡ restored arch.now addr next }
+{
+    let mut after = *arch;
+    after.rip = next;
+    after.flags = CLEAR;
+    after.ssp = addr;
+    after.count = arch.count + 1;
+    let noted = Record {
+        rip: arch.rip,
+        what: What::Take,
+        code: 0,
+        a: addr,
+        b: arch.ssp,
+    };
+    (after, noted)
+}
+
+/// #CP(RSTORSSP): the word found at the address is no restore token for it.
+fn no_restore_token(addr: u64, found: u64) -> Fault
+    ensures { result ≡ no_restore_token addr found }
+{
+    Fault {
+        name: FaultName::Cp,
+        code: 4,
+        a: addr,
+        b: found,
+    }
+}
+
+/// RSTORSSP at an address, where a misaligned address is #GP(0). The token is tested and replaced by one
+/// exchange, so of two threads that want it one gets it.
+#[tactic(auto, using(cet_page::proofs::ScriptLaws::play_bind), unfolding(cet_page::specs::ShadowStacks::rstorssp, cet_page::specs::Parts::compare_exchange_as))]
+pub fn rstorssp(
+    arch: &Arch,
+    addr: u64,
+    next: u64,
+    at: &mut Cursor,
+) -> Result<(Arch, Record), Suspended>
+    requires { arch.now.count < 2 ^ 32 - 1 }
+    ensures { Refines (play (rstorssp arch.now addr next) at.old.left at.old.rest.now) result at.new.left at.new.rest.now }
+{
+    let token = restore_token_at(addr);
+    at.check_address_gp(addr, 8)?;
+    let page = at.look(Kind::ShadowStore, Who::User, addr)?;
+    let found = at.compare_exchange(word_in(page, addr), token, previous_token(arch.ssp))?;
+    if found != token {
+        return Err(Suspended::Fault(no_restore_token(addr, found)));
+    }
+    Ok(restored(arch, addr, next))
+}
