@@ -19,7 +19,8 @@ from sequences import sequences
 # The instructions that cetvm runs; programs with others are for Bochs alone. `syscall` is map_shadow_stack.
 BUILT = {
     "call", "call_register", "call_memory", "ret", "ret_number", "push_register", "push_number", "push_memory", "pop",
-    "mov_number", "mov_number_32", "mov_load", "mov_store", "add_number", "stc", "clc", "nop", "jmp", "ud2", "wrssq",
+    "mov_number", "mov_number_32", "mov_load", "mov_store", "add_number", "stc", "clc", "nop", "jmp", "ud2", "incsspq",
+    "rdsspq", "rstorssp", "saveprevssp", "wrssq", "wrussq", "syscall",
 }
 SEQUENCES, LENGTH = 300, 300
 
