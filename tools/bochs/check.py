@@ -10,6 +10,7 @@ from pathlib import Path
 
 import differences
 import machine
+import texts
 import worked
 from cases import all_cases
 from compare import Totals, compare_bochs
@@ -23,6 +24,8 @@ BUILT = {
     "rdsspq", "rstorssp", "saveprevssp", "wrssq", "wrussq", "syscall",
 }
 SEQUENCES, LENGTH = 300, 300
+# So many reports of examples and cases the model makes at least.
+LEAST_TEXTS = 45
 
 
 def main():
@@ -41,8 +44,13 @@ def main():
     totals.print()
     wrong = [f"the model has other records of {name}" for name in worked.check()]
     wrong += [f"docs/differences.md has another example of {name}" for name in differences.missing()]
+    made, others = texts.check()
+    wrong += [f"the model has another report of the example or case {name}" for name in others]
+    if made < LEAST_TEXTS:
+        wrong.append(f"the model makes only {made} reports of examples and cases")
     for line in wrong:
         print(f"bochs: {line}")
+    print(f"bochs: {made} reports of examples and cases made by the model")
     print(f"bochs: {totals.reports} reports of cetvm with {totals.records} records, of {len(mine)} programs that it runs, "
           f"in {len(cases)} cases")
     sys.exit(bool(wrong) or totals.faulty())

@@ -1,9 +1,12 @@
 """Sources of the examples and the cases, as far as the model knows their instructions: what the model says of their runs."""
 from collections import namedtuple
+from pathlib import Path
 
-from instructions import REGISTERS, at, do, encode, load_number, text
+from guest import expected
+from instructions import REGISTERS, at, do, encode, text
 from model import TEXT
 
+EXAMPLES = Path(__file__).resolve().parents[2] / "examples"
 NARROW = [name + "d" if name[1:].isdigit() else "e" + name[1:] for name in REGISTERS]
 ALONE = ("ret", "nop", "ud2", "syscall", "stc", "clc", "saveprevssp", "setssbsy")
 Source = namedtuple("Source", "name text instructions records limit")
@@ -37,7 +40,7 @@ def move(left, right):
         return do("mov_load", register, memory(right))
     if right in REGISTERS:
         return do("mov_register", register, number=REGISTERS.index(right))
-    return load_number(register, number(right))
+    return do("mov_number", register, number=number(right))
 
 
 def instruction(line):
@@ -103,3 +106,28 @@ def listing(source):
         wide = item.name == "mov_number" and not -1 << 31 <= item.number < 1 << 31
         lines.append(f"{address:016x} {encode(item).hex()} {line.replace('mov', 'movabs', 1) if wide else line}")
     return "\n".join(lines) + "\n"
+
+
+def case_source(path):
+    """A case of examples/cases that is a run without options: its source and its report. Else nothing."""
+    head, _, rest = path.read_text().partition("source:\n")
+    source, _, report = rest.partition("output:\n")
+    return (source, report) if head.startswith("words: run\n") and "patch:" not in head and "cut:" not in head else None
+
+
+def check():
+    """How many reports of the examples and cases the model has made, and the names of those that it has otherwise. Sources
+    and runs with other instructions are passed over."""
+    texts = {path.stem: (path.read_text(), path.with_suffix(".report").read_text())
+             for path in EXAMPLES.glob("*.s") if path.with_suffix(".report").exists()}
+    texts |= {path.stem: found for path in (EXAMPLES / "cases").glob("*.case") if (found := case_source(path))}
+    made, wrong = 0, []
+    for name, (source, report) in sorted(texts.items()):
+        try:
+            found = expected(read_source(name, source))[2]
+        except (Unknown, KeyError):
+            continue
+        made += 1
+        if found != report:
+            wrong.append(name)
+    return made, wrong
