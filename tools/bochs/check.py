@@ -17,11 +17,12 @@ from compare import Totals, compare_bochs
 from guest import compare_cetvm
 from sequences import sequences
 
-# The instructions that cetvm runs; programs with others are for Bochs alone. `syscall` is map_shadow_stack.
+# The instructions that cetvm runs; programs with others are for Bochs alone. `syscall` is map_shadow_stack, and in examples
+# and cases also exit and exit_group.
 BUILT = {
     "call", "call_register", "call_memory", "ret", "ret_number", "push_register", "push_number", "push_memory", "pop",
-    "mov_number", "mov_number_32", "mov_load", "mov_store", "add_number", "stc", "clc", "nop", "jmp", "ud2", "incsspq",
-    "rdsspq", "rstorssp", "saveprevssp", "wrssq", "wrussq", "syscall",
+    "mov_number", "mov_number_32", "mov_register", "mov_load", "mov_store", "add_number", "stc", "clc", "nop", "jmp",
+    "ud2", "incsspq", "rdsspq", "rstorssp", "saveprevssp", "wrssq", "wrussq", "syscall",
 }
 SEQUENCES, LENGTH = 300, 300
 # So many reports of examples and cases the model makes at least.
@@ -44,7 +45,7 @@ def main():
     totals.print()
     wrong = [f"the model has other records of {name}" for name in worked.check()]
     wrong += [f"docs/differences.md has another example of {name}" for name in differences.missing()]
-    made, others = texts.check()
+    made, others = texts.check(BUILT)
     wrong += [f"the model has another report of the example or case {name}" for name in others]
     if made < LEAST_TEXTS:
         wrong.append(f"the model makes only {made} reports of examples and cases")
