@@ -16,6 +16,7 @@ from cases import all_cases
 from compare import Totals, compare_bochs
 from guest import compare_cetvm
 from sequences import sequences
+from services import services
 
 # The instructions that cetvm runs; programs with others are for Bochs alone. `syscall` is map_shadow_stack, and in examples
 # and cases also exit and exit_group.
@@ -24,7 +25,7 @@ BUILT = {
     "mov_number", "mov_number_32", "mov_register", "mov_load", "mov_store", "add_number", "stc", "clc", "nop", "jmp",
     "ud2", "incsspq", "rdsspq", "rstorssp", "saveprevssp", "wrssq", "wrussq", "syscall",
 }
-SEQUENCES, LENGTH = 300, 300
+SEQUENCES, LENGTH, SERVICES = 300, 300, 100
 # So many reports of examples and cases the model makes at least.
 LEAST_TEXTS = 45
 
@@ -39,6 +40,7 @@ def main():
     for case, (lines, words) in zip(cases, machine.run(work, cases), strict=True):
         compare_bochs(case, lines, words, totals)
     mine = [case for case in cases if not case.planted and case.names() <= BUILT]
+    mine += services(seed, SERVICES)
     if os.access(cetvm, os.X_OK):
         for case in mine:
             compare_cetvm(cetvm, case, totals)
@@ -53,7 +55,7 @@ def main():
         print(f"bochs: {line}")
     print(f"bochs: {made} reports of examples and cases made by the model")
     print(f"bochs: {totals.reports} reports of cetvm with {totals.records} records, of {len(mine)} programs that it runs, "
-          f"in {len(cases)} cases")
+          f"beside {len(cases)} cases of Bochs")
     sys.exit(bool(wrong) or totals.faulty())
 
 
