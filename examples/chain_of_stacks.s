@@ -1,5 +1,6 @@
-# Three shadow stacks: two restores with no save between them, so that the first stack is left and only the way back leads to
-# it: second, third, second, and the pointer of the first one is popped at the end.
+# Three shadow stacks: two restores with no save between them, so that the first stack is left and
+# only the way back leads to it: second, third, second, and the pointer of the first one is popped
+# at the end.
 _start: mov edi, 0              ; the second stack: one page at 0x20000a000
         mov esi, 4096
         mov edx, 1

@@ -1,5 +1,5 @@
-# INCSSPQ drops entries of the shadow stack, as a jump out of several functions needs it. The low byte of its register counts.
-# Three calls are open in h; it returns from the first of them.
+# INCSSPQ drops entries of the shadow stack, as a jump out of several functions needs it. The low
+# byte of its register counts. Three calls are open in h; it returns from the first of them.
 _start: call f
         mov eax, 0
         incsspq rax             ; no call is open: also a count of 0 looks at the word at SSP, and faults

@@ -1,5 +1,5 @@
-# A switch to a second shadow stack and back. Each switch is a pair: RSTORSSP goes to the other stack by its restore token,
-# and SAVEPREVSSP leaves a restore token on the stack that it came from.
+# A switch to a second shadow stack and back. Each switch is a pair: RSTORSSP goes to the other
+# stack by its restore token, and SAVEPREVSSP leaves a restore token on the stack that it came from.
 _start: mov edi, 0              ; map_shadow_stack: at any address,
         mov esi, 4096           ; one page,
         mov edx, 1              ; with a restore token in its last word

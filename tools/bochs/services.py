@@ -1,4 +1,5 @@
-"""Programs that ask for shadow stacks with any arguments, and switch to one of those that they got. They are for cetvm alone."""
+"""Programs that ask for shadow stacks with any arguments, and switch to one of those that they got. They are for cetvm
+alone."""
 import random
 
 from cases import UD2, Case, restore
@@ -7,7 +8,8 @@ from model import MAP_SHADOW_STACK
 
 PAGE = 4096
 ADDRESSES = (1, PAGE, (1 << 32) - 1, 1 << 32, 0x200001000, MASK)
-SIZES = (0, 1, 7, 9, PAGE - 1, PAGE + 1, 1022 * PAGE, 1022 * PAGE + 1, 1 << 63, MASK - PAGE, MASK - PAGE + 1, MASK - PAGE + 2, MASK)
+SIZES = (0, 1, 7, 9, PAGE - 1, PAGE + 1, 1022 * PAGE, 1022 * PAGE + 1, 1 << 63, MASK - PAGE, MASK - PAGE + 1,
+         MASK - PAGE + 2, MASK)
 GOOD_SIZES = (8, 16, 512, PAGE - 8, PAGE, PAGE + 8, 2 * PAGE, 100 * PAGE, 500 * PAGE, 1013 * PAGE, 1014 * PAGE)
 FLAGS = (0, 2, 3, 1 << 32, MASK)
 

@@ -1,4 +1,4 @@
-"""Sources of the examples and the cases, as far as the model knows their instructions: what the model says of their runs."""
+"""Sources of the examples and the cases, as far as the model knows their instructions, and what it says of their runs."""
 from collections import namedtuple
 from pathlib import Path
 
@@ -116,8 +116,8 @@ def case_source(path):
 
 
 def check(built):
-    """How many reports of the examples and cases the model has made, and the names of those that it has otherwise. Sources
-    and runs with instructions that the model or cetvm doesn't have are passed over."""
+    """How many reports of the examples and cases the model has made, and the names of those that it has otherwise.
+    Sources and runs with instructions that the model or cetvm doesn't have are passed over."""
     texts = {path.stem: (path.read_text(), path.with_suffix(".report").read_text())
              for path in EXAMPLES.glob("*.s") if path.with_suffix(".report").exists()}
     texts |= {path.stem: found for path in (EXAMPLES / "cases").glob("*.case") if (found := case_source(path))}
