@@ -93,8 +93,8 @@ edit_comes t c b next n (raises m k o is) =
     (λ _ b mid next o removal rest i y e. removal_comes o removal i y (rest i y e)) k b next o is
 edit_comes t c b next n (acquires m p q e k is) = absurd (n (subst Moves (sym e) tt))
 edit_comes t c b next n (appends r a is) = subst (NoneCome b) is (append_comes r b a)
-edit_comes t c b next n (seeds_region s k m is) = subst (NoneCome b) is (seed_comes m k)
-edit_comes t c b next n (bears_child s child start e m few is) = absurd (n (subst Moves (sym e) tt))
+edit_comes t c b next n (seeds_region s k start e at m is) = subst (NoneCome b) is (seed_comes m k)
+edit_comes t c b next n (bears_child s child start e at m few is) = absurd (n (subst Moves (sym e) tt))
 edit_comes t c b next n (ends_region m o is) = subst (NoneCome b) is (end_comes o)
 edit_comes t c b next n (busies k e inside free is) = subst (NoneCome b) is (λ i y x. x)
 edit_comes t c b next n (frees k e held is) = subst (NoneCome b) is (λ i y x. x)

@@ -54,8 +54,9 @@ fn reports_of(
     Ok(list)
 }
 
-/// The state and the words of each region, found by reading each word of it once, without a book; no word is changed. `ssps`
-/// are the threads that are on one of the regions, by number, with their shadow-stack pointers.
+/// The state and the words of each region, found by reading each word of it once, without a book; no word is changed. A region
+/// is followed once at most, so the time is linear in the words. `ssps` are the threads that are on one of the regions, by
+/// number, with their shadow-stack pointers.
 pub fn report_of_words<P: Perform>(
     alloc: Global,
     words: &mut P,

@@ -13,7 +13,7 @@ ghost use Rattle.cet_cpu.specs.Changes.{finish_with, Stays};
 ghost use Rattle.cet_cpu.specs.Entry.{work_of};
 
 use cet_isa::{Arch, Fault, FaultName, Record, What};
-use cet_kmem::map_shadow_stack;
+use cet_kmem::{MAP_SHADOW_STACK, map_shadow_stack};
 use cet_page::{Cursor, Errno, Leaving, Mark, RAX, Suspended, failed, serve, sys_record};
 use cet_words::{
     Access, EXIT_WORD, FIRST_ENTRY_WORD, FIRST_SHADOW_PAGE, Job, KERNEL_RETURN, SHADOW_START,
@@ -40,9 +40,6 @@ const EXIT: u64 = 60;
 
 /// The number of the service exit_group.
 const EXIT_GROUP: u64 = 231;
-
-/// The number of the service map_shadow_stack.
-const MAP_SHADOW_STACK: u64 = 453;
 
 /// The supervisor stack of a thread's processor, below 8.
 fn stack_of(job: &Job, arch: &Arch) -> u8

@@ -1,10 +1,11 @@
 //! map_shadow_stack: a new shadow stack (Linux, Documentation/arch/x86/shstk.rst).
 
 ghost use Rattle.std.specs.Prelude.{◌≡◌, ◌+◌, ◌-◌, ◌*◌, ◌^◌, ◌<◌, ◌≤◌, true};
+ghost use Rattle.cet_words.specs.Layout.{draw_shadow_word};
 ghost use Rattle.cet_page.specs.Script.{play};
 ghost use Rattle.cet_page.specs.Plays.{Refines};
 ghost use Rattle.cet_page.specs.Parts.{fetch_add_as};
-ghost use Rattle.cet_page.specs.MapShadowStack.{can_draw, claimed, claimed_if, draw_stack, drawn_page, drawn_start, fill_drawn, fill_stack, map_shadow_stack, pages_of, refused, seed_if, seed_word, shadow_entry};
+ghost use Rattle.cet_page.specs.MapShadowStack.{can_draw, claimed, claimed_if, draw_stack, drawn_page, drawn_start, fill_drawn, fill_stack, map_shadow_stack, most_stack_pages, pages_of, refused, seed_if, seed_word, shadow_entry};
 
 use cet_isa::{Arch, Record, What};
 use cet_page::{Cursor, Errno, Leaving, Suspended, failed, restore_token, served, word_in};
@@ -43,7 +44,7 @@ fn pages_of(size: u64) -> u64
 
 /// Whether so many pages fit above those that were drawn before.
 fn can_draw(pages: u64, drawn: u64) -> bool
-    requires { pages ≤ 1022 }
+    requires { pages ≤ most_stack_pages }
     ensures { result ≡ can_draw pages drawn }
 {
     drawn <= LAST_PAGE && drawn + pages + 1 <= LAST_PAGE
@@ -123,7 +124,7 @@ fn fill_drawn(
     at: &mut Cursor,
 ) -> Result<(Arch, Record, Leaving), Suspended>
     requires count { arch.now.count < 2 ^ 32 - 1 }
-    requires pages { pages ≤ 1022 }
+    requires pages { pages ≤ most_stack_pages }
     requires fits { size ≤ 4096 * pages }
     requires some { token ≡ true → 8 ≤ size }
     ensures { Refines (play (fill_drawn arch.now size pages token drawn) at.old.left at.old.rest.now) result at.new.left at.new.rest.now }
@@ -137,8 +138,8 @@ fn fill_drawn(
 /// The draw of so many pages and the one below them.
 #[tactic(auto, unfolding(cet_page::specs::Parts::fetch_add_as))]
 fn draw(pages: u64, token: bool, at: &mut Cursor) -> Result<u64, Suspended>
-    requires { pages ≤ 1022 }
-    ensures { Refines (play (fetch_add_as (claimed_if pages token) 1605634 (pages + 1)) at.old.left at.old.rest.now) result at.new.left at.new.rest.now }
+    requires { pages ≤ most_stack_pages }
+    ensures { Refines (play (fetch_add_as (claimed_if pages token) draw_shadow_word (pages + 1)) at.old.left at.old.rest.now) result at.new.left at.new.rest.now }
 {
     at.fetch_add(DRAW_SHADOW_WORD, pages + 1)
 }
@@ -153,7 +154,7 @@ fn draw_stack(
     at: &mut Cursor,
 ) -> Result<(Arch, Record, Leaving), Suspended>
     requires count { arch.now.count < 2 ^ 32 - 1 }
-    requires pages { pages ≤ 1022 }
+    requires pages { pages ≤ most_stack_pages }
     requires fits { size ≤ 4096 * pages }
     requires some { token ≡ true → 8 ≤ size }
     ensures { Refines (play (draw_stack arch.now size pages token) at.old.left at.old.rest.now) result at.new.left at.new.rest.now }

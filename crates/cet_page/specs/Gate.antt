@@ -1,4 +1,4 @@
--- The gate into the kernel, its services, the delivery of a fault and the kill. Source: Intel SDM volume 1 (supervisor
+-- The gate into the kernel, exit and exit_group, the delivery of a fault and the kill. Source: Intel SDM volume 1 (supervisor
 -- shadow-stack tokens, SETSSBSY and CLRSSBSY) for the token; Linux for the calls' numbers and errors; the fixed order is own.
 use Rattle.std.specs.Prelude.{ℕ, ◌+◌, ◌-◌, ◌/◌, ◌%◌, ◌^◌, Bool, List, [], ◌∷◌, Option, Some, None, ◌==◌, if◌then◌else◌, slice_set}
 use Rattle.cet_words.specs.Layout.{entry_word, first_shadow_page, shadow_start, exit_word, action_word, token, token_page, token_word, kernel_return}

@@ -1,4 +1,5 @@
--- map_shadow_stack (453), which makes a shadow stack. Source: Linux, Documentation/arch/x86/shstk.rst. Own: the order of the tests, and that places are drawn from a counter and never given back.
+-- map_shadow_stack (453), which makes a shadow stack. Source: Linux, Documentation/arch/x86/shstk.rst. Own: the order of the
+-- tests, and that places are drawn from a counter and never given back.
 use Rattle.std.specs.Prelude.{ℕ, ◌+◌, ◌-◌, ◌*◌, ◌/◌, ◌%◌, ◌^◌, ◌==◌, ◌&&◌, ◌||◌, nat_le, nat_lt, Bool, if◌then◌else◌, slice_index, List, [], ◌∷◌, Option, Some, None}
 use Rattle.cet_words.specs.Change.{Change, Claimed, Seeded}
 use Rattle.cet_words.specs.Entries.{entry_with, no_execute}

@@ -1,4 +1,5 @@
--- The services of the kernel by their numbers, and SYSCALL. Source: Linux for the numbers (arch/x86/entry/syscalls).
+-- The services of the kernel by their numbers, and SYSCALL. Source: Intel SDM volume 2 (SYSCALL), and Linux for the numbers
+-- (arch/x86/entry/syscalls).
 use Rattle.std.specs.Prelude.{◌==◌, if◌then◌else◌}
 use Rattle.cet_words.specs.Job.{JobData}
 use Rattle.cet_isa.specs.declared.threads.Arch.{Arch}

@@ -92,7 +92,7 @@ raised arch count next = (
   record { rip = arch.rip; what = what.Raise; code = 0; a = add64 arch.ssp (8 * count); b = count },
 )
 
--- the first and the last of the elements are touched, and of none the one at SSP
+-- the first and the last of the elements are touched; for a count of 0 both looks are at SSP
 unfoldable pub incsspq : Arch → (count next : ℕ) → Row
 incsspq arch count next = do
   _ ← look kind.ShadowLoad User arch.ssp

@@ -18,7 +18,7 @@ pub enum Finish {
 /// What ends with the way out of the kernel.
 #[derive(Clone, Copy, Debug, PartialEq, Eq)]
 pub enum Leaving {
-    /// Nothing: the thread goes on as it was.
+    /// Nothing: the thread goes on.
     Back,
     /// The frame of a signal, which is popped from the thread's shadow stack.
     Popped,

@@ -1,4 +1,4 @@
-//! What a service of the kernel leaves that goes back to the thread.
+//! What a service of the kernel leaves that returns to the thread.
 
 ghost use Rattle.std.specs.Prelude.{◌≡◌, ◌-◌, ◌^◌, ◌<◌, ◌≤◌};
 ghost use Rattle.cet_page.specs.Gate.{error_number, failed, served, sys_record, serve};
@@ -6,11 +6,13 @@ ghost use Rattle.cet_page.specs.Gate.{error_number, failed, served, sys_record, 
 use crate::finishes::Leaving;
 use cet_isa::{Arch, Record, What};
 
-/// The places of registers that the kernel's entry names.
+/// RAX's place among the registers.
 pub const RAX: usize = 0;
 
+/// RCX's place.
 pub const RCX: usize = 1;
 
+/// R11's place.
 pub const R11: usize = 11;
 
 /// SYSCALL is `0F 05`.
@@ -66,47 +68,43 @@ fn error_number(error: Errno) -> u64
     }
 }
 
-/// The record of a service with this outcome.
-pub fn sys_record(arch: &Arch, outcome: u64) -> Record
-    ensures { result ≡ sys_record arch.now outcome }
+/// The record of a service with this result.
+pub fn sys_record(arch: &Arch, value: u64) -> Record
+    ensures { result ≡ sys_record arch.now value }
 {
     Record {
         rip: arch.rip,
         what: What::Sys,
         code: 0,
         a: arch.regs[RAX],
-        b: outcome,
+        b: value,
     }
 }
 
 /// The state after a kernel call that goes back to the instruction after SYSCALL.
-pub fn served(arch: &Arch, outcome: u64) -> Arch
+pub fn served(arch: &Arch, value: u64) -> Arch
     requires { arch.now.count < 2 ^ 32 - 1 }
-    ensures { result ≡ served arch.now outcome }
+    ensures { result ≡ served arch.now value }
 {
     let next = arch.rip.wrapping_add(SYSCALL_LENGTH);
     let mut after = *arch;
     after.regs[RCX] = next;
     after.regs[R11] = arch.flags;
-    after.regs[RAX] = outcome;
+    after.regs[RAX] = value;
     after.rip = next;
     after.count = arch.count + 1;
     after
 }
 
-/// What a service comes to that goes back with an outcome.
-pub fn serve(arch: &Arch, outcome: u64) -> (Arch, Record, Leaving)
+/// A service that returns this result.
+pub fn serve(arch: &Arch, value: u64) -> (Arch, Record, Leaving)
     requires { arch.now.count < 2 ^ 32 - 1 }
-    ensures { result ≡ serve arch.now outcome }
+    ensures { result ≡ serve arch.now value }
 {
-    (
-        served(arch, outcome),
-        sys_record(arch, outcome),
-        Leaving::Back,
-    )
+    (served(arch, value), sys_record(arch, value), Leaving::Back)
 }
 
-/// What a service comes to that goes back with an error, whose number it negates.
+/// A service that returns an error: minus its number.
 pub fn failed(arch: &Arch, error: Errno) -> (Arch, Record, Leaving)
     requires { arch.now.count < 2 ^ 32 - 1 }
     ensures { result ≡ failed arch.now error }

@@ -36,7 +36,7 @@ fn look_last(count: u8, addr: u64, at: &mut Cursor) -> Result<u32, Suspended>
     at.look_as(Kind::ShadowLoad, Who::User, addr)
 }
 
-/// INCSSPQ by so many elements. The first and the last of them are touched, and of none the one at SSP.
+/// INCSSPQ by so many elements. The first and the last of them are touched; for a count of 0 both looks are at SSP.
 #[tactic(auto, using(cet_page::proofs::ScriptLaws::play_bind), unfolding(cet_page::specs::ShadowStacks::incsspq))]
 pub fn incsspq(
     arch: &Arch,

@@ -53,6 +53,8 @@ const AT_RBX: Mem = Mem {
 
 const TAKE: Instr = Instr::Rstorssp { mem: AT_RBX };
 
+const READ: Instr = Instr::Rdsspq { reg: Reg::Rcx };
+
 const RAISE: Instr = Instr::Incsspq { reg: Reg::Rbx };
 
 /// An instruction, RFLAGS, SSP and RBX before it, the answers that it is given, its accesses, and its record
@@ -133,7 +135,7 @@ fn restores() -> [Row; 6] {
 
 /// The token of the stack that was left at 0x200008ff0 goes to 0x200008fe8, word 1,085,949. The word
 /// 0x401006 looks like one that leads to 0x401000.
-fn saves() -> [Row; 6] {
+fn saves() -> [Row; 7] {
     const READ: [Access; 2] = [Access::Look(2122), Access::Load(1_086_975)];
     [
         (
@@ -180,6 +182,23 @@ fn saves() -> [Row; 6] {
             &[Access::Look(2122), Access::Load(1_086_975), Access::Look(0)],
             fault(FaultName::Pf, 70, 0x40_0ff8, 0),
         ),
+        // the pointer's word is that which holds it, and the token goes below the other pointer rounded down
+        (
+            Instr::Saveprevssp,
+            [2, OTHER + 4, 0],
+            &[SECOND, 0x2_0000_8ff7, FIRST],
+            &[
+                Access::Look(2122),
+                Access::Load(1_086_975),
+                Access::Look(2120),
+                Access::Store(1_085_949, 0x2_0000_8ff5),
+            ],
+            Ok((
+                record(What::Save, 0x2_0000_8fe8, 0x2_0000_b004),
+                2,
+                0x2_0000_b004,
+            )),
+        ),
         (
             Instr::Saveprevssp,
             [3, 0x2_0000_9000, 0],
@@ -191,7 +210,7 @@ fn saves() -> [Row; 6] {
 }
 
 /// Two elements lie above 0x200008ff0, and then a page that is absent. The count is the register's low byte.
-fn raises() -> [Row; 7] {
+fn raises() -> [Row; 10] {
     const BOTH: [Access; 2] = [Access::Look(2120), Access::Look(2120)];
     [
         (
@@ -222,8 +241,30 @@ fn raises() -> [Row; 7] {
             &[Access::Look(2121)],
             fault(FaultName::Pf, 68, 0x2_0000_9000, 0),
         ),
+        // 255 elements reach 8 * 254 bytes up; a pointer that is no multiple of 8; and one on no page
         (
-            Instr::Rdsspq { reg: Reg::Rcx },
+            RAISE,
+            [2, 0x2_0000_8808, 255],
+            &[FIRST, FIRST],
+            &BOTH,
+            Ok((record(What::Raise, 0x2_0000_9000, 255), 2, 0x2_0000_9000)),
+        ),
+        (
+            RAISE,
+            [2, 0x2_0000_8ff4, 1],
+            &[FIRST, FIRST],
+            &BOTH,
+            Ok((record(What::Raise, 0x2_0000_8ffc, 1), 2, 0x2_0000_8ffc)),
+        ),
+        (
+            RAISE,
+            [2, 0x9000_0000, 1],
+            &[],
+            &[],
+            fault(FaultName::Pf, 68, 0x9000_0000, 0),
+        ),
+        (
+            READ,
             [0x93, OPEN, 7],
             &[],
             &[],
@@ -280,6 +321,14 @@ fn expect_row(rt: &impl Abort, row: Row) {
     }
     let came = after(&arch, &instr, left, answers);
     let told = came.map(|(after, noted)| (noted, after.flags, after.ssp));
+    if let Ok((after, _)) = came {
+        let copied = if instr == READ { OPEN } else { 0 };
+        assert_eq!(rt;
+            (after.rip, after.regs[1], after.count),
+            (0x40_1004, copied, 6),
+            "{instr:?}"
+        );
+    }
     assert_eq!(rt; told, end, "{instr:?}");
 }
 
