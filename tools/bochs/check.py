@@ -30,17 +30,22 @@ SEQUENCES, LENGTH, SERVICES = 300, 300, 100
 LEAST_TEXTS = 45
 
 
+def gather(seed):
+    """The cases for Bochs, and those for cetvm."""
+    cases = [*all_cases(), *differences.examples(), *(case for case, _, _ in worked.programs())]
+    cases += sequences(seed, SEQUENCES, LENGTH)
+    mine = [case for case in cases if not case.planted and case.names() <= BUILT]
+    return cases, [*mine, *services(seed, SERVICES)]
+
+
 def main():
     cetvm, work = Path(sys.argv[1]).resolve(), Path(sys.argv[2]).resolve()
     seed = int(sys.argv[3]) if len(sys.argv) > 3 else time.time_ns() // 1000 % 1000000
     print(f"bochs: seed {seed}", flush=True)
-    cases = [*all_cases(), *differences.examples(), *(case for case, _, _ in worked.programs())]
-    cases += sequences(seed, SEQUENCES, LENGTH)
+    cases, mine = gather(seed)
     totals = Totals()
     for case, (lines, words) in zip(cases, machine.run(work, cases), strict=True):
         compare_bochs(case, lines, words, totals)
-    mine = [case for case in cases if not case.planted and case.names() <= BUILT]
-    mine += services(seed, SERVICES)
     if os.access(cetvm, os.X_OK):
         for case in mine:
             compare_cetvm(cetvm, case, totals)
@@ -59,4 +64,5 @@ def main():
     sys.exit(bool(wrong) or totals.faulty())
 
 
-main()
+if __name__ == "__main__":
+    main()
