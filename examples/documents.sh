@@ -1,6 +1,6 @@
 #!/bin/sh
 # Assembles and runs the programs of the documents, with the program that `rt ci` has left: each block `asm` there is a
-# source, and the block `report` behind it stands in the report of its run, as it is. The first argument may name
+# source, and each block `report` behind it stands in the report of its run, as it is. The first argument may name
 # another program.
 cd "$(dirname "$0")/../docs" || exit 1
 cetvm=${1:-../crates/cetvm/out/cetvm}
@@ -18,10 +18,10 @@ fail() {
     failed=1
 }
 
-for document in failed_return.md records.md; do
+for document in failed_return.md records.md shadow_stacks.md; do
     awk -v to="$work/${document%.md}" '
         $0 == "```asm" { number++; file = to "." number ".asm"; next }
-        $0 == "```report" { file = to "." number ".report"; next }
+        $0 == "```report" { part++; file = to "." number "." part ".report"; next }
         /^```/ { file = ""; next }
         file != "" { print > file }' "$document"
 done
@@ -30,14 +30,14 @@ for source in "$work"/*.asm; do
     count=$((count + 1))
     "$cetvm" asm < "$source" > "$work/image" || fail "program $name is not assembled"
     report=$("$cetvm" run < "$work/image" 2> "$work/line")
-    if [ ! -s "$work/$name.report" ]; then
-        fail "program $name has no report in its document"
-        continue
-    fi
-    case "$report" in
-        *"$(cat "$work/$name.report")"*) ;;
-        *) fail "program $name has another report: $report" ;;
-    esac
+    set -- "$work/$name".*.report
+    [ -s "$1" ] || fail "program $name has no report in its document"
+    for part in "$@"; do
+        case "$report" in
+            *"$(cat "$part")"*) ;;
+            *) fail "program $name has another report: $report" ;;
+        esac
+    done
 done
 [ "$count" -ge 10 ] || fail "only $count programs in the documents"
 [ "$failed" = 0 ] && echo "examples/documents: $count programs run as stated"

@@ -10,6 +10,8 @@
 # words.cases has a list of words a line, and before it the number of its first faulty word, or `-` where it is a command.
 # texts.cases has a text a line, with `|` for a newline, and before it the line and the rule that it breaks.
 # images.cases has a change of an image a line: the rule that it breaks and the place, and then a `patch` or `cut`.
+# map_shadow_stack_arguments.cases has a call from a fresh start a line: its result, address, size and flags, and, where it
+# makes a stack, how this is shown.
 cd "$(dirname "$0")" || exit 1
 cetvm=${1:-../../crates/cetvm/out/cetvm}
 if [ ! -x "$cetvm" ]; then
@@ -112,6 +114,23 @@ while read -r rule place change at bytes; do
         [ -s "$work/written" ] && fail "$words after $change $at $bytes has an output"
     done
 done < images.cases
+
+while read -r result address size flags holder; do
+    count=$((count + 1))
+    printf 'mov rdi, %s\nmov rsi, %s\nmov rdx, %s\nmov eax, 453\nsyscall\nud2\n' "$address" "$size" "$flags" |
+        "$cetvm" asm > "$work/input"
+    told=$(answers run)
+    [ "$told" = "7 cetvm: killed by 4" ] || fail "map_shadow_stack($address, $size, $flags) ends by $told"
+    if [ -n "$holder" ]; then
+        record="claim 0 $result $(printf '%016x' "$size")"
+    else
+        record="sys 0 00000000000001c5 $result"
+    fi
+    found=$(sed -n 7p "$work/written" | cut -d' ' -f2,4-)
+    [ "$found" = "$record" ] || fail "map_shadow_stack($address, $size, $flags) is answered $found"
+    stacks=$(sed -n 's/^region 000000020000[^ ]* [^ ]* //p' "$work/written" | tr '\n' ' ')
+    [ "$stacks" = "current 0 ${holder:+$holder }" ] || fail "map_shadow_stack($address, $size, $flags) leads to $stacks"
+done < map_shadow_stack_arguments.cases
 
 count=$((count + 1))
 head -c 8388609 /dev/zero > "$work/input"

@@ -3,7 +3,7 @@ import struct
 import subprocess
 
 from instructions import MASK
-from model import FIRST_REGION, TEXT, Fault, Machine
+from model import EXIT, FIRST_REGION, TEXT, Fault, Machine
 
 
 def image(text):
@@ -29,12 +29,15 @@ class Stacks:
                 return number
         raise KeyError(hex(address))
 
-    def follow(self, record, before):
-        """A record, and SSP before it."""
+    def follow(self, record, before, words):
+        """A record, SSP before it, and the words after it, by which a new stack has a token or none."""
         name, _, a, b = record
         if name == "claim":
-            self.parked[len(self.regions)] = a + b - 8
+            if words.get(a + b - 8) == a + b | 1:
+                self.parked[len(self.regions)] = a + b - 8
             self.regions.append((a, a + (b + 4095 & ~4095)))
+        elif name == "sys" and a == EXIT:
+            self.current = None
         elif name == "take":
             old, self.current = self.current, self.number(a)
             del self.parked[self.current]
@@ -81,23 +84,25 @@ def expected(case):
     """The options of `run`, its exit status and its report."""
     machine, stacks, records = Machine(case.text, case.instructions), Stacks(), []
     most, killed = len(case.records) + case.limit, None
-    while len(records) < most and killed is None:
+    while len(records) < most and killed is None and machine.ended is None:
         rip, ssp = machine.rip, machine.ssp
         try:
             record = machine.step()
-            stacks.follow(record, ssp)
+            stacks.follow(record, ssp, machine.words)
         except Fault as fault:
             record = (fault.name, fault.code, fault.a, fault.b)
             killed = 4 if fault.name == "#UD" else 11
         records.append((rip, record))
     if killed is not None:
         records.append((machine.rip, ("kill", 0, killed, 0)))
-    end, last = ("group", f"killed {killed}") if killed is not None else ("limit", "limit 0")
+    end, last, status = ("limit", "limit 0", 8) if killed is None else ("group", f"killed {killed}", 7)
+    if machine.ended:
+        end, last, status = machine.ended[0], f"exit {machine.ended[1]}", 0
+        end += f" {machine.ended[1]}" if end == "exit" else ""
     lines = ["cetvm report 1", f"thread 0 records {len(records)} {end}"]
     lines += [f"0 {name} {rip:016x} {code} {a:016x} {b:016x}" for rip, (name, code, a, b) in records]
     lines += [*stacks.lines(machine), f"process {last}"]
-    options = [] if killed is not None else ["--limit", str(most)]
-    return options, 7 if killed is not None else 8, "\n".join(lines) + "\n"
+    return ["--limit", str(most)] if status == 8 else [], status, "\n".join(lines) + "\n"
 
 
 def compare_cetvm(cetvm, case, totals):

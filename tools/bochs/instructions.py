@@ -91,6 +91,8 @@ def encode(instruction):
         reg_extended = reg if field == "r" else 0
         return bytes.fromhex(prefix) + rex(wide, reg_extended, base, idle) + bytes.fromhex(opcode) + operand(
             reg, memory, register) + tail
+    if name == "mov_register":
+        return rex(1, number, register, idle) + b"\x89" + operand(number, None, register)
     if name in ("push_register", "pop"):
         return rex(0, 0, register, idle) + bytes([(0x50 if name == "push_register" else 0x58) + (register & 7)])
     if name == "push_number":
@@ -120,6 +122,8 @@ def text(instruction):
         place = f"[{REGISTERS[memory.base]}{tail}]"
     wide = REGISTERS[register] if register is not None else ""
     narrow = wide + "d" if wide[1:].isdigit() else "e" + wide[1:]
+    if name == "mov_register":
+        return f"mov {wide}, {REGISTERS[number]}"
     return TEXTS.get(name, name).format(
         r=wide, e=narrow, m=place, n=number_text(number) if number is not None else "")
 

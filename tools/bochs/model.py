@@ -11,7 +11,8 @@ SHADOW = 0x200000000
 SHADOW_END = 0x200400000
 KERNEL = 0xFFFF800000000000
 FIRST_REGION = (0x200001000, 0x200009000)
-MAP_SHADOW_STACK = 453
+EXIT, EXIT_GROUP, MAP_SHADOW_STACK = 60, 231, 453
+ENOMEM, EEXIST, EINVAL, ENOSPC, ERANGE, ENOSYS, EOVERFLOW = 12, 17, 22, 28, 34, 38, 75
 # Place of each range: its first page number, its first address, the address past its end.
 RANGES = ((0, 0x400000, 0x800000), (1024, *STACK), (1088, 0x100000000, 0x100400000), (2112, SHADOW, SHADOW_END),
           (3136, KERNEL, KERNEL + 0x12000))
@@ -43,6 +44,7 @@ class Machine:
         self.words = {}
         self.regions = [FIRST_REGION]
         self.drawn = 9
+        self.ended = None
         self.met = set()
 
     def copy(self, bochs):
@@ -168,6 +170,9 @@ class Machine:
     def mov_number_32(self, i):
         return self.set_register(i.register, i.number & 0xFFFFFFFF)
 
+    def mov_register(self, i):
+        return self.set_register(i.register, self.registers[i.number])
+
     def mov_load(self, i):
         return self.set_register(i.register, self.load(i.memory))
 
@@ -189,17 +194,36 @@ class Machine:
         return self.set_register(i.register, result)
 
     def syscall(self, _):
-        """map_shadow_stack(0, size, 1), the one service that the cases ask for."""
-        registers = self.registers
-        size, pages = registers[RSI], registers[RSI] + 4095 >> 12
-        asked = (registers[RAX], registers[RDI], registers[RDX], size & 7)
-        assert asked == (MAP_SHADOW_STACK, 0, 1, 0) and size and self.drawn + pages < 1023
-        start = SHADOW + 4096 * (self.drawn + 1)
-        self.drawn += pages + 1
+        """exit, exit_group and map_shadow_stack; every other number answers ENOSYS."""
+        registers, number = self.registers, self.registers[RAX]
+        if number in (EXIT, EXIT_GROUP):
+            status = registers[RDI] & 255
+            self.ended = ("exit" if number == EXIT else "group", status)
+            return ("sys", 0, number, status)
+        size = registers[RSI]
+        start = self.map_shadow_stack(registers[RDI], size, registers[RDX]) if number == MAP_SHADOW_STACK else -ENOSYS
+        registers[RAX], registers[RCX], registers[R11] = start & MASK, self.after, self.flags & ~AF
+        return ("claim", 0, start, size) if start > 0 else ("sys", 0, number, start & MASK)
+
+    def map_shadow_stack(self, address, size, flags):
+        """The start of the new stack, or minus an error."""
+        token, pages = flags == 1, size + 4095 >> 12
+        errors = (
+            (flags > 1, EINVAL), (token and size < 8, ENOSPC), (0 < address < 1 << 32, ERANGE),
+            (4096 * pages >= 1 << 64, EOVERFLOW), (size == 0 or token and size % 8 > 0, EINVAL), (address > 0, EEXIST),
+            (pages > 1022, ENOMEM),
+        )
+        for wrong, error in errors:
+            if wrong:
+                return -error
+        drawn, self.drawn = self.drawn, self.drawn + pages + 1
+        if drawn + pages + 1 > 1023:
+            return -ENOMEM
+        start = SHADOW + 4096 * (drawn + 1)
         self.regions.append((start, start + 4096 * pages))
-        self.words[start + size - 8] = start + size | 1
-        registers[RAX], registers[RCX], registers[R11] = start, self.after, self.flags & ~AF
-        return ("claim", 0, start, size)
+        if token:
+            self.words[start + size - 8] = start + size | 1
+        return start
 
     def push(self, value):
         address = self.registers[RSP] - 8 & MASK

@@ -1,5 +1,5 @@
-"""Programs whose records were worked out by hand. The model has to give them, so that it is right about cetvm's records
-also for instructions that cetvm doesn't run yet."""
+"""Programs whose records were worked out by hand. The model has to give them, so that its records are
+right by more than its agreement with cetvm."""
 from cases import NOP, UD2, Case, calls, regions, restore
 from guest import expected
 from instructions import RAX, RBX, RCX, RDX, at, do, load_number
