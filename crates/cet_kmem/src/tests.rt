@@ -4,9 +4,11 @@ ghost use Rattle.std.specs.Prelude.{◌<◌, ◌-◌, ◌^◌};
 
 use super::*;
 use cet_isa::{Arch, Record, What};
-use cet_page::{Cursor, Leaving, Mark, Suspended};
-use cet_words::Access;
+use cet_page::{Cursor, Leaving, Mark, Next, Suspended, Vals};
+use cet_words::{Access, Bytes, Image, Job, NoMemory, Segment, Segments};
+use std::alloc::Global;
 use std::process::Abort;
+use std::test::Fail;
 
 /// A thread at a SYSCALL at 0x401000 that asks for map_shadow_stack of an address, a size and flags.
 fn thread(asked: [u64; 3]) -> Arch
@@ -146,4 +148,50 @@ fn rows_of_accesses(rt: HostRuntime) {
     for row in stacks() {
         expect_row(&rt, row);
     }
+}
+
+/// An image with code at 0x401000, all zeros.
+fn image(alloc: Global) -> Result<Image, NoMemory> {
+    let mut segments = Segments::new(alloc);
+    segments.push(
+        alloc,
+        Segment {
+            start: 0x40_1000,
+            bytes: Bytes::new(alloc),
+            size: 16,
+            write: false,
+            exec: true,
+        },
+    )?;
+    Ok(Image {
+        entry: 0x40_1000,
+        marked: true,
+        tracked: false,
+        segments,
+    })
+}
+
+/// A call that finds no place: its fetch-and-add, and then its result.
+#[test]
+fn next_of_a_full_area(rt: HostRuntime) -> Result<(), Fail> {
+    let image = image(rt.alloc())?;
+    let job = Job {
+        image: &image,
+        procs: 1,
+        limit: 10,
+        signals: &[],
+    };
+    let arch = thread([0, 4096, 1]);
+    let mut vals = Vals::new();
+    let draw = Access::FetchAdd(1_605_634, 2);
+    assert_eq!(rt; next(&job, &arch, &vals), Next::Access(draw));
+    vals.add(draw, 1022);
+    match next(&job, &arch, &vals) {
+        Next::Done(after, Some(noted)) => {
+            assert_eq!(rt; (noted.what, noted.b), (What::Sys, u64::MAX - 11));
+            assert_eq!(rt; after.regs[0], u64::MAX - 11);
+        }
+        other => assert!(rt; false, "{other:?}"),
+    }
+    Ok(())
 }

@@ -17,9 +17,9 @@ KeepsWords x = (words : List ℕ) → answer words x.access ≡ x.answer → aft
 -- The record is of a fault, and this is what the access left that ended in it.
 pub record Faults (job : JobData) (before after : Core) (answer : ℕ) (r : Record) : Type 0 where
   pub fault : Fault
-  -- it stands at the instruction, and is due
+  -- the record stands at the instruction
   pub noted : r ≡ fault_record before.arch fault
-  -- nothing else of the thread has changed, no register, flag, mask or pointer, and there is one record more
+  -- the fault is due, there is one record more, and nothing else of the thread has changed: no register, flag, mask or pointer
   pub arch : after.arch ≡ record before.arch { count = before.arch.count + 1; due = Some fault }
   -- the row has made these accesses, the last one with them, and each has left the words as they were
   pub accesses : (a : Access) → next_access job before ≡ Some a → vals_of (row_trail job before.arch (vals_after before.vals a answer)) ≡ vals_after before.vals a answer

@@ -1,8 +1,8 @@
-//! What a row comes to.
+//! What rows come to, and what ends with the way out of the kernel.
 
 use cet_isa::{Arch, Record};
 
-/// What a row comes to.
+/// What a row comes to, with the state after it.
 #[derive(Clone, Copy, Debug, PartialEq, Eq)]
 pub enum Finish {
     /// The new state and the record.

@@ -12,8 +12,8 @@ use std::marker::Model;
 const MOST_KEPT: usize = 32;
 
 /// The values kept in a row, at most 32, and the number of its accesses so far, at most 4,096: the longest
-/// row, an `exit`, makes 15, and a service to come stores the entries of up to 1,024 pages. All accesses
-/// but stores keep their value.
+/// row, a map_shadow_stack of 1,022 pages, makes 1,031, and a service to come clears up to 1,024 entries.
+/// All accesses but stores keep their value.
 #[derive(Drop)]
 pub struct Vals {
     kept: [u64; 32],
