@@ -7,6 +7,7 @@ use Rattle.cet_book.specs.declared.entries.Holder.{Holder}
 use Rattle.cet_book.specs.declared.entries.Holder.TheVariants.{Maker, Current, Parked, Left, Lost}
 use Rattle.cet_book.specs.Book.{Region, Book, region, capacity, is_maker, current_of, with_current, can_claim, last_end}
 use Rattle.cet_book.specs.Facts.{Bounds}
+use Rattle.cet_words.specs.Layout.{last_region_end}
 
 -- a test that passed, and what follows it
 pub if_some : (c : Bool) (o : Option Book) (next : Book) → cond c o None ≡ Some next → (c ≡ true) × (o ≡ Some next)
@@ -40,7 +41,7 @@ pub record CanClaim (start pages : ℕ) (b : Book) : Type 0 where
   pub most : pages ≤ 1022
   pub aligned : start % 4096 ≡ 0
   pub above : last_end b + 4096 ≤ start
-  pub high : start + 4096 * pages ≤ 0x2003ff000
+  pub high : start + 4096 * pages ≤ last_region_end
 
 pub can_claim_true : (start pages : ℕ) (b : Book) → can_claim start pages b ≡ true → CanClaim start pages b
 can_claim_true start pages b e = record {

@@ -5,14 +5,14 @@ use Rattle.std.specs.List.{AllByRecursion}
 use Rattle.std.proofs.lemmas.Bool.{false≢true}
 use Rattle.std.proofs.lemmas.Bool.Decides.{nat_tests}
 use Rattle.std.proofs.lemmas.List.Elements.{All-from_recursion}
-use Rattle.cet_words.specs.Layout.{first_region_start}
+use Rattle.cet_words.specs.Layout.{first_region_start, last_region_end}
 use Rattle.cet_book.specs.Marks.{has}
 use Rattle.cet_book.specs.View.{Span, no_span, Has, IsSpan, IsReadable}
 use Rattle.cet_book.proofs.Cases.{and_true}
 
 abbrev is_next : (low : ℕ) → Span → Bool
 is_next low r =
-    nat_lt low r.start && nat_le first_region_start r.start && nat_le r.start r.end && nat_le r.end 0x2003ff000 && r.start % 4096 == 0 && r.end % 4096 == 0
+    nat_lt low r.start && nat_le first_region_start r.start && nat_le r.start r.end && nat_le r.end last_region_end && r.start % 4096 == 0 && r.end % 4096 == 0
 
 abbrev pub rise : (low : ℕ) → List Span → Bool
 rise low [] = true

@@ -4,7 +4,7 @@ use Rattle.std.proofs.lemmas.Bool.Decides.{nat_tests}
 use Rattle.std.proofs.lemmas.List.{get_or-map, length-map}
 use Rattle.std.proofs.lemmas.List.Sums.{position_or_len_is}
 use Rattle.std.proofs.lemmas.List.Elements.{recursion_from_All}
-use Rattle.cet_words.specs.Layout.{first_region_start}
+use Rattle.cet_words.specs.Layout.{first_region_start, last_region_end}
 use Rattle.cet_words.specs.Job.{ImageData}
 use Rattle.cet_book.specs.declared.entries.Holder.{Holder}
 use Rattle.cet_book.specs.declared.entries.Holder.TheVariants.{Maker, Current, Parked, Left, Lost}
@@ -72,7 +72,7 @@ module _ {image : ImageData} {W : List ℕ} {b : Book} {numbers : List ℕ} {rs 
       (λ _. has_true a (get_or rs k no_span) here)
 
   -- no region has a page outside
-  pub place_out : (a : ℕ) → (first_region_start ≤ a → a ≤ 0x2003ff000 → ⊥) → place a rs ≡ length rs
+  pub place_out : (a : ℕ) → (first_region_start ≤ a → a ≤ last_region_end → ⊥) → place a rs ≡ length rs
   unfolding place
   place_out a n =
       position_or_len_is (has a) rs (length rs) no_span (omega arith)

@@ -1,7 +1,7 @@
 -- What the facts on words and book are made of: where regions lie, which words and pages are theirs, what their entries
 -- say of one another. Source: own.
 use Rattle.std.specs.Prelude.{◌≡◌, ℕ, ◌+◌, ◌-◌, ◌*◌, ◌%◌, ◌<◌, ◌≤◌, Bool, false, ◌==◌, if◌then◌else◌, List, [], ◌∷◌}
-use Rattle.cet_words.specs.Layout.{first_region_start, first_shadow_page, image_end, image_start, shadow_end, shadow_start}
+use Rattle.cet_words.specs.Layout.{first_region_start, first_shadow_page, image_end, image_start, shadow_end, shadow_start, last_region_end}
 use Rattle.cet_book.specs.declared.entries.Entry.{Entry}
 use Rattle.cet_book.specs.declared.entries.Entry.TheVariants.{Call, Restorer, Frame, Previous, Blank}
 use Rattle.cet_book.specs.declared.entries.Holder.{Holder}
@@ -15,7 +15,7 @@ use Rattle.cet_book.specs.Stack.{slot_word, word_of}
 pub record Bounds (start end : ℕ) : Type 0 where
   pub low : first_region_start ≤ start
   pub full : start + 4096 ≤ end
-  pub high : end ≤ 0x2003ff000
+  pub high : end ≤ last_region_end
   pub first : start % 4096 ≡ 0
   pub last : end % 4096 ≡ 0
 

@@ -3,7 +3,7 @@
 use Rattle.std.proofs.Common.{zero, suc}
 use Rattle.std.specs.Prelude.{◌≡◌, ℕ, ◌+◌, ◌-◌, ◌/◌, ◌%◌, ◌<◌, ◌≤◌, ◌⊎◌, ◌↔◌, Bool, true, false, List, [], ◌∷◌, map, length, All, slice_index, slice_index_or}
 use Rattle.cet_words.specs.Job.{ImageData}
-use Rattle.cet_words.specs.Layout.{entry_word, first_kernel_page, first_mmap_page, first_region_start, page_count}
+use Rattle.cet_words.specs.Layout.{entry_word, first_kernel_page, first_mmap_page, first_region_start, page_count, last_region_end}
 use Rattle.cet_words.specs.Entries.{entry_of}
 use Rattle.cet_book.specs.Book.{Region, Book, region, top, capacity}
 use Rattle.cet_book.specs.Facts.{Place, Stack, IsParkedAt, is_left, one, links, Returns}
@@ -67,7 +67,7 @@ region_words words r = words_from words (r.start - 8) ((r.end - (r.start - 8)) /
 pub record IsSpan (r : Span) : Type 0 where
   pub low : first_region_start ≤ r.start
   pub order : r.start ≤ r.end
-  pub high : r.end ≤ 0x2003ff000
+  pub high : r.end ≤ last_region_end
   pub first : r.start % 4096 ≡ 0
   pub last : r.end % 4096 ≡ 0
 
@@ -97,7 +97,7 @@ pub record InStep (image : ImageData) (words : List ℕ) (b : Book) : Type 0 whe
   pub tokens : (p : ℕ) → Place p → (slot_word words p ≡ p + 9) ↔ ((i : ℕ) × IsParkedAt p (region b i))
   pub previous_left : (q s : ℕ) → links s (region b q).entries ≡ one (is_left q (region b s).holder)
   pub low : (i : ℕ) → i < length b.regions → (first_region_start ≤ (region b i).start) × (first_region_start ≤ (region b i).end)
-  pub high : (i : ℕ) → i < length b.regions → ((region b i).start ≤ 0x2003ff000) × ((region b i).end ≤ 0x2003ff000)
+  pub high : (i : ℕ) → i < length b.regions → ((region b i).start ≤ last_region_end) × ((region b i).end ≤ last_region_end)
   pub first : (i : ℕ) → i < length b.regions → (region b i).start % 4096 ≡ 0
   pub last : (i : ℕ) → i < length b.regions → (region b i).end % 4096 ≡ 0
   pub room : (i : ℕ) → i < length b.regions → length (region b i).entries ≤ capacity (region b i)

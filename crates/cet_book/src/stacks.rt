@@ -9,6 +9,7 @@ ghost use Rattle.cet_book.specs.Newest.{removed};
 ghost use Rattle.cet_book.specs.Shape.{IsBook};
 ghost use Rattle.cet_book.specs.declared.entries.Entry.TheVariants.{Blank};
 ghost use Rattle.cet_book.specs.declared.entries.Holder.TheVariants.{Parked};
+ghost use Rattle.cet_words.specs.Layout.{last_region_end};
 
 use crate::entries::{Entry, Holder};
 use cet_words::{NoMemory, SHADOW_START};
@@ -27,18 +28,19 @@ pub(crate) struct Stack {
 impl Model for Stack {
     ghost use Rattle.std.specs.Prelude.{◌+◌, ◌*◌, ◌≤◌, length, reverse};
     ghost use Rattle.cet_book.specs.Book.{Region};
+    ghost use Rattle.cet_words.specs.Layout.{last_region_end};
 
     ghost Value = { Region };
 
     ghost view = { λ s. record { start = s.start; end = s.end; entries = reverse s.entries.items; holder = s.holder } };
 
-    ghost invariant = { λ s. (s.start + 8 * length s.entries.items ≤ s.end) × (s.end ≤ 0x2003ff000) };
+    ghost invariant = { λ s. (s.start + 8 * length s.entries.items ≤ s.end) × (s.end ≤ last_region_end) };
 }
 
 impl Stack {
     pub(crate) fn new(alloc: Global, start: u64, end: u64, holder: Holder) -> Stack
         requires order { start ≤ end }
-        requires bound { end ≤ 0x2003ff000 }
+        requires bound { end ≤ last_region_end }
         ensures { result ≡ record { start = start; end = end; entries = []; holder = holder } }
     {
         Stack {
@@ -110,7 +112,7 @@ impl Stack {
 
     fn end(&self) -> u64
         ensures end { result ≡ self.now.end }
-        ensures bound { result ≤ 0x2003ff000 }
+        ensures bound { result ≤ last_region_end }
     {
         self.end
     }
@@ -267,7 +269,7 @@ pub(crate) fn count_of(stacks: &[Stack], at: usize) -> usize
 /// The end of the last stack, or the start of the shadow area where there is none.
 pub(crate) fn last_end(stacks: &[Stack]) -> u64
     ensures end { result ≡ last_end (book_of stacks.now []) }
-    ensures bound { result ≤ 0x2003ff000 }
+    ensures bound { result ≤ last_region_end }
 {
     if stacks.is_empty() {
         return SHADOW_START;

@@ -8,6 +8,7 @@ ghost use Rattle.cet_book.specs.Latest.{Latest, IsListed};
 ghost use Rattle.cet_book.specs.Newest.{can_return, is_frame, leads_to};
 ghost use Rattle.cet_book.specs.declared.entries.Entry.TheVariants.{Previous};
 ghost use Rattle.cet_book.specs.declared.entries.Holder.TheVariants.{Maker, Current, Left, Lost};
+ghost use Rattle.cet_words.specs.Layout.{last_region_end};
 
 use crate::entries::{Entry, Holder};
 use crate::events::BookFault;
@@ -180,7 +181,7 @@ fn holder_of(thread: u8, maker: bool) -> Holder
 /// So many pages from an address on may be a new stack.
 fn can_claim(stacks: &[Stack], start: u64, pages: u32) -> bool
     ensures test { (g : List (Option ℕ)) → result ≡ can_claim start pages (book_of stacks.now g) }
-    ensures bound { result ≡ true → start + 4096 * pages ≤ 0x2003ff000 }
+    ensures bound { result ≡ true → start + 4096 * pages ≤ last_region_end }
 {
     if pages < 1 || pages > 1022 || start % 4096 != 0 {
         return false;

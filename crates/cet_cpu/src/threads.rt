@@ -13,13 +13,16 @@ ghost use Rattle.cet_page.specs.Finish.{IsMade};
 ghost use Rattle.cet_page.specs.ValsData.{no_vals};
 ghost use Rattle.cet_cpu.specs.Code.{IsCode};
 ghost use Rattle.cet_cpu.specs.Cpu.{awaited, RefinesRow, CpuData, IsCpu, IsNext, KeepsCode};
+ghost use Rattle.cet_words.specs.Layout.{thread_region_size, thread_limit};
 
 use crate::fetches::Code;
 use crate::gate::{R11, RAX, RCX, RowEnd, SYSCALL_LENGTH};
 use crate::rows::row;
 use cet_isa::{Arch, End, Fault, Record, What};
 use cet_page::{Mark, Suspended, Vals};
-use cet_words::{Access, FIRST_REGION_END, FIRST_REGION_START, Job, token};
+use cet_words::{
+    Access, FIRST_REGION_END, FIRST_REGION_START, Job, THREAD_LIMIT, THREAD_REGION_SIZE, token,
+};
 use std::marker::Model;
 
 /// A guest thread between two of its accesses. Its records aren't kept here.
@@ -117,7 +120,7 @@ fn awaited(next: Option<(Access, Mark)>) -> Option<Access>
 
 /// The child of a clone, before its first access.
 fn child_at(parent: &Arch, child: u8, start: u64) -> Cpu
-    requires { start + 32768 < 2 ^ 64 }
+    requires { start + thread_region_size < 2 ^ 64 }
     ensures core { result.core ≡ child_core parent.now child start }
     ensures waits { result.next ≡ None }
     ensures code { result.code ≡ None }
@@ -129,7 +132,7 @@ fn child_at(parent: &Arch, child: u8, start: u64) -> Cpu
     arch.regs[RAX] = 0;
     arch.regs[RSP] = parent.regs[RSI];
     arch.rip = next;
-    arch.ssp = start + 32768;
+    arch.ssp = start + THREAD_REGION_SIZE;
     arch.count = 0;
     arch.posted = 0;
     arch.number = child;
@@ -236,7 +239,7 @@ impl Cpu {
         let Mark::Bears(start) = mark else {
             return None;
         };
-        if answer >= 32 {
+        if answer >= THREAD_LIMIT {
             return None;
         }
         Some(child_at(&self.arch, answer as u8, start))
@@ -264,7 +267,7 @@ impl Cpu {
     fn replay_row(&mut self, job: &Job) -> Result<RowEnd, Suspended>
         requires count { self.old.core.arch.count < 2 ^ 32 - 1 }
         requires made { IsMade self.old.core.arch.made }
-        requires number { self.old.core.arch.number < 32 }
+        requires number { self.old.core.arch.number < thread_limit }
         requires code { KeepsCode job.now self.old }
         ensures came { RefinesRow (row_played job.now self.old.core.arch self.old.core.vals) self.old.core.arch self.new.core.arch result }
         ensures core { self.new.core ≡ record self.old.core { arch = self.new.core.arch } }

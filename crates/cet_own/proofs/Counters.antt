@@ -11,6 +11,7 @@ use Rattle.cet_page.specs.Script.{birth}
 use Rattle.cet_own.proofs.Standing.{HasNone}
 use Rattle.cet_page.specs.Trail.{Visit}
 use Rattle.cet_own.specs.Past.{touches, draw_word, next_word, drew, numbered}
+use Rattle.cet_words.specs.Layout.{thread_region_size, thread_limit}
 
 -- the access may write the word
 abbrev pub alters : Access → (word : ℕ) → Bool
@@ -21,7 +22,7 @@ alters a w = touches a w
 pub record Bears (t child s start : ℕ) (b : Book) : Type 0 where
   pub maker : (region b s).holder ≡ Maker t
   pub first : (region b s).start ≡ start
-  pub last : (region b s).end ≡ start + 32768
+  pub last : (region b s).end ≡ start + thread_region_size
   pub none : HasNone child b
 
 -- A row adds to each counter at most once, and no other access changes one. A thread is born exactly with an add to the
@@ -29,8 +30,8 @@ pub record Bears (t child s start : ℕ) (b : Book) : Type 0 where
 pub data CountsBy (t : ℕ) (past : List Visit) (b : Book) (a : Access) (v : ℕ) (changes : List Change) : Type 0 where
   no_count : alters a draw_word ≡ false → alters a next_word ≡ false → birth changes ≡ None → CountsBy t past b a v changes
   draws_pages : (n : ℕ) → n ≤ 1023 → a ≡ access.FetchAdd draw_word n → drew past ≡ false → birth changes ≡ None → CountsBy t past b a v changes
-  bears_child : (s start : ℕ) → a ≡ access.FetchAdd next_word 1 → v < 32 → Bears t v s start b → numbered past ≡ false → changes ≡ Born v start ∷ [] → CountsBy t past b a v changes
-  bears_nobody : a ≡ access.FetchAdd next_word 1 → 32 ≤ v → numbered past ≡ false → birth changes ≡ None → CountsBy t past b a v changes
+  bears_child : (s start : ℕ) → a ≡ access.FetchAdd next_word 1 → v < thread_limit → Bears t v s start b → numbered past ≡ false → changes ≡ Born v start ∷ [] → CountsBy t past b a v changes
+  bears_nobody : a ≡ access.FetchAdd next_word 1 → thread_limit ≤ v → numbered past ≡ false → birth changes ≡ None → CountsBy t past b a v changes
 
 -- the access changes neither counter
 pub record LeavesCounters (a : Access) : Type 0 where
@@ -47,5 +48,5 @@ none_born (c ∷ cs) y e = (tt, none_born cs y e)
 pub record CountersTell (words : List ℕ) (t : ℕ) (b : Book) : Type 0 where
   pub draws : slice_index words draw_word + 1024 ≤ 2 ^ 64
   pub nexts : slice_index words next_word + 1 < 2 ^ 64
-  pub none : slice_index words next_word < 32 → HasNone (slice_index words next_word) b
-  pub other : slice_index words next_word < 32 → t ≢ slice_index words next_word
+  pub none : slice_index words next_word < thread_limit → HasNone (slice_index words next_word) b
+  pub other : slice_index words next_word < thread_limit → t ≢ slice_index words next_word

@@ -6,7 +6,7 @@ use Rattle.std.proofs.lemmas.Bool.Decides.{nat_tests}
 use Rattle.std.proofs.lemmas.List.{get_or_past}
 use Rattle.cet_words.specs.Entries.{entry_of}
 use Rattle.cet_words.specs.Job.{JobData, IsJob, ImageData}
-use Rattle.cet_words.specs.Layout.{exit_word, entry_word, token, token_word, first_entry_word, first_kernel_page, first_kernel_word, first_mmap_page, first_region_end, first_shadow_page, first_stack_word, page_count}
+use Rattle.cet_words.specs.Layout.{exit_word, entry_word, token, token_word, first_entry_word, first_kernel_page, first_kernel_word, first_mmap_page, first_region_end, first_shadow_page, first_stack_word, page_count, first_action_word}
 use Rattle.cet_words.specs.Start.{kernel_word, is_present, start_entry, start_word, IsStart}
 use Rattle.cet_book.specs.declared.entries.Holder.TheVariants.{Parked, Current}
 use Rattle.cet_book.specs.Book.{region, top, current_of, stack_of, first_book}
@@ -105,22 +105,22 @@ first_gates image words s k l =
     s.each (token_word k) (omega arith) ∙ is ∙ omega arith
 
 -- the words of signals are 0
-action_start : (image : ImageData) (words : List ℕ) (n : ℕ) → IsStart image words → n < 256 → slice_index words (1605696 + n) ≡ 0
+action_start : (image : ImageData) (words : List ℕ) (n : ℕ) → IsStart image words → n < 256 → slice_index words (first_action_word + n) ≡ 0
 unfolding start_word kernel_word
 action_start image words n s l =
-    let a : nat_lt (1605696 + n) first_stack_word ≡ false = grind (arith, nat_tests) in
-    let b : nat_lt (1605696 + n) first_kernel_word ≡ false = grind (arith, nat_tests) in
-    let c : nat_lt (1605696 + n) first_entry_word ≡ true = grind (arith, nat_tests) in
-    let at : 1605696 + n - first_kernel_word ≡ 64 + n = omega arith in
+    let a : nat_lt (first_action_word + n) first_stack_word ≡ false = grind (arith, nat_tests) in
+    let b : nat_lt (first_action_word + n) first_kernel_word ≡ false = grind (arith, nat_tests) in
+    let c : nat_lt (first_action_word + n) first_entry_word ≡ true = grind (arith, nat_tests) in
+    let at : first_action_word + n - first_kernel_word ≡ 64 + n = omega arith in
     let d : (64 + n == 1) ≡ false = grind (arith, nat_tests) in
     let e : (64 + n == 2) ≡ false = grind (arith, nat_tests) in
     let f : nat_lt 511 (64 + n) ≡ false = grind (arith, nat_tests) in
     let zero : kernel_word (64 + n) ≡ 0 = rw (d, e, f) refl in
-    s.each (1605696 + n) (omega arith) ∙ rw (a, b, c) (ap kernel_word at ∙ zero)
+    s.each (first_action_word + n) (omega arith) ∙ rw (a, b, c) (ap kernel_word at ∙ zero)
 
 first_restorers : (image : ImageData) (words : List ℕ) → IsStart image words → Restorers image words
 first_restorers image words s = record {
-  executable = λ k l. inl (let at : restorer_word k ≡ 1605696 + (4 * k + 2) = omega arith in ap (slice_index words) at ∙ action_start image words (4 * k + 2) s (omega arith));
+  executable = λ k l. inl (let at : restorer_word k ≡ first_action_word + (4 * k + 2) = omega arith in ap (slice_index words) at ∙ action_start image words (4 * k + 2) s (omega arith));
   shown = λ k l above. (let none = action_start image words (4 * k) s (omega arith) in absurd (omega arith));
 }
 

@@ -2,7 +2,7 @@
 use Rattle.std.specs.Prelude.{◌≡◌, ◌≢◌, ℕ, ◌+◌, ◌-◌, ◌*◌, ◌<◌, ◌≤◌, ◌⊎◌, List, length, slice_index}
 use Rattle.cet_words.specs.Entries.{entry_of}
 use Rattle.cet_words.specs.Job.{ImageData}
-use Rattle.cet_words.specs.Layout.{exit_word, entry_word, token, token_word, first_entry_word, first_kernel_page, first_kernel_word, first_mmap_page, first_shadow_page, first_shadow_word, page_count, shadow_start, word_count}
+use Rattle.cet_words.specs.Layout.{exit_word, entry_word, token, token_word, first_entry_word, first_kernel_page, first_kernel_word, first_mmap_page, first_shadow_page, first_shadow_word, page_count, shadow_start, word_count, first_action_word}
 use Rattle.cet_book.specs.Facts.{In, LiesIn, Place, IsParkedAt, Returns, Stack}
 use Rattle.cet_book.specs.declared.entries.Holder.{Holder}
 use Rattle.cet_book.specs.declared.entries.Holder.TheVariants.{Maker, Current, Parked, Left, Lost}
@@ -31,7 +31,7 @@ Gates words b = (k : ℕ) → k < 8 → slice_index words (token_word k) ≡ tok
 
 -- a word of no signal
 abbrev pub NoAction : (word : ℕ) → Type 0
-NoAction word = (word < 1605696) ⊎ (1605952 ≤ word)
+NoAction word = (word < first_action_word) ⊎ (first_action_word + 256 ≤ word)
 
 -- the region is being made
 abbrev pub IsMaker : Holder → Type 0

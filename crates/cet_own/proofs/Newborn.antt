@@ -18,6 +18,7 @@ use Rattle.cet_own.proofs.Rows.{row_claim}
 use Rattle.cet_own.proofs.Standing.{stacked, AtRest}
 use Rattle.cet_own.specs.Stands.{HasMade}
 use Rattle.cet_own.proofs.Threads.{ThreadStands}
+use Rattle.cet_words.specs.Layout.{thread_region_size}
 
 -- thread x is new: it has made no access and no record, and has number y
 pub record IsNewborn (job : JobData) (next : State) (y : ℕ) (x : Thread) : Type 0 where
@@ -36,10 +37,10 @@ module _ {t child s start : ℕ} {b : Book} (shape : Shape b) (h : Bears t child
   born_free : Free child bore
   born_free k e = h.none.free k e
 
-  born_rest : AtRest child bore (start + 32768)
+  born_rest : AtRest child bore (start + thread_region_size)
   born_rest =
       let sound = born_shape making child h.none.regions in
-      record { stacked = stacked child bore (start + 32768) sound (subst (AtTop child bore) h.last (born_top making child sound)); free = born_free }
+      record { stacked = stacked child bore (start + thread_region_size) sound (subst (AtTop child bore) h.last (born_top making child sound)); free = born_free }
 
   born_made : HasMade start bore
   born_made =
@@ -59,7 +60,7 @@ module _ {t child s start : ℕ} {b : Book} (shape : Shape b) (h : Bears t child
         waits = w;
         number = refl;
         before = next;
-        left = row_claim job j (unheld (child_arch arch child start)) next next w.state.made (subst (λ n. AtRest child n (start + 32768)) is born_rest);
+        left = row_claim job j (unheld (child_arch arch child start)) next next w.state.made (subst (λ n. AtRest child n (start + thread_region_size)) is born_rest);
       },
     );
     trail = refl;

@@ -7,7 +7,7 @@ use Rattle.std.proofs.lemmas.Bool.{cases_lt, false≢true}
 use Rattle.std.proofs.lemmas.Bool.Decides.{nat_tests}
 use Rattle.cet_words.specs.Entries.{entry_of, entry_with, no_execute}
 use Rattle.cet_words.specs.Job.{ImageData}
-use Rattle.cet_words.specs.Layout.{page_at, word_in, first_kernel_page, first_region_start, first_shadow_page, shadow_end, shadow_start}
+use Rattle.cet_words.specs.Layout.{page_at, word_in, first_kernel_page, first_region_start, first_shadow_page, shadow_end, shadow_start, last_region_end}
 use Rattle.cet_book.specs.Book.{Book, region, top}
 use Rattle.cet_book.specs.Shape.{Shape}
 use Rattle.cet_book.specs.Stack.{slot}
@@ -76,10 +76,10 @@ shadow_page addr low high = grind (arith, nat_tests)
 pub shadow_slot : (addr : ℕ) → shadow_start ≤ addr → addr < shadow_end → word_in (first_shadow_page + (addr - shadow_start) / 4096) addr ≡ slot addr
 shadow_slot addr low high = omega arith
 
-pub below_is : (ssp : ℕ) → first_region_start ≤ ssp → ssp ≤ 0x2003ff000 → sub64 ssp 8 ≡ ssp - 8
+pub below_is : (ssp : ℕ) → first_region_start ≤ ssp → ssp ≤ last_region_end → sub64 ssp 8 ≡ ssp - 8
 below_is ssp low high = omega arith
 
-pub above_is : (ssp : ℕ) → ssp ≤ 0x2003ff000 → add64 ssp 8 ≡ ssp + 8
+pub above_is : (ssp : ℕ) → ssp ≤ last_region_end → add64 ssp 8 ≡ ssp + 8
 above_is ssp high = omega arith
 
 -- an address of a page that lies in a region

@@ -1,6 +1,6 @@
 -- Where a thread stands on its shadow stack, and that other threads leave it there. Source: own.
 use Rattle.std.proofs.Common.{ℕ, ◌≤◌, length, ◌∙◌, arith}
-use Rattle.cet_words.specs.Layout.{first_region_start}
+use Rattle.cet_words.specs.Layout.{first_region_start, last_region_end}
 use Rattle.cet_book.specs.Book.{Book, current_of}
 use Rattle.cet_book.specs.Shape.{Shape}
 use Rattle.cet_book.proofs.Relies.{Relies}
@@ -12,7 +12,7 @@ use Rattle.cet_book.proofs.Held.{Free}
 pub record Stacked (t : ℕ) (b : Book) (ssp : ℕ) : Type 0 where
   pub top : AtTop t b ssp
   pub low : first_region_start ≤ ssp
-  pub high : ssp ≤ 0x2003ff000
+  pub high : ssp ≤ last_region_end
 
 -- so it is between instructions
 pub record AtRest (t : ℕ) (b : Book) (ssp : ℕ) : Type 0 where

@@ -4,7 +4,7 @@ use Rattle.std.specs.Prelude.{◌≡◌, ◌≢◌, ℕ, ◌+◌, ◌-◌, ◌*�
 use Rattle.cet_words.specs.Entries.{entry_of}
 use Rattle.cet_words.specs.Bytes.{code_byte}
 use Rattle.cet_words.specs.Job.{JobData, ImageData}
-use Rattle.cet_words.specs.Layout.{entry_word, token, token_word, action_word, first_kernel_page, first_mmap_page, first_shadow_page, page_count, shadow_start}
+use Rattle.cet_words.specs.Layout.{entry_word, token, token_word, action_word, first_kernel_page, first_mmap_page, first_shadow_page, page_count, shadow_start, thread_region_size}
 use Rattle.cet_book.specs.declared.entries.Holder.TheVariants.{Maker}
 use Rattle.cet_book.specs.Book.{Book, region, top, stack_of}
 use Rattle.cet_book.specs.Facts.{Bounds, In, Place, LiesIn, Owns, Stack, is_left, one, links, Returns}
@@ -91,7 +91,7 @@ pub record HasMade (made : ℕ) (b : Book) : Type 0 where
   pub number : ℕ
   pub there : number < length b.regions
   pub first : (region b number).start ≡ made
-  pub last : (region b number).end ≡ made + 32768
+  pub last : (region b number).end ≡ made + thread_region_size
 
 pub record AllBounds (image : ImageData) (words : List ℕ) (b : Book) : Type 0 where
   pub regions : (i : ℕ) → i < length b.regions → Bounds (region b i).start (region b i).end

@@ -1,7 +1,7 @@
 -- The shadow stacks that the records of threads tell of, and the pointers of the threads that keep theirs. Source: own.
 use Rattle.std.specs.Prelude.{ℕ, ◌+◌, ◌-◌, nat_le, if◌then◌else◌, List, [], ◌∷◌, Option, Some, None}
 use Rattle.std.specs.List.{flat_map}
-use Rattle.cet_words.specs.Layout.{first_region_end, first_region_start, page_up}
+use Rattle.cet_words.specs.Layout.{first_region_end, first_region_start, page_up, thread_region_size}
 use Rattle.cet_isa.specs.declared.threads.End.{End}
 use Rattle.cet_isa.specs.declared.threads.End.TheVariants as ending
 use Rattle.cet_isa.specs.declared.threads.Record.{Record}
@@ -14,7 +14,7 @@ use Rattle.cet_page.specs.Machine.{Thread}
 -- `born` the end of a stack of eight pages.
 abbrev pub told : Record → What → List Span
 told r what.Claim = record { start = r.a; end = r.a + page_up r.b } ∷ []
-told r what.Born = record { start = r.b - 32768; end = r.b } ∷ []
+told r what.Born = record { start = r.b - thread_region_size; end = r.b } ∷ []
 told r what.Step = []
 told r what.Call = []
 told r what.Ret = []

@@ -1,6 +1,6 @@
 -- A thread without its trace, and what one access does to it. Source: own: this is the atomic step of the machine.
 use Rattle.std.specs.Prelude.{ℕ, ◌+◌, List, [], ◌∷◌, Option, Some, None, ◌==◌, if◌then◌else◌, slice_index, slice_set}
-use Rattle.cet_words.specs.Layout.{first_region_end, first_region_start}
+use Rattle.cet_words.specs.Layout.{first_region_end, first_region_start, thread_region_size}
 use Rattle.cet_words.specs.Job.{JobData}
 use Rattle.cet_words.specs.declared.accesses.Access.{Access}
 use Rattle.cet_isa.specs.declared.threads.Fault.{Fault}
@@ -91,7 +91,7 @@ abbrev pub child_arch : Arch → (child start : ℕ) → Arch
 child_arch arch child start = record arch {
   regs = slice_set (slice_set (slice_set (slice_set arch.regs 1 (after_syscall arch)) 11 arch.flags) 0 0) 4 (slice_index arch.regs 6);
   rip = after_syscall arch;
-  ssp = start + 32768;
+  ssp = start + thread_region_size;
   count = 0;
   posted = 0;
   number = child;

@@ -1,6 +1,6 @@
 -- What rows come to. Source: own.
 use Rattle.std.specs.Prelude.{◌≡◌, ℕ, ◌+◌, ◌%◌, ◌≤◌, slice_index}
-use Rattle.cet_words.specs.Layout.{shadow_end, shadow_start}
+use Rattle.cet_words.specs.Layout.{shadow_end, shadow_start, thread_region_size}
 use Rattle.cet_isa.specs.declared.threads.Arch.{Arch}
 use Rattle.cet_isa.specs.declared.threads.Record.{Record}
 use Rattle.cet_page.specs.declared.finishes.Finish.{Finish}
@@ -31,5 +31,5 @@ counted arch = record arch { count = arch.count + 1 }
 -- the start of eight whole pages of the shadow area
 pub record IsMade (made : ℕ) : Type 0 where
   pub low : shadow_start ≤ made
-  pub high : made + 32768 ≤ shadow_end
+  pub high : made + thread_region_size ≤ shadow_end
   pub whole : made % 4096 ≡ 0

@@ -1,6 +1,6 @@
 -- What a function over a cursor comes to is what a script comes to. Source: own.
 use Rattle.std.specs.Prelude.{◌≡◌, ℕ, List, Option, Some, None, Result, Ok, Err, ◌==◌, nat_lt, if◌then◌else◌}
-use Rattle.cet_words.specs.Layout.{token}
+use Rattle.cet_words.specs.Layout.{token, thread_limit}
 use Rattle.cet_words.specs.Change.{Change}
 use Rattle.cet_words.specs.declared.accesses.Access.{Access}
 use Rattle.cet_isa.specs.declared.threads.Arch.{Arch}
@@ -27,7 +27,7 @@ abbrev pub birth_by : Mark → (answer : ℕ) → Option (ℕ × ℕ)
 birth_by marks.Plain answer = None
 birth_by (marks.Takes k) answer = None
 birth_by marks.Gives answer = None
-birth_by (marks.Bears start) answer = if nat_lt answer 32 then Some (answer, start) else None
+birth_by (marks.Bears start) answer = if nat_lt answer thread_limit then Some (answer, start) else None
 
 -- the mark tells what the changes do to the supervisor stack that is held, and who is born
 abbrev pub Marks : Mark → (ℕ → List Change) → Type 0

@@ -10,10 +10,11 @@ use Rattle.cet_page.specs.ValsData.{no_vals}
 use Rattle.cet_page.specs.Finish.{IsMade}
 use Rattle.cet_page.specs.Core.{Core, row_played}
 use Rattle.cet_page.specs.Trail.{vals_of, trail_of}
+use Rattle.cet_words.specs.Layout.{thread_limit}
 
 -- the thread has a number, and eight pages that the kernel made for it
 pub record IsState (arch : Arch) : Type 0 where
-  pub number : arch.number < 32
+  pub number : arch.number < thread_limit
   pub made : IsMade arch.made
 
 -- the thread is below the limit, and its row waits for the answer to an access after those that it has seen

@@ -4,6 +4,7 @@ ghost use Rattle.std.specs.Prelude.{◌≡◌, ◌<◌, ◌≤◌, length, map, 
 ghost use Rattle.cet_own.specs.ExitWord.{IsExitWord};
 ghost use Rattle.cet_top.specs.TracedThreads.{threads_of};
 ghost use Rattle.cet_top.specs.Outcome.{first_limit, first_status, process_end, thread_out, status_in, ended_by};
+ghost use Rattle.cet_words.specs.Layout.{thread_limit};
 
 use crate::outcomes::{ProcessEnd, ThreadOut, ThreadOuts};
 use crate::traced_threads::TracedThread;
@@ -42,7 +43,7 @@ fn first_status(outs: &[ThreadOut]) -> u8
 #[tactic(auto, unfolding(crate::specs::Outcome::process_end))]
 pub(crate) fn process_end(exit: u64, outs: &[ThreadOut]) -> ProcessEnd
     requires word { IsExitWord exit }
-    requires few { length outs.now ≤ 32 }
+    requires few { length outs.now ≤ thread_limit }
     ensures { result ≡ process_end exit outs.now }
 {
     if exit == 0 {

@@ -2,7 +2,7 @@
 
 ghost use Rattle.std.specs.Prelude.{◌≡◌, ◌≤◌, length, slice_index, IfOk};
 ghost use Rattle.cet_words.specs.Job.{ImageData};
-ghost use Rattle.cet_words.specs.Layout.{exit_word};
+ghost use Rattle.cet_words.specs.Layout.{exit_word, thread_limit};
 ghost use Rattle.cet_book.specs.Book.{Book};
 ghost use Rattle.cet_book.specs.View.{IsReadable};
 ghost use Rattle.cet_page.specs.Machine.{Starts, machine};
@@ -30,7 +30,7 @@ fn read_outcome<P: Perform>(
     all_traced: Vec<TracedThread>,
 ) -> Result<Outcome, NoMemory>
     requires readable { IsReadable (told_spans (threads_of all_traced.items)) (kept_pointers (threads_of all_traced.items)) }
-    requires few { length all_traced.items ≤ 32 }
+    requires few { length all_traced.items ≤ thread_limit }
     requires word { IsExitWord (slice_index (P.words words.old) exit_word) }
     ensures { IfOk result (λ outcome. (image : ImageData) (b : Book) → TellsBook image (P.words words.old) (threads_of all_traced.items) b → outcome ≡ outcome_of (machine (P.words words.old) (threads_of all_traced.items)) b) }
 {

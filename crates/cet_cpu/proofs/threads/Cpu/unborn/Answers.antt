@@ -14,5 +14,5 @@ child_at-requires c =
     let next : c.args.self.now.next ≡ Some (c.in_ok-mark.field-0-0, marks.Bears c.in-Bears.start) =
     sym (ap (λ (v : CpuData). v.next) c.self.view_is) ∙ c.in_ok-mark.was ∙ ap {B = Option (Access × Mark)} (λ (m : Mark). Some (c.in_ok-mark.field-0-0, m)) c.in-Bears.is in
     let wanted = subst (λ (o : Option (Access × Mark)). IfSome o (IsWanted job core)) next c.requires.state.wanted in
-    let made : IsMade c.in-Bears.start = bears_made job core c.in_ok-mark.field-0-0 c.in-Bears.start c.args.answer c.requires.state.state c.requires.going c.if-answer-ge32.false wanted in
+    let made : IsMade c.in-Bears.start = bears_made job core c.in_ok-mark.field-0-0 c.in-Bears.start c.args.answer c.requires.state.state c.requires.going c.if-answer-ge-THREAD_LIMIT.false wanted in
     omega arith
