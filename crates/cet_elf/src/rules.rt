@@ -1,6 +1,6 @@
 //! The rules of a file that is loaded, and where a file breaks each of them.
 
-ghost use Rattle.std.specs.Prelude.{◌≡◌, ◌≤◌, ◌+◌, ◌*◌, not, nat_le};
+ghost use Rattle.std.specs.Prelude.{◌≡◌, ◌≤◌, ◌+◌, ◌*◌, Bool, not, nat_le};
 ghost use Rattle.std.specs.List.{list_any};
 ghost use Rattle.cet_elf.specs.Rules.{unless, wrong_byte, magic_breach, class_breach, table_breach, file_breaches, header_breach, is_interpreter, load_breach, is_filled, is_placed, is_aligned, is_guarded, ends_before, shares_page, precedes, is_apart, has_entry, header_breaches};
 
@@ -83,20 +83,23 @@ fn interpreter_breach(headers: &[ProgramHeader]) -> Option<u64>
     broken.map(|header| header.place)
 }
 
+/// The place of the first PT_LOAD header that fails a test.
+fn load_breach<F: Fn(&ProgramHeader) -> bool>(headers: &[ProgramHeader], holds: F) -> Option<u64>
+    requires { F.IsAlwaysCallable holds }
+    ensures { (test : _ → Bool) → ((h : _) (r : _) → F.post holds h r → r ≡ test h.now) → result ≡ load_breach test headers.now }
+{
+    let broken = headers
+        .iter()
+        .find(|header| is_load(header) && !holds(header));
+    broken.map(|header| header.place)
+}
+
 fn is_filled(size: u64, header: &ProgramHeader) -> bool
     ensures { result ≡ is_filled size header.now }
 {
     header.offset <= size
         && header.file_size <= size - header.offset
         && header.file_size <= header.memory_size
-}
-
-fn filled_breach(size: u64, headers: &[ProgramHeader]) -> Option<u64>
-    ensures { result ≡ load_breach (is_filled size) headers.now }
-{
-    let mut all = headers.iter();
-    let broken = all.find(|header| is_load(header) && !is_filled(size, header));
-    broken.map(|header| header.place)
 }
 
 fn is_placed(header: &ProgramHeader) -> bool
@@ -107,40 +110,16 @@ fn is_placed(header: &ProgramHeader) -> bool
         && header.memory_size <= IMAGE_END - header.address
 }
 
-fn placed_breach(headers: &[ProgramHeader]) -> Option<u64>
-    ensures { result ≡ load_breach is_placed headers.now }
-{
-    let mut all = headers.iter();
-    let broken = all.find(|header| is_load(header) && !is_placed(header));
-    broken.map(|header| header.place)
-}
-
 fn is_aligned(header: &ProgramHeader) -> bool
     ensures { result ≡ is_aligned header.now }
 {
     header.offset % 4096 == header.address % 4096
 }
 
-fn aligned_breach(headers: &[ProgramHeader]) -> Option<u64>
-    ensures { result ≡ load_breach is_aligned headers.now }
-{
-    let mut all = headers.iter();
-    let broken = all.find(|header| is_load(header) && !is_aligned(header));
-    broken.map(|header| header.place)
-}
-
 fn is_guarded(header: &ProgramHeader) -> bool
     ensures { result ≡ is_guarded header.now }
 {
     !(is_writable(header) && is_executable(header))
-}
-
-fn guarded_breach(headers: &[ProgramHeader]) -> Option<u64>
-    ensures { result ≡ load_breach is_guarded headers.now }
-{
-    let mut all = headers.iter();
-    let broken = all.find(|header| is_load(header) && !is_guarded(header));
-    broken.map(|header| header.place)
 }
 
 /// Whether a segment that has bytes ends before the page in which another begins.
@@ -183,14 +162,6 @@ fn is_apart(headers: &[ProgramHeader], header: &ProgramHeader) -> bool
     !has_neighbour(headers, header)
 }
 
-fn apart_breach(headers: &[ProgramHeader]) -> Option<u64>
-    ensures { result ≡ load_breach (is_apart headers.now) headers.now }
-{
-    let mut all = headers.iter();
-    let broken = all.find(|header| is_load(header) && !is_apart(headers, header));
-    broken.map(|header| header.place)
-}
-
 /// Whether an address is in an executable segment.
 fn has_entry(addr: u64, header: &ProgramHeader) -> bool
     ensures { result ≡ has_entry addr header.now }
@@ -224,11 +195,11 @@ pub(crate) fn header_breaches(
 {
     [
         interpreter_breach(headers),
-        filled_breach(bytes.len() as u64, headers),
-        placed_breach(headers),
-        aligned_breach(headers),
-        guarded_breach(headers),
-        apart_breach(headers),
+        load_breach(headers, |header| is_filled(bytes.len() as u64, header)),
+        load_breach(headers, is_placed),
+        load_breach(headers, is_aligned),
+        load_breach(headers, is_guarded),
+        load_breach(headers, |header| is_apart(headers, header)),
         entry_breach(xword(bytes, 24), headers),
         unless(has_stacks(features), 0),
     ]
