@@ -14,7 +14,7 @@ pub mod Changes
 pub mod Kept
 pub mod Edited
 pub mod Comes
-pub mod LostStays
+pub mod UnusedStays
 pub mod Held
 pub mod Ways
 pub mod Top

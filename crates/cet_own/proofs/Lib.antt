@@ -6,6 +6,7 @@ pub mod Writes
 pub mod Marks
 pub mod Kept
 pub mod Own
+pub mod ClaimStays
 pub mod Still
 pub mod Counters
 pub mod Views

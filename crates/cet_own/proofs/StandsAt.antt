@@ -80,6 +80,7 @@ module _ (job : JobData) (m : Machine) (s : State) (st : Invariant job m s) wher
     supervisor_tokens = st.holds.gates;
     restorers = st.holds.restorers;
     row_steady = λ t thread e. (st.still t thread e).word;
+    row_claimed = λ t thread e. (st.still t thread e).claimed;
     counters = record { drawn = st.holds.marks.drawn; least = st.paid.least; number = st.paid.number };
     made = st.made;
     bounds = all_bounds;

@@ -14,14 +14,17 @@ use Rattle.cet_book.specs.Shape.{IsBook}
 use Rattle.cet_book.proofs.Kept.{NoneBorn}
 use Rattle.cet_own.proofs.Writes.{in_there}
 use Rattle.cet_page.specs.Trail.{Visit, visit}
-use Rattle.cet_own.specs.Past.{is_taking, touches, leaves_word, takes_any, left_in, restorer_word, shows_restorer, has_restorer}
+use Rattle.cet_own.specs.Past.{is_taking, touches, leaves_word, takes_any, left_in, restorer_word, shows_restorer, has_restorer, claimed_in}
 use Rattle.cet_book.proofs.Cases.{and_true}
 use Rattle.cet_book.proofs.Comes.{Comes, TakesNothing, AllApart, changes_come}
-use Rattle.cet_own.specs.Stands.{Restorers, IsOwnPlace, OwnWord, below_token, own_slot}
+use Rattle.cet_own.specs.Stands.{HasClaimed, Restorers, IsOwnPlace, OwnWord, below_token, own_slot}
+use Rattle.cet_own.proofs.ClaimStays.{claim_own}
 
 pub record Still (words : List ℕ) (t : ℕ) (b : Book) (past : List Visit) : Type 0 where
   pub word : (w x : ℕ) → OwnWord t b w → left_in past w ≡ Some x → slice_index words w ≡ x
   pub restorer : (s : ℕ) → s < 64 → has_restorer past s ≡ true → slice_index words (restorer_word s) ≢ 0
+  -- and the stack that it has claimed
+  pub claimed : HasClaimed t (claimed_in past) b
 
 pub word_there : (t : ℕ) (b : Book) (w : ℕ) → OwnWord t b w → w < word_count
 word_there t b w (own_slot addr p o e) = let low = p.low in let high = p.high in omega arith
@@ -29,7 +32,7 @@ word_there t b w (below_token k l h e) = omega arith
 
 -- a row without accesses
 pub still_none : (words : List ℕ) (t : ℕ) (b : Book) → Still words t b []
-still_none words t b = record { word = λ w x o e. cc; restorer = λ s l e. absurd (false≢true e) }
+still_none words t b = record { word = λ w x o e. cc; restorer = λ s l e. absurd (false≢true e); claimed = tt }
 
 -- ---- what is a thread's own was so before
 
@@ -142,12 +145,14 @@ still_own words t b next past a cs size signals restorers book none q h = record
   word = λ w x own e.
       own_word words t b past a w x (takes_any cs) size
       (λ f. own_word_before t b next w (changes_come t t cs b next book q none (nothing_taken t cs f)) own) h e;
+  claimed = claim_own t cs b next (claimed_in past) book q h.claimed;
 }
 
 -- ---- after another thread's
 
-pub still_kept : (words : List ℕ) (y : ℕ) (b next : Book) (past : List Visit) (a : Access) → Comes y b next → ((w : ℕ) → OwnWord y b w → slice_index (after words a) w ≡ slice_index words w) → KeepsRestorers words (after words a) → Still words y b past → Still (after words a) y next past
-still_kept words y b next past a c spares restorers h = record {
+pub still_kept : (words : List ℕ) (y : ℕ) (b next : Book) (past : List Visit) (a : Access) → Comes y b next → ((w : ℕ) → OwnWord y b w → slice_index (after words a) w ≡ slice_index words w) → KeepsRestorers words (after words a) → (HasClaimed y (claimed_in past) b → HasClaimed y (claimed_in past) next) → Still words y b past → Still (after words a) y next past
+still_kept words y b next past a c spares restorers claims h = record {
+  claimed = claims h.claimed;
   restorer = λ s l e. restorers s l (h.restorer s l e);
   word = λ w x own e.
       let own' = own_word_before y b next w c own in

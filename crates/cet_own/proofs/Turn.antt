@@ -26,7 +26,8 @@ use Rattle.cet_page.proofs.WithinLaws.{taken_is}
 use Rattle.cet_own.specs.Safe.{NotedReturns}
 use Rattle.cet_own.specs.Restores.{NotedRestores}
 use Rattle.cet_page.specs.Trail.{Visit, visit, row_trail, trail_of}
-use Rattle.cet_own.specs.Past.{draw_word, next_word, drew, is_draw, numbered, is_number}
+use Rattle.cet_own.specs.Past.{claimed_in, draw_word, next_word, drew, is_draw, numbered, is_number}
+use Rattle.cet_own.proofs.ClaimStays.{claim_stays}
 use Rattle.cet_book.proofs.Comes.{changes_come, other_apart}
 use Rattle.cet_own.proofs.Still.{Still, still_own, still_kept}
 use Rattle.cet_own.proofs.Frame.{goes, on_came, OnCame}
@@ -141,7 +142,7 @@ led_wants job j words s core a own few h still held r w is_core =
       spared = λ y n none past old.
           still_kept words y s.book g.next.book past a
           (changes_come core.arch.number y changes s.book g.next.book h.sound.book is none (other_apart core.arch.number y changes n))
-          (λ w own. g.owed.spares words refl h y n w own) (g.owed.restorers words refl h) old;
+          (λ w own. g.owed.spares words refl h y n w own) (g.owed.restorers words refl h) (claim_stays core.arch.number y changes s.book g.next.book (claimed_in past) h.sound.book n is) old;
       held = subst (Held core.arch.number g.next.book)
           (sym (held_by job core.arch holding (vals_by core words a) (come_to job core words a)))
           (changes_held core.arch.number changes s.book g.next.book core.arch.held h.sound.book is held);

@@ -2,7 +2,7 @@
 -- Source: own.
 use Rattle.std.specs.Prelude.{ℕ, ◌+◌, ◌-◌, ◌*◌, ◌%◌, ◌^◌, Bool, true, false, ◌||◌, ◌&&◌, nat_lt, ◌==◌, if◌then◌else◌, bit_or, bit_and, List, [], ◌∷◌, Option, Some, None}
 use Rattle.cet_words.specs.Layout.{action_word, draw_shadow_word, next_thread_word}
-use Rattle.cet_words.specs.Change.{Change, Acquired, Pushed, Busied}
+use Rattle.cet_words.specs.Change.{Change, Acquired, Claimed, Seeded, Born, Pushed, Busied}
 use Rattle.cet_words.specs.Job.{JobData}
 use Rattle.cet_words.specs.declared.accesses.Access.{Access}
 use Rattle.cet_words.specs.declared.accesses.Access.TheVariants as access
@@ -116,3 +116,26 @@ is_number a = false
 abbrev pub numbered : List Visit → Bool
 numbered [] = false
 numbered (x ∷ past) = is_number x.access || numbered past
+
+-- ---- the shadow stack that the row has claimed
+
+-- from its claim on, until its token is stored or a thread comes onto it
+pub record NewStack : Type 0 where
+  pub start : ℕ
+  pub pages : ℕ
+  -- it gets a token or a thread, or else it stays without
+  pub making : Bool
+
+abbrev pub claimed_by : Change → Option NewStack → Option NewStack
+claimed_by (Claimed start pages maker) o = Some (record { start = start; pages = pages; making = maker })
+claimed_by (Seeded start blanks) o = None
+claimed_by (Born child start) o = None
+claimed_by c o = o
+
+abbrev pub claimed_after : List Change → Option NewStack → Option NewStack
+claimed_after [] o = o
+claimed_after (c ∷ cs) o = claimed_after cs (claimed_by c o)
+
+abbrev pub claimed_in : List Visit → Option NewStack
+claimed_in [] = None
+claimed_in (x ∷ past) = claimed_after x.changes (claimed_in past)

@@ -1,11 +1,11 @@
 -- The ownership invariant: what holds of words, threads and book at each moment of each run. It is the only definition that
 -- has both words and lists. Source: own.
-use Rattle.std.specs.Prelude.{◌≡◌, ◌≢◌, ℕ, ◌+◌, ◌-◌, ◌*◌, ◌<◌, ◌≤◌, ◌⊎◌, ◌↔◌, true, List, [], length, slice_index, slice_get, sum_by, min, bit_or, Option, Some, None}
+use Rattle.std.specs.Prelude.{◌≡◌, ◌≢◌, ℕ, ◌+◌, ◌-◌, ◌*◌, ◌<◌, ◌≤◌, ◌⊎◌, ◌↔◌, true, List, [], length, slice_index, slice_get, sum_by, min, bit_or, if◌then◌else◌, Option, Some, None}
 use Rattle.cet_words.specs.Entries.{entry_of}
 use Rattle.cet_words.specs.Bytes.{code_byte}
 use Rattle.cet_words.specs.Job.{JobData, ImageData}
 use Rattle.cet_words.specs.Layout.{entry_word, token, token_word, action_word, first_kernel_page, first_mmap_page, first_shadow_page, page_count, shadow_start, thread_region_size}
-use Rattle.cet_book.specs.declared.entries.Holder.TheVariants.{Maker}
+use Rattle.cet_book.specs.declared.entries.Holder.TheVariants.{Lost, Maker}
 use Rattle.cet_book.specs.Book.{Book, region, top, stack_of}
 use Rattle.cet_book.specs.Facts.{Bounds, In, Place, LiesIn, Owns, Stack, is_left, one, links, Returns}
 use Rattle.cet_book.specs.Stack.{slot, slot_word, tops}
@@ -13,7 +13,7 @@ use Rattle.cet_page.specs.Core.{Core}
 use Rattle.cet_page.specs.Machine.{Machine, Thread}
 use Rattle.cet_page.specs.Trail.{trail_of}
 use Rattle.cet_page.specs.Within.{IsCore}
-use Rattle.cet_own.specs.Past.{left_in, restorer_word, has_restorer, draw_word, next_word, drew, numbered}
+use Rattle.cet_own.specs.Past.{left_in, restorer_word, has_restorer, draw_word, next_word, drew, numbered, NewStack, claimed_in}
 use Rattle.cet_own.specs.Restores.{IsToken}
 use Rattle.cet_own.specs.Safe.{IsSafeAt}
 
@@ -44,6 +44,18 @@ pub record IsOwnPlace (t : ℕ) (b : Book) (addr : ℕ) : Type 0 where
 pub data OwnWord (t : ℕ) (b : Book) (word : ℕ) : Type 0 where
   own_slot : (addr : ℕ) → Place addr → IsOwnPlace t b addr → word ≡ slot addr → OwnWord t b word
   below_token : (k : ℕ) → k < 8 → stack_of b k ≡ Some t → word ≡ token_word k - 1 → OwnWord t b word
+
+-- a region of the book that the thread makes, or that nobody has
+pub record IsClaimed (t : ℕ) (c : NewStack) (b : Book) : Type 0 where
+  pub number : ℕ
+  pub there : number < length b.regions
+  pub first : (region b number).start ≡ c.start
+  pub last : (region b number).end ≡ c.start + 4096 * c.pages
+  pub holder : (region b number).holder ≡ (if c.making then Maker t else Lost)
+
+abbrev pub HasClaimed : ℕ → Option NewStack → Book → Type 0
+HasClaimed t None b = Unit {0}
+HasClaimed t (Some c) b = IsClaimed t c b
 
 -- ---- signals
 
@@ -125,6 +137,8 @@ pub record Stands (job : JobData) (m : Machine) (b : Book) : Type 0 where
   pub restorers : Restorers job.image m.words
   -- what a row has read or written in a word of its thread's own is still there
   pub row_steady : (t : ℕ) (thread : Thread) → slice_get m.threads t ≡ Some thread → (word x : ℕ) → OwnWord t b word → left_in (trail_of job thread.core) word ≡ Some x → slice_index m.words word ≡ x
+  -- the stack that it has claimed is in the book, and nobody else's
+  pub row_claimed : (t : ℕ) (thread : Thread) → slice_get m.threads t ≡ Some thread → HasClaimed t (claimed_in (trail_of job thread.core)) b
   pub counters : Counters m.words m.threads b
   -- each thread has the start of a region of eight pages
   pub made : (t : ℕ) (thread : Thread) → slice_get m.threads t ≡ Some thread → HasMade thread.core.arch.made b
