@@ -16,6 +16,8 @@ pub mod Recorded
 pub mod ToldLaws
 pub mod Covered
 pub mod CoveredRun
+pub mod TokenWords
+pub mod Fits
 pub mod Owed
 pub mod ClassLaws
 pub mod Classes
