@@ -16,6 +16,7 @@ pub mod Recorded
 pub mod ToldLaws
 pub mod Covered
 pub mod CoveredRun
+pub mod ClassRun
 pub mod TokenWords
 pub mod Fits
 pub mod Owed

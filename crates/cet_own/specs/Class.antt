@@ -1,15 +1,17 @@
 -- The classes of accesses, by what an access can do to the book of shadow stacks, and what each may change there. Source: own.
-use Rattle.std.specs.Prelude.{◌≡◌, ℕ, ◌+◌, ◌-◌, ◌*◌, ◌%◌, ◌^◌, Bool, true, false, not, ◌&&◌, ◌||◌, ◌==◌, nat_lt, nat_le, if◌then◌else◌, List, [], ◌∷◌, Option, Some, is_some}
+use Rattle.std.specs.Prelude.{◌≡◌, ℕ, ◌+◌, ◌-◌, ◌*◌, ◌%◌, ◌^◌, Bool, true, false, not, ◌&&◌, ◌||◌, ◌==◌, nat_lt, nat_le, if◌then◌else◌, List, [], ◌∷◌, Option, Some, is_some, slice_get}
 use Rattle.cet_words.specs.Change.{Change, Called, Returned, Raised, Acquired, Released, Claimed, Seeded, Born, Pushed, Popped, Ended, Busied, Freed}
-use Rattle.cet_words.specs.Job.{JobData}
+use Rattle.cet_words.specs.Access.{answer}
+use Rattle.cet_words.specs.Job.{JobData, IsJob}
 use Rattle.cet_words.specs.Layout.{within, shadow_start, first_shadow_page, first_kernel_page, first_shadow_word, first_kernel_word, next_thread_word, draw_shadow_word, token_word}
 use Rattle.cet_words.specs.declared.accesses.Access.{Access}
 use Rattle.cet_words.specs.declared.accesses.Access.TheVariants as access
 use Rattle.cet_isa.specs.declared.threads.Arch.{Arch}
 use Rattle.cet_book.specs.Book.{Book, books_after}
-use Rattle.cet_page.specs.Machine.{Machine, step}
+use Rattle.cet_page.specs.Core.{next_access}
+use Rattle.cet_page.specs.Machine.{Machine, Thread, Starts, run, step}
 use Rattle.cet_page.specs.Tokens.{restore_token}
-use Rattle.cet_own.specs.Event.{turn_changes}
+use Rattle.cet_own.specs.Event.{turn_changes, book_of}
 use Rattle.cet_own.specs.Stands.{Stands}
 use Rattle.cet_own.specs.declared.access_classes.Class.{Class}
 use Rattle.cet_own.specs.declared.access_classes.Class.TheVariants as class
@@ -109,3 +111,9 @@ pub record Keeps (c : Class) (job : JobData) (m : Machine) (b : Book) (t : ℕ) 
   pub next : Book
   pub is : books_after t b (turn_changes job m t) ≡ Some next
   pub stands : Stands job (step job m t) next
+
+-- In every run of every job there is a book, and an access of this class, wherever a thread in this state makes it next and
+-- gets this answer, keeps it so.
+abbrev pub HasClass : Class → Access → Arch → (value : ℕ) → Type 0
+HasClass c a arch value =
+    (job : JobData) (start : Machine) (turns : List ℕ) (t : ℕ) (thread : Thread) → IsJob job → Starts job start → slice_get (run job start turns).threads t ≡ Some thread → thread.core.arch ≡ arch → next_access job thread.core ≡ Some a → answer (run job start turns).words a ≡ value → (b : Book) × (book_of job start turns ≡ Some b) × Keeps c job (run job start turns) b t

@@ -8,14 +8,7 @@ use cet_words::{
 };
 
 ghost use Rattle.std.specs.Prelude.{◌≡◌, IsTrue};
-ghost use Rattle.cet_words.specs.Access.{InRange, answer};
-ghost use Rattle.cet_words.specs.Job.{JobData, IsJob};
-ghost use Rattle.cet_words.specs.Layout.{word_count};
-ghost use Rattle.cet_book.specs.Book.{Book};
-ghost use Rattle.cet_page.specs.Core.{next_access};
-ghost use Rattle.cet_page.specs.Machine.{Machine, Thread, Starts, run};
-ghost use Rattle.cet_own.specs.Class.{Keeps, address_of, class_by, draws_number, draws_pages, exchanges_token, finds_word, is_shadow_word, is_supervisor_token, reads_stack, stores_below, stores_token};
-ghost use Rattle.cet_own.specs.Event.{book_of};
+ghost use Rattle.cet_own.specs.Class.{HasClass, address_of, class_by, draws_number, draws_pages, exchanges_token, finds_word, is_shadow_word, is_supervisor_token, reads_stack, stores_below, stores_token};
 
 /// What an access can do to the book of shadow stacks.
 #[derive(Clone, Copy, Debug, PartialEq, Eq)]
@@ -125,9 +118,9 @@ fn reads_stack(access: &Access, ssp: u64) -> bool
     }
 }
 
-/// The class of an access, by the thread before it and its answer.
-pub fn class_of(access: &Access, arch: &Arch, value: u64) -> Class
-    ensures class { result ≡ class_by access.now arch.now value }
+/// The first class that fits.
+fn class_in_table(access: &Access, arch: &Arch, value: u64) -> Class
+    ensures { result ≡ class_by access.now arch.now value }
 {
     let held = arch.held.is_some();
     if finds_word(access, value) {
@@ -147,4 +140,13 @@ pub fn class_of(access: &Access, arch: &Arch, value: u64) -> Class
     } else {
         Class::Neutral
     }
+}
+
+/// The class of an access, by the state of the thread before it and its answer. In every run the
+/// access changes the book of shadow stacks as its class may, and keeps the ownership invariant.
+pub fn class_of(access: &Access, arch: &Arch, value: u64) -> Class
+    ensures class { result ≡ class_by access.now arch.now value }
+    ensures laws { HasClass result access.now arch.now value }
+{
+    class_in_table(access, arch, value)
 }
