@@ -17,13 +17,16 @@ use Rattle.cet_book.proofs.Acquire.{Takes, taken_there, taken_apart, acquire_all
 use Rattle.cet_book.proofs.Ways.{acquired_way}
 use Rattle.cet_page.specs.Script.{birth}
 use Rattle.cet_page.specs.Trail.{Visit}
+use Rattle.cet_own.specs.Class.{class_at}
 use Rattle.cet_own.specs.Past.{draw_word, next_word}
+use Rattle.cet_own.specs.declared.access_classes.Class.TheVariants as class
 use Rattle.cet_own.proofs.Changed.{Spares, changed, place_spares, place_restorers}
 use Rattle.cet_own.proofs.ClassLaws.{exchange_does, exchange_fails}
 use Rattle.cet_own.proofs.Classes.{Spared, leaves_by, next_other, no_count_by, other_word, quiet}
 use Rattle.cet_own.proofs.Holds.{IsMaker, Sound, Holds}
 use Rattle.cet_own.proofs.Kept.{ending_out, restorers_out, size_kept, pages_out, pages_same, gates_out, gates_same}
 use Rattle.cet_own.proofs.Marks.{WritesAt, marks_write}
+use Rattle.cet_own.proofs.Fits.{of_class, is_acquire}
 use Rattle.cet_own.proofs.Owed.{Owed}
 use Rattle.cet_own.proofs.Writes.{in_place, list_kept, list_free, slot_same, top_even}
 
@@ -102,6 +105,8 @@ module _ {image : ImageData} {t k : ℕ} {past : List Visit} {b : Book} {a : Acc
   pub takes : (m q p : ℕ) → (region b m).holder ≡ Current t → (region b q).holder ≡ Parked → top (region b q) ≡ p + 8 → a ≡ access.CompareExchange (slot p) (p + 9) (top (region b m) + 3) → v ≡ p + 9 → changes ≡ Acquired p ∷ [] → Owed image t k past b a v changes
   takes m q p current parked at e found ev =
       changed (Acquired p) (acquire t m q b) ev tt
+      (λ words is h ssp held stands note. of_class class.Acquire (Acquired p ∷ []) ev refl
+      (ap (λ c. class_at c ssp held v) e ∙ is_acquire p ssp v held (token_place (token h.sound.book.shape)).0 (p + 9) (top (region b m) + 3) found))
       (λ words is h. let high = (token_place (token h.sound.book.shape)).0.high in no_count_by (leaves_by e (other_word (slot p) (omega arith)) (next_other (slot p) (omega arith))) (ap birth ev))
       (λ words is h. acquired_way (token h.sound.book.shape).takes p at)
       (λ words is h sound.

@@ -39,7 +39,7 @@ use Rattle.cet_own.proofs.Parts.{Claim, one_after, claim_bind, claim_cond, check
 use Rattle.cet_own.proofs.OperandParts.{read_operand_then}
 use Rattle.cet_own.proofs.Places.{page_word, shadow_slot, below_is, room_below}
 use Rattle.cet_own.specs.Past.{drew, numbered}
-use Rattle.cet_own.proofs.Progress.{progress, untouched}
+use Rattle.cet_own.proofs.Progress.{Progress, progress, untouched}
 use Rattle.cet_page.specs.Trail.{Visit}
 use Rattle.cet_own.proofs.Resting.{Resting, rest_kept, rest_stacked, rested}
 
@@ -92,7 +92,7 @@ module _ (job : JobData) (arch : Arch) where
             let sh = (book_kept arch.number (Called back) now.book (pushed now.book back) known.sound.book way).book.shape in
             let is : sub64 arch.ssp 8 ≡ arch.ssp - 8 = below_is arch.ssp low high in
             let top' = relist_top o (Call back ∷ (region now.book (current_of arch.number now.book)).entries) sh (sub64 arch.ssp 8) (omega arith) in (
-              pushes (current_of arch.number now.book) back o.current (ap (λ n. access.Store n back) (w ∙ ap (λ n. slot (n - 8)) at)) room' is_return refl,
+              pushes (current_of arch.number now.book) back o.current (ap (λ n. access.Store n back) (w ∙ ap (λ n. slot (n - 8)) at)) room' is_return (ap (λ (x : Progress). x.framed) rest'.level) refl,
               record now { book = pushed now.book back },
               one_after arch.number now (pushed now.book back) (Called back) way,
               (

@@ -24,12 +24,15 @@ use Rattle.cet_page.specs.Script.{birth}
 use Rattle.cet_page.specs.Trail.{Visit}
 use Rattle.cet_own.specs.Past.{draw_word, drew}
 use Rattle.cet_own.specs.Stands.{OwnWord, own_slot, below_token}
+use Rattle.cet_own.specs.Class.{class_at}
+use Rattle.cet_own.specs.declared.access_classes.Class.TheVariants as class
 use Rattle.cet_own.proofs.Changed.{Spares, changed}
 use Rattle.cet_own.proofs.Classes.{Spared, word_other, keeps_restorers}
 use Rattle.cet_own.proofs.Counters.{draws_pages}
 use Rattle.cet_own.proofs.Holds.{InUse, Marks, Sound, Holds}
 use Rattle.cet_own.proofs.Kept.{ending_out, restorers_out, size_kept, lists_out, pages_out, gates_out, gates_same}
 use Rattle.cet_own.proofs.Marks.{parked_place}
+use Rattle.cet_own.proofs.Fits.{of_class, none_of, is_claim}
 use Rattle.cet_own.proofs.Owed.{Owed}
 use Rattle.cet_own.proofs.Writes.{in_there, list_kept, slot_out}
 use Rattle.cet_book.proofs.Changes.{same_book}
@@ -131,6 +134,7 @@ module _ {image : ImageData} {t k : ℕ} {past : List Visit} {b : Book} {a : Acc
   pub draws : (pages : ℕ) (maker : Bool) → a ≡ access.FetchAdd draw_word (pages + 1) → 1 ≤ pages → v + pages + 1 ≤ 1023 → drew past ≡ false → changes ≡ Claimed (shadow_start + 4096 * (v + 1)) pages maker ∷ [] → Owed image t k past b a v changes
   draws pages maker e least fits once ev =
       changed (Claimed (shadow_start + 4096 * (v + 1)) pages maker) (append (claim t (shadow_start + 4096 * (v + 1)) pages maker) b) ev tt
+      (λ words is h ssp held stands note. of_class class.Claim (Claimed (shadow_start + 4096 * (v + 1)) pages maker ∷ []) ev refl (ap (λ c. class_at c ssp held v) e ∙ is_claim (pages + 1) ssp v held))
       (λ words is h. draws_pages (pages + 1) (omega arith) e once (ap birth ev))
       (λ words is h. claimed_way t (shadow_start + 4096 * (v + 1)) pages maker b (draw_can_claim b v pages (drawn words is h) least fits))
       (λ words is h sound.
@@ -155,6 +159,7 @@ module _ {image : ImageData} {t k : ℕ} {past : List Visit} {b : Book} {a : Acc
   pub overdraws : (n : ℕ) → a ≡ access.FetchAdd draw_word n → n ≤ 1023 → v + n < 2 ^ 64 → drew past ≡ false → changes ≡ [] → Owed image t k past b a v changes
   overdraws n e most few once ev = record {
     counts = λ words is h. draws_pages n most e once (ap birth ev);
+    fits = λ words is h ssp held stands note. none_of _ ev;
     keeps = λ words next is h still q. subst (Holds image (after words a)) (same_book t b next changes ev q) (does words is h).0;
     spares = λ words is h y u w own. (does words is h).1.own y w own;
     restorers = λ words is h. (does words is h).1.restorers;

@@ -15,6 +15,7 @@ use Rattle.cet_book.specs.Book.{Book, region, top, stack_of, put_stack, relist, 
 use Rattle.cet_book.proofs.Edits.{Owned}
 use Rattle.cet_book.proofs.Hand.{hand}
 use Rattle.cet_book.proofs.Removes.{Removal, returned_is}
+use Rattle.cet_book.proofs.Top.{top_is}
 use Rattle.cet_book.specs.Stack.{slot}
 use Rattle.cet_book.proofs.Ways.{with_current_at, called_way, ended_way, freed_way, busied_way}
 use Rattle.cet_own.proofs.Holds.{Sound, Holds, IsOut, NoAction}
@@ -22,15 +23,19 @@ use Rattle.cet_own.specs.Stands.{IsEntry, busy}
 use Rattle.cet_book.proofs.Held.{Free}
 use Rattle.cet_own.proofs.Kept.{holds_ended, holds_out, holds_entry, holds_below_token}
 use Rattle.cet_own.proofs.Own.{below_top, holds_push, holds_pop}
+use Rattle.cet_own.proofs.Fits.{of_class, none_of, none_held, some_held, is_push, is_load, is_entry, is_end}
 use Rattle.cet_own.proofs.Owed.{Owed}
 use Rattle.cet_book.proofs.Changes.{same_book, then_by}
 use Rattle.std.proofs.lemmas.Bool.Decides.{nat_tests}
 use Rattle.cet_page.specs.Script.{birth}
 use Rattle.cet_page.specs.Trail.{Visit}
 use Rattle.cet_own.specs.ExitWord.{IsEnding}
-use Rattle.cet_own.specs.Past.{next_word, draw_word, restorer_word}
+use Rattle.cet_own.specs.Class.{class_at}
+use Rattle.cet_own.specs.Past.{next_word, draw_word, restorer_word, frame_pushed, below_frame}
+use Rattle.cet_own.specs.declared.access_classes.Class.TheVariants as class
 use Rattle.cet_own.proofs.Counters.{CountsBy, no_count, LeavesCounters, alters}
 use Rattle.cet_own.specs.Stands.{OwnWord, own_slot, below_token}
+use Rattle.cet_own.proofs.Standing.{Stacked}
 use Rattle.cet_own.proofs.Still.{KeepsRestorers}
 use Rattle.cet_own.proofs.ClassLaws.{one_book, sound_after, wrote, exchange_does, exchange_fails, holds_gate, holds_end}
 
@@ -174,6 +179,7 @@ next_other w n = grind (arith, nat_tests)
 pub quiet : {image : ImageData} {t k : ℕ} {past : List Visit} {b : Book} {a : Access} {v : ℕ} {changes : List Change} → changes ≡ [] → LeavesCounters a → ((words : List ℕ) → v ≡ answer words a → Holds image words b → Holds image (after words a) b × Spared b words (after words a)) → Owed image t k past b a v changes
 quiet {image = image} {t = t} {b = b} {a = a} {changes = changes} ev leaves h = record {
   counts = λ words is holds. no_count_by leaves (ap birth ev);
+  fits = λ words is holds ssp held stands note. none_of _ ev;
   keeps = λ words next is holds still q. subst (Holds image (after words a)) (same_book t b next changes ev q) (h words is holds).0;
   spares = λ words is holds y n w own. (h words is holds).1.own y w own;
   restorers = λ words is holds. (h words is holds).1.restorers;
@@ -253,6 +259,7 @@ module _ {image : ImageData} {t k : ℕ} {past : List Visit} {b : Book} {a : Acc
   -- the way in stores the kernel's return address below its token
   pub settles : k < 8 → a ≡ access.Store (token_word k - 1) kernel_return → stack_of b k ≡ Some t → changes ≡ [] → Owed image t k past b a v changes
   settles l e held ev = record {
+    fits = λ words is h ssp held stands note. none_of _ ev;
     counts = λ words is h. no_count_by (leaves_by e (other_word (token_word k - 1) (omega arith)) (next_other (token_word k - 1) (omega arith))) (ap birth ev);
     keeps = λ words next is h still q.
         subst (λ c. Holds image (after words c) next) (sym e)
@@ -271,8 +278,17 @@ module _ {image : ImageData} {t k : ℕ} {past : List Visit} {b : Book} {a : Acc
           n (cc)
 
   -- a return address is stored below the top of the thread's region
-  pub pushes : (m back : ℕ) → (region b m).holder ≡ Current t → a ≡ access.Store (slot (top (region b m) - 8)) back → (region b m).start + 8 ≤ top (region b m) → IsReturn back → changes ≡ Called back ∷ [] → Owed image t k past b a v changes
-  pushes m back current e room is_return ev = record {
+  pub pushes : (m back : ℕ) → (region b m).holder ≡ Current t → a ≡ access.Store (slot (top (region b m) - 8)) back → (region b m).start + 8 ≤ top (region b m) → IsReturn back → frame_pushed past ≡ false → changes ≡ Called back ∷ [] → Owed image t k past b a v changes
+  pushes m back current e room is_return level ev = record {
+    fits = λ words is h ssp held stands note.
+        let o = own_region t m h current in
+        let place = (below_top o room).place in
+        let low = place.low in
+        let at' = subst (λ f. Stacked t b (below_frame f ssp)) level stands in
+        let here : ssp ≡ top (region b m) = top_is o at'.top in
+        let most = is_return.1 in
+        of_class class.Push (Called back ∷ []) ev refl
+        (ap (λ c. class_at c ssp held v) e ∙ is_push (top (region b m) - 8) ssp v held place back (omega arith) (λ z. omega arith) (omega arith));
     counts = λ words is h. no_count_by (leaves_by e (other_word (slot (top (region b m) - 8)) (let p = (below_top (own_region t m h current) room).place.high in omega arith)) (next_other (slot (top (region b m) - 8)) (let p = (below_top (own_region t m h current) room).place.high in omega arith))) (ap birth ev);
     keeps = λ words next is h still q.
         let o = own_region t m h current in
@@ -288,8 +304,17 @@ module _ {image : ImageData} {t k : ℕ} {past : List Visit} {b : Book} {a : Acc
   }
 
   -- the newest entry goes, where the book has that change
-  pub pops : (m word : ℕ) → (region b m).holder ≡ Current t → a ≡ access.Load word → changes ≡ Returned ∷ [] → Owed image t k past b a v changes
-  pops m word current e ev = record {
+  pub pops : (m : ℕ) → (region b m).holder ≡ Current t → a ≡ access.Load (slot (top (region b m))) → Free t b → frame_pushed past ≡ false → changes ≡ Returned ∷ [] → Owed image t k past b a v changes
+  pops m current e free level ev = record {
+    fits = λ words is h ssp held stands note.
+        let at' = subst (λ f. Stacked t b (below_frame f ssp)) level stands in
+        let here : ssp ≡ top (region b m) = top_is (own_region t m h current) at'.top in
+        let low = at'.low in
+        let high = at'.high in
+        let even = at'.top.aligned in
+        let place : Place ssp = record { low = omega arith; high = omega arith; even = even } in
+        of_class class.Raise (Returned ∷ []) ev refl
+        (ap (λ c. class_at c ssp held v) (e ∙ ap (λ n. access.Load (slot n)) (sym here)) ∙ is_load ssp ssp v held place (none_held b held free note) refl);
     counts = λ words is h. no_count_by (leaves_by e refl refl) (ap birth ev);
     keeps = λ words next is h still q.
         let o = own_region t m h current in
@@ -303,6 +328,7 @@ module _ {image : ImageData} {t k : ℕ} {past : List Visit} {b : Book} {a : Acc
   -- the way in takes the supervisor stack
   pub enters : k < 8 → a ≡ access.CompareExchange (token_word k) (token k) (token k + 1) → v ≡ token k → Free t b → changes ≡ Busied k ∷ [] → Owed image t k past b a v changes
   enters l e found free ev = record {
+    fits = λ words is h ssp held stands note. of_class class.Neutral (Busied k ∷ []) ev refl (ap (λ c. class_at c ssp held v) e ∙ is_entry k (token k) (token k + 1) ssp v held l (none_held b held free note));
     counts = λ words is h. no_count_by (leaves_by e (other_word (token_word k) (omega arith)) (next_other (token_word k) (omega arith))) (ap birth ev);
     keeps = λ words next is h still q.
         let at : slice_index words (token_word k) ≡ token k = sym (is ∙ ap (answer words) e) ∙ found in
@@ -319,6 +345,7 @@ module _ {image : ImageData} {t k : ℕ} {past : List Visit} {b : Book} {a : Acc
   -- the way out gives it back
   pub leaves : k < 8 → a ≡ access.CompareExchange (token_word k) (token k + 1) (token k) → stack_of b k ≡ Some t → changes ≡ Freed k ∷ [] → Owed image t k past b a v changes
   leaves l e held ev = record {
+    fits = λ words is h ssp noted stands note. of_class class.End (Freed k ∷ []) ev refl (ap (λ c. class_at c ssp noted v) e ∙ is_end k (token k + 1) (token k) ssp v noted l (some_held b noted k held note));
     counts = λ words is h. no_count_by (leaves_by e (other_word (token_word k) (omega arith)) (next_other (token_word k) (omega arith))) (ap birth ev);
     keeps = λ words next is h still q.
         let at = token_held t k h l held in
@@ -335,6 +362,7 @@ module _ {image : ImageData} {t k : ℕ} {past : List Visit} {b : Book} {a : Acc
   -- and the thread's region may end with it
   pub exits : (m : ℕ) → k < 8 → a ≡ access.CompareExchange (token_word k) (token k + 1) (token k) → stack_of b k ≡ Some t → (region b m).holder ≡ Current t → changes ≡ Ended ∷ Freed k ∷ [] → Owed image t k past b a v changes
   exits m l e held current ev = record {
+    fits = λ words is h ssp noted stands note. of_class class.End (Ended ∷ Freed k ∷ []) ev refl (ap (λ c. class_at c ssp noted v) e ∙ is_end k (token k + 1) (token k) ssp v noted l (some_held b noted k held note));
     counts = λ words is h. no_count_by (leaves_by e (other_word (token_word k) (omega arith)) (next_other (token_word k) (omega arith))) (ap birth ev);
     keeps = λ words next is h still q.
         let o = own_region t m h current in

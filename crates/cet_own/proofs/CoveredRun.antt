@@ -281,7 +281,7 @@ module _ (job : JobData) (m : Machine) (s : State) (st : Invariant job m s) (tol
 
 -- ---- the run
 
-first_recorded : (job : JobData) (start : Machine) → Starts job start → Recorded job first_book start.threads
+pub first_recorded : (job : JobData) (start : Machine) → Starts job start → Recorded job first_book start.threads
 first_recorded job start s =
     subst (Recorded job first_book) (sym s.threads) (record {
       first = record { number = 0; inside = omega arith; first = refl; last = refl };
@@ -305,13 +305,13 @@ book_turn t (c ∷ cs) rest b next e =
     ap (λ o. option_and_then (λ n. book_by n (option_map_or (λ x. events_by t x cs) o [] ++ rest)) o) s.1 ∙ book_turn t cs rest s.0 next s.2
 
 -- what a run leads to
-record Ran (job : JobData) (m : Machine) (s : State) (turns : List ℕ) : Type 0 where
-  next : State
-  is : book_by s.book (events_from job m (Some s.book) turns) ≡ Some next.book
-  stands : Invariant job (run job m turns) next
-  told : Recorded job next.book (run job m turns).threads
+pub record Ran (job : JobData) (m : Machine) (s : State) (turns : List ℕ) : Type 0 where
+  pub next : State
+  pub is : book_by s.book (events_from job m (Some s.book) turns) ≡ Some next.book
+  pub stands : Invariant job (run job m turns) next
+  pub told : Recorded job next.book (run job m turns).threads
 
-ran : (job : JobData) (j : IsJob job) (turns : List ℕ) (m : Machine) (s : State) → Invariant job m s → Recorded job s.book m.threads → Ran job m s turns
+pub ran : (job : JobData) (j : IsJob job) (turns : List ℕ) (m : Machine) (s : State) → Invariant job m s → Recorded job s.book m.threads → Ran job m s turns
 ran job j [] m s st told = record { next = s; is = refl; stands = st; told = told }
 ran job j (t ∷ ts) m s st told =
     let d = turn job j m t s st in

@@ -17,6 +17,9 @@ pub mod Recorded
 pub mod ToldLaws
 pub mod Covered
 pub mod CoveredRun
+pub mod ClassRun
+pub mod TokenWords
+pub mod Fits
 pub mod Owed
 pub mod ClassLaws
 pub mod Classes

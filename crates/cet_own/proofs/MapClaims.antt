@@ -37,7 +37,7 @@ use Rattle.cet_own.proofs.Claimed.{draws, overdraws, draw_can_claim}
 use Rattle.cet_own.proofs.Classes.{makes_page}
 use Rattle.cet_own.proofs.GateParts.{gate_out_then}
 use Rattle.cet_own.proofs.KernelParts.{counted_by, Leaves, Within, failed_claim}
-use Rattle.cet_own.proofs.Looks.{restore_token_is}
+use Rattle.cet_own.proofs.TokenWords.{restore_token_is}
 use Rattle.cet_own.proofs.Owed.{State, state_after, Known, Owed, own_stack}
 use Rattle.cet_own.proofs.Parts.{Claim, one_after, claim_bind}
 use Rattle.cet_own.proofs.Places.{shadow_slot}
@@ -159,7 +159,7 @@ module _ (job : JobData) (arch : Arch) (l : own_stack job arch.number < 8) (free
             let apart : (seed_word start size == token_word gate - 1) ≡ false = (let n : seed_word start size ≢ token_word gate - 1 = omega arith in grind (arith, nat_tests)) in
             let within2 : Inside arch.number gate (counted_by true false) (progress past) (left_in past (token_word gate - 1)) (hand i (replicate ((4096 * pages_of size - size) / 8) Blank) Parked now.book) arch.ssp
             = record { stacked = record { top = top'; low = within1.stacked.low; high = within1.stacked.high }; holds = within1.holds; level = within1.level; settled = within1.settled } in (
-              seeds_region i ((4096 * pages_of size - size) / 8) (start + size - 8) start maker at_start (omega arith) (omega arith)
+              seeds_region i ((4096 * pages_of size - size) / 8) (start + size - 8) start maker at_start (omega arith) (omega arith) within1.holds
                   (ap (λ n. access.Store n (restore_token (start + size))) word ∙ ap (access.Store (slot (start + size - 8))) value) refl,
               record now { book = hand i (replicate ((4096 * pages_of size - size) / 8) Blank) Parked now.book },
               one_after arch.number now (hand i (replicate ((4096 * pages_of size - size) / 8) Blank) Parked now.book) (Seeded start ((4096 * pages_of size - size) / 8)) way,

@@ -21,6 +21,7 @@ use Rattle.cet_own.specs.Stands.{OwnWord}
 use Rattle.cet_own.proofs.Still.{Still, KeepsRestorers}
 use Rattle.cet_own.proofs.Standing.{HasNone}
 use Rattle.cet_own.proofs.Counters.{CountsBy}
+use Rattle.cet_own.proofs.Fits.{Fits}
 
 -- what claims speak of
 pub record State : Type 0 where
@@ -71,6 +72,8 @@ pub record Owed (image : ImageData) (t k : ℕ) (past : List Visit) (b : Book) (
   pub restorers : (words : List ℕ) → v ≡ answer words a → Holds image words b → KeepsRestorers words (after words a)
   -- counters grow once in a row, and births come with theirs alone
   pub counts : (words : List ℕ) → v ≡ answer words a → Holds image words b → CountsBy t past b a v changes
+  -- the changes are of the class of the access
+  pub fits : (words : List ℕ) → v ≡ answer words a → Holds image words b → Fits t past b a v changes
 
 -- the supervisor stack of the processor of thread t
 abbrev pub own_stack : JobData → (t : ℕ) → ℕ

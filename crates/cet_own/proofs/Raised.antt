@@ -1,9 +1,10 @@
 -- INCSSPQ's last look: the newest entries of the thread's own region go, and no word is written. Source: own.
-use Rattle.std.proofs.Common.{◌≡◌, ℕ, List, [], ◌∷◌, Some, refl, sym, ◌∙◌, ap, subst}
+use Rattle.std.proofs.Common.{◌≡◌, ℕ, ◌<◌, ◌≤◌, List, [], ◌∷◌, Some, refl, sym, ◌∙◌, ap, subst}
 use Rattle.std.specs.Prelude.{slice_index}
 use Rattle.cet_words.specs.Access.{after}
 use Rattle.cet_words.specs.Change.{Change, Raised}
 use Rattle.cet_words.specs.Job.{ImageData}
+use Rattle.cet_words.specs.Layout.{first_kernel_page, first_shadow_page}
 use Rattle.cet_words.specs.declared.accesses.Access.{Access}
 use Rattle.cet_words.specs.declared.accesses.Access.TheVariants as access
 use Rattle.cet_book.specs.Book.{Book, region, raised, book_after}
@@ -11,14 +12,18 @@ use Rattle.cet_book.specs.Shape.{StackShape}
 use Rattle.cet_book.specs.declared.entries.Holder.TheVariants.{Current}
 use Rattle.cet_book.proofs.Addresses.{removal_returns}
 use Rattle.cet_book.proofs.Edits.{Owned}
+use Rattle.cet_book.proofs.Held.{Free}
 use Rattle.cet_book.proofs.Removes.{Removal, shortened, raised_all}
 use Rattle.cet_book.proofs.Ways.{with_current_at}
 use Rattle.cet_page.specs.Script.{birth}
 use Rattle.cet_page.specs.Trail.{Visit}
+use Rattle.cet_own.specs.Class.{class_at}
+use Rattle.cet_own.specs.declared.access_classes.Class.TheVariants as class
 use Rattle.cet_own.proofs.ClassLaws.{one_book}
 use Rattle.cet_own.proofs.Classes.{leaves_by, no_count_by, own_region}
 use Rattle.cet_own.proofs.Holds.{Sound, Holds}
 use Rattle.cet_own.proofs.Own.{holds_pop}
+use Rattle.cet_own.proofs.Fits.{of_class, none_held, is_look}
 use Rattle.cet_own.proofs.Owed.{Owed}
 use Rattle.cet_own.proofs.Still.{KeepsRestorers}
 
@@ -33,8 +38,9 @@ holds_raise image words t m =
     (λ _ b mid next o removal rest h. rest (holds_pop image words o removal (sound_removed o removal h.sound) h))
 
 -- where the book has that change
-pub raises : {image : ImageData} {t k : ℕ} {past : List Visit} {b : Book} {a : Access} {v : ℕ} {changes : List Change} → (m n page : ℕ) → (region b m).holder ≡ Current t → a ≡ access.Look page → changes ≡ Raised n ∷ [] → Owed image t k past b a v changes
-raises {image = image} {t = t} {b = b} {changes = changes} m n page current e ev = record {
+pub raises : {image : ImageData} {t k : ℕ} {past : List Visit} {b : Book} {a : Access} {v : ℕ} {changes : List Change} → (m n page : ℕ) → (region b m).holder ≡ Current t → first_shadow_page ≤ page → page < first_kernel_page → Free t b → a ≡ access.Look page → changes ≡ Raised n ∷ [] → Owed image t k past b a v changes
+raises {image = image} {t = t} {b = b} {v = v} {changes = changes} m n page current low high free e ev = record {
+  fits = λ words is h ssp held stands note. of_class class.Raise (Raised n ∷ []) ev refl (ap (λ c. class_at c ssp held v) e ∙ is_look page ssp v held low high (none_held b held free note));
   counts = λ words is h. no_count_by (leaves_by e refl refl) (ap birth ev);
   keeps = λ words next is h still q.
       let o = own_region t m h current in

@@ -37,7 +37,7 @@ use Rattle.cet_own.proofs.Classes.{loads, pops}
 use Rattle.cet_own.proofs.Parts.{Claim, one_after, claim_bind, check_address_then, look_then, shadow_look_then, load_then}
 use Rattle.cet_own.proofs.Places.{shadow_slot, above_is, entry_at}
 use Rattle.cet_own.proofs.Calls.{entries_of, EndsRow, own_kept}
-use Rattle.cet_own.proofs.Progress.{progress, untouched}
+use Rattle.cet_own.proofs.Progress.{Progress, progress, untouched}
 use Rattle.cet_page.specs.Trail.{Visit, visit}
 use Rattle.cet_own.proofs.Resting.{Resting, rest_kept, rest_stacked, rested}
 
@@ -104,7 +104,7 @@ module _ (job : JobData) (j : IsJob job) (arch : Arch) where
       let top' = removal_top o removal in
       let up : top (region now.book (current_of arch.number now.book)) + 8 ≡ add64 arch.ssp 8 = ap (λ n. n + 8) (sym at) ∙ sym (above_is arch.ssp high) in
       let free : Free arch.number r.next = λ k q. rest.free k (ap (λ (l : List (Option ℕ)). get_or l k None) (sym short.stacks) ∙ q) in (
-        pops (current_of arch.number now.book) w o.current refl refl,
+        pops (current_of arch.number now.book) o.current (ap access.Load (ws ∙ ap slot at)) rest.free (ap (λ (x : Progress). x.framed) rest.level) refl,
         record now { book = r.next },
         one_after arch.number now r.next Returned (with_current_at o (λ m q. book_returned m q.entries now.book) ∙ r.is),
         (

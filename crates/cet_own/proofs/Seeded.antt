@@ -1,5 +1,5 @@
 -- The store of a new stack's restore token: the region that was being made is parked, with blanks above its token. Source: own.
-use Rattle.std.proofs.Common.{zero, suc, ◌≡◌, ◌≢◌, ℕ, ◌+◌, ◌-◌, ◌*◌, ◌%◌, ◌<◌, ◌≤◌, inl, inr, List, [], ◌∷◌, length, replicate, refl, sym, ◌∙◌, ap, subst, arith}
+use Rattle.std.proofs.Common.{zero, suc, ◌≡◌, ◌≢◌, ℕ, ◌+◌, ◌-◌, ◌*◌, ◌%◌, ◌<◌, ◌≤◌, inl, inr, List, [], ◌∷◌, length, replicate, Some, refl, sym, ◌∙◌, ap, subst, arith}
 use Rattle.std.specs.Prelude.{slice_set}
 use Rattle.std.proofs.lemmas.Bool.Decides.{eqb_tells}
 use Rattle.std.proofs.lemmas.List.{length-replicate}
@@ -8,7 +8,7 @@ use Rattle.cet_words.specs.Change.{Change, Seeded}
 use Rattle.cet_words.specs.Job.{ImageData}
 use Rattle.cet_words.specs.declared.accesses.Access.{Access}
 use Rattle.cet_words.specs.declared.accesses.Access.TheVariants as access
-use Rattle.cet_book.specs.Book.{Book, Region, region, top}
+use Rattle.cet_book.specs.Book.{Book, Region, region, top, stack_of}
 use Rattle.cet_book.specs.Facts.{In, IsParkedAt, Owns, Place, Stack}
 use Rattle.cet_book.specs.Shape.{Shape}
 use Rattle.cet_book.specs.Stack.{slot, slot_word, tops}
@@ -20,11 +20,14 @@ use Rattle.cet_book.proofs.Hand.{hand, Made, made_there, made_empty, seeds, hand
 use Rattle.cet_book.proofs.Ways.{seeded_way}
 use Rattle.cet_page.specs.Script.{birth}
 use Rattle.cet_page.specs.Trail.{Visit}
+use Rattle.cet_own.specs.Class.{class_at}
+use Rattle.cet_own.specs.declared.access_classes.Class.TheVariants as class
 use Rattle.cet_own.proofs.Changed.{Spares, changed, place_spares, place_restorers}
 use Rattle.cet_own.proofs.Classes.{leaves_by, next_other, no_count_by, other_word}
 use Rattle.cet_own.proofs.Holds.{IsMaker, Marks, Sound, Holds}
 use Rattle.cet_own.proofs.Kept.{ending_out, restorers_out, size_kept, pages_out, pages_same, gates_out, gates_same}
 use Rattle.cet_own.proofs.Marks.{WritesAt, marks_write}
+use Rattle.cet_own.proofs.Fits.{of_class, some_held, is_seed}
 use Rattle.cet_own.proofs.Owed.{Owed}
 use Rattle.cet_own.proofs.Writes.{in_one, in_place, list_kept, list_free, slot_other}
 
@@ -108,9 +111,11 @@ module _ {t s : ℕ} {b : Book} (m : Made t s b) (n p : ℕ) (room : (region b s
         ending = ending_out words (slot p) (p + 9) (omega arith) h.ending;
       }
 
-pub seeds_region : {image : ImageData} {t k : ℕ} {past : List Visit} {b : Book} {a : Access} {v : ℕ} {changes : List Change} → (s n p start : ℕ) → (region b s).holder ≡ Maker t → (region b s).start ≡ start → start + 8 * n + 8 ≤ (region b s).end → p + 8 + 8 * n ≡ (region b s).end → a ≡ access.Store (slot p) (p + 9) → changes ≡ Seeded start n ∷ [] → Owed image t k past b a v changes
-seeds_region {image = image} {t = t} {b = b} s n p start maker first room at e ev =
+pub seeds_region : {image : ImageData} {t k : ℕ} {past : List Visit} {b : Book} {a : Access} {v : ℕ} {changes : List Change} → (s n p start : ℕ) → (region b s).holder ≡ Maker t → (region b s).start ≡ start → start + 8 * n + 8 ≤ (region b s).end → p + 8 + 8 * n ≡ (region b s).end → stack_of b k ≡ Some t → a ≡ access.Store (slot p) (p + 9) → changes ≡ Seeded start n ∷ [] → Owed image t k past b a v changes
+seeds_region {image = image} {t = t} {k = k} {b = b} {v = v} s n p start maker first room at inside e ev =
     changed (Seeded start n) (hand s (replicate n Blank) Parked b) ev tt
+    (λ words is h ssp held stands note. of_class class.Seed (Seeded start n ∷ []) ev refl
+    (ap (λ c. class_at c ssp held v) e ∙ is_seed p ssp v held (seed_place (made h.sound.book.shape) n p (omega arith) at).0 (some_held b held k inside note)))
     (λ words is h. let high = (seed_place (made h.sound.book.shape) n p (omega arith) at).0.high in no_count_by (leaves_by e (other_word (slot p) (omega arith)) (next_other (slot p) (omega arith))) (ap birth ev))
     (λ words is h. seeded_way (made h.sound.book.shape) n start first (omega arith))
     (λ words is h sound.

@@ -5,7 +5,7 @@ use Rattle.std.proofs.lemmas.Bool.{eqb-true}
 use Rattle.std.proofs.lemmas.Bool.Decides.{eqb_tells}
 use Rattle.cet_words.specs.Change.{Acquired, Raised, Released}
 use Rattle.cet_words.specs.Job.{JobData}
-use Rattle.cet_words.specs.Layout.{word_in, first_shadow_page, image_end, image_start, shadow_start}
+use Rattle.cet_words.specs.Layout.{first_kernel_page, word_in, first_shadow_page, image_end, image_start, shadow_start}
 use Rattle.cet_words.specs.declared.accesses.Access.TheVariants as access
 use Rattle.cet_isa.specs.Address.{canonical}
 use Rattle.cet_isa.specs.declared.instructions.Instr.{Instr}
@@ -41,7 +41,8 @@ use Rattle.cet_own.specs.Safe.{IsElsewhere}
 use Rattle.cet_own.proofs.Acquired.{takes, misses}
 use Rattle.cet_own.proofs.Calls.{entries_of, EndsRow, own_kept}
 use Rattle.cet_own.proofs.Classes.{loads, looks}
-use Rattle.cet_own.proofs.Looks.{shadow_store_look_then, entries_at, restore_token_is, previous_token_is}
+use Rattle.cet_own.proofs.Looks.{shadow_store_look_then, entries_at}
+use Rattle.cet_own.proofs.TokenWords.{restore_token_is, previous_token_is}
 use Rattle.cet_own.proofs.Owed.{State, state_after, HeadWord, Known, Owed, own_stack}
 use Rattle.cet_own.proofs.Parts.{Claim, one_after, claim_bind, claim_cond, check_address_as_then, shadow_look_then}
 use Rattle.cet_own.proofs.Places.{entry_there, shadow_page, shadow_slot, above_is, entry_at, room_below, in_page}
@@ -161,7 +162,7 @@ module _ (job : JobData) (arch : Arch) (free : IsElsewhere job arch) where
             let up : add64 arch.ssp 8 ≡ top (region later.book (current_of arch.number s.book)) + 8 = above_is arch.ssp rest2.stacked.high ∙ ap (λ n. n + 8) here in
             let top' = subst (AtTop arch.number (unlink (current_of arch.number s.book) q es Parked later.book)) (sym up) (released_top k'.0 shape') in
             let word_is : word_in (first_shadow_page + (saved_at (previous_ssp word) - shadow_start) / 4096) (saved_at (previous_ssp word)) ≡ slot (top (region later.book q) - 8) = shadow_slot (saved_at (previous_ssp word)) low high ∙ ap slot target2 in (
-              releases (current_of arch.number s.book) q es k'.0.owned.current k'.0.entries room2
+              releases (current_of arch.number s.book) q es k'.0.owned.current k'.0.entries room2 rest2.free
                   (ap (λ n. access.Store n (restore_token (previous_ssp word))) word_is ∙ ap (access.Store (slot (top (region later.book q) - 8))) token2) refl,
               record later { book = unlink (current_of arch.number s.book) q es Parked later.book },
               one_after arch.number later (unlink (current_of arch.number s.book) q es Parked later.book) Released way,
@@ -222,9 +223,9 @@ module _ (job : JobData) (arch : Arch) (free : IsElsewhere job arch) where
   -- ---- INCSSPQ
 
   -- by whether the last look passes
-  raised_by : (past : List Visit) (now : State) (count page v next : ℕ) → count < 256 → Known job.image arch.number past now.book (access.Look page) v → Resting arch.number untouched (progress past) now.book arch.ssp → (c : Bool) → (c ≡ true → count ≤ length (entries_of arch.number now.book)) → Owed job.image arch.number (own_stack job arch.number) past now.book (access.Look page) v (if c then Raised count ∷ [] else []) × (later : State) × (state_after arch.number now (if c then Raised count ∷ [] else []) ≡ Some later) × Claim job arch (λ p z n x. Claim job arch (EndsRow job arch) p z n (done (raised arch count next))) (visit (access.Look page) v (if c then Raised count ∷ [] else []) ∷ past) now later (if c then done page else fault (page_fault v kind.ShadowLoad User (add64 arch.ssp (8 * (max count 1 - 1)))))
-  raised_by past now count page v next few known rest false room = (looks page refl refl, now, refl, (rested rest, λ at'. absurd (free at'), tt))
-  raised_by past now count page v next few known rest true room =
+  raised_by : (past : List Visit) (now : State) (count page v next : ℕ) → count < 256 → (first_shadow_page ≤ page) × (page < first_kernel_page) → Known job.image arch.number past now.book (access.Look page) v → Resting arch.number untouched (progress past) now.book arch.ssp → (c : Bool) → (c ≡ true → count ≤ length (entries_of arch.number now.book)) → Owed job.image arch.number (own_stack job arch.number) past now.book (access.Look page) v (if c then Raised count ∷ [] else []) × (later : State) × (state_after arch.number now (if c then Raised count ∷ [] else []) ≡ Some later) × Claim job arch (λ p z n x. Claim job arch (EndsRow job arch) p z n (done (raised arch count next))) (visit (access.Look page) v (if c then Raised count ∷ [] else []) ∷ past) now later (if c then done page else fault (page_fault v kind.ShadowLoad User (add64 arch.ssp (8 * (max count 1 - 1)))))
+  raised_by past now count page v next few within known rest false room = (looks page refl refl, now, refl, (rested rest, λ at'. absurd (free at'), tt))
+  raised_by past now count page v next few within known rest true room =
       let has = rest.stacked.top.has in
       let high = rest.stacked.high in
       let o : Owned arch.number (current_of arch.number now.book) now.book = owned arch.number now.book known.sound.book.shape has in
@@ -234,7 +235,7 @@ module _ (job : JobData) (arch : Arch) (free : IsElsewhere job arch) where
       let up : add64 arch.ssp (8 * count) ≡ top (region now.book (current_of arch.number now.book)) + 8 * count = omega arith in
       let top' = subst (AtTop arch.number way.0) (sym up) (raised_top arch.number (current_of arch.number now.book) count now.book way.0 o way.2) in
       let none : Free arch.number way.0 = λ k q. rest.free k (ap (λ (l : List (Option ℕ)). get_or l k None) (sym short.stacks) ∙ q) in (
-        raises (current_of arch.number now.book) count page o.current refl refl,
+        raises (current_of arch.number now.book) count page o.current within.0 within.1 rest.free refl refl,
         record now { book = way.0 },
         one_after arch.number now way.0 (Raised count) way.1,
         (
@@ -265,7 +266,7 @@ module _ (job : JobData) (arch : Arch) (free : IsElsewhere job arch) where
             let inn' = in_page later.book lies.0 (add64 arch.ssp (8 * (max count 1 - 1))) (omega arith) (omega arith) lies.1 in
             let least = entries_at later.book (current_of arch.number later.book) lies.0 (max count 1 - 1) shape has (omega arith) (subst (In (region later.book lies.0)) (last ∙ ap (λ n. n + 8 * (max count 1 - 1)) at) inn') in
             omega arith in
-            raised_by _ later count (first_shadow_page + (add64 arch.ssp (8 * (max count 1 - 1)) - shadow_start) / 4096) v' next few known' rest2 (allows v' kind.ShadowLoad User) room,
+            raised_by _ later count (first_shadow_page + (add64 arch.ssp (8 * (max count 1 - 1)) - shadow_start) / 4096) v' next few (omega arith, omega arith) known' rest2 (allows v' kind.ShadowLoad User) room,
       )))
 
   -- ---- the instructions

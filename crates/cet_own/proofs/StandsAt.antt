@@ -14,7 +14,7 @@ use Rattle.cet_page.specs.Within.{CoreAt}
 use Rattle.cet_own.specs.Restores.{IsToken}
 use Rattle.cet_own.specs.Stands.{ShadowPages, AllBounds, Stands}
 use Rattle.cet_own.proofs.Holds.{Marks}
-use Rattle.cet_own.proofs.Looks.{restore_token_is}
+use Rattle.cet_own.proofs.TokenWords.{restore_token_is}
 use Rattle.cet_own.proofs.Owed.{State}
 use Rattle.cet_own.proofs.Seeded.{making_zero}
 use Rattle.cet_own.proofs.Threads.{CoreStands, ThreadStands}

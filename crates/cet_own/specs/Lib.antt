@@ -6,3 +6,4 @@ pub mod Safe
 pub mod Restores
 pub mod Stands
 pub mod Told
+pub mod Class

@@ -1,6 +1,8 @@
 //! Who owns which shadow stack, in every run of the machine.
 #![tactic(auto)]
 
+mod access_classes;
 mod laws;
 
+pub use access_classes::{Class, class_of};
 pub use laws::{every_run_ends_right, every_run_is_safe, every_run_stands};

@@ -1,0 +1,6 @@
+use Rattle.cet_own.proofs.ClassRun.{has_class}
+use Rattle.cet_own.proofs.access_classes.class_of.Goals as goal
+
+-- src/access_classes.rt:147:1
+pub returns-clause-laws : goal.returns-clause-laws
+returns-clause-laws c = has_class _ c.args.access.now c.args.arch.now c.args.value c.class_in_table.ensures
