@@ -4,7 +4,7 @@ ghost use Rattle.std.specs.Prelude.{◌≤◌, length};
 ghost use Rattle.cet_cpu.specs.Cpu.{IsCpu};
 
 use super::*;
-use cet_isa::{Record, What};
+use cet_isa::{Fault, FaultName, Record, What};
 use cet_words::{Access, Bytes, Image, Job, NoMemory, Perform, Plain, Segment, Segments};
 use std::alloc::Global;
 use std::process::Abort;
@@ -137,6 +137,81 @@ fn moves_and_exits(rt: HostRuntime) -> Result<(), Fail> {
     assert_eq!(rt; cpu.end(), Some(End::Exit(7)));
     assert_eq!(rt; cpu.next(&job), None);
     assert_eq!(rt; cpu.arch().count, 3);
+    Ok(())
+}
+
+/// `stc`, `mov rbx, 0x200008ff8`, `rstorssp [rbx]`.
+const RESTORE: [u8; 15] = [
+    0xf9, 0x48, 0xbb, 0xf8, 0x8f, 0x00, 0x00, 0x02, 0x00, 0x00, 0x00, 0xf3, 0x0f, 0x01, 0x2b,
+];
+
+/// The thread makes this access, which has this answer, whatever the words are.
+fn answer_access(rt: &impl Abort, job: &Job, cpu: &mut Cpu, want: Access, answer: u64) -> Taken
+    requires { IsCpu job.now cpu.old }
+    ensures { IsCpu job.now cpu.new }
+{
+    assert!(rt; cpu.end().is_none(), "{want:?}");
+    let access = cpu.next(job).expect(rt, "no access");
+    assert_eq!(rt; access, want);
+    cpu.take(job, answer)
+}
+
+/// The record of the exchange of RSTORSSP where it finds this word, and the thread after it.
+fn restore(rt: &impl Abort, job: &Job, found: u64) -> (Option<Record>, Cpu) {
+    let mut cpu = first(job);
+    // The entry of the last page of the first shadow stack, which the look is answered.
+    let answers = [
+        (Access::Load(1_605_632), 0),
+        (Access::Load(1_605_664), 0),
+        (Access::Load(1_605_632), 0),
+        (Access::Load(1_605_664), 0),
+        (Access::Load(1_605_632), 0),
+        (Access::Load(1_605_664), 0),
+        (Access::Look(2120), 0x8000_0000_0094_8065),
+    ];
+    for (want, answer) in &answers {
+        answer_access(rt, job, &mut cpu, *want, *answer);
+    }
+    let exchange = Access::CompareExchange(1_085_951, 0x2_0000_9001, 0x2_0000_9003);
+    let taken = answer_access(rt, job, &mut cpu, exchange, found);
+    assert!(rt; taken.child.is_none());
+    assert!(rt; taken.end.is_none());
+    (taken.noted, cpu)
+}
+
+#[test]
+fn restores_by_the_word_found(rt: HostRuntime) -> Result<(), Fail> {
+    let image = image_of(rt.alloc(), &RESTORE)?;
+    let job = Job {
+        image: &image,
+        procs: 1,
+        limit: 100,
+        signals: &[],
+    };
+    let (record, cpu) = restore(&rt, &job, 0x2_0000_9001);
+    assert_eq!(rt; record, noted(0x40100b, What::Take, 0x2_0000_8ff8, 0x2_0000_9000));
+    let arch = cpu.arch();
+    assert_eq!(rt; [arch.rip, arch.flags, arch.ssp], [0x40100f, 2, 0x2_0000_8ff8]);
+    assert!(rt; arch.due.is_none());
+    // The token of another pointer.
+    let (record, cpu) = restore(&rt, &job, 0x2_0000_8001);
+    let fault = Fault {
+        name: FaultName::Cp,
+        code: 4,
+        a: 0x2_0000_8ff8,
+        b: 0x2_0000_8001,
+    };
+    let miss = Record {
+        rip: 0x40100b,
+        what: What::Fault(FaultName::Cp),
+        code: 4,
+        a: 0x2_0000_8ff8,
+        b: 0x2_0000_8001,
+    };
+    assert_eq!(rt; record, Some(miss));
+    let arch = cpu.arch();
+    assert_eq!(rt; [arch.rip, arch.flags, arch.ssp], [0x40100b, 3, 0x2_0000_9000]);
+    assert_eq!(rt; arch.due, Some(fault));
     Ok(())
 }
 

@@ -1,6 +1,6 @@
 //! A thread, access by access.
 
-ghost use Rattle.std.specs.Prelude.{◌≡◌, ◌+◌, ◌-◌, ◌^◌, ◌<◌, ◌≤◌, length, Some, None, IfSome, option_map};
+ghost use Rattle.std.specs.Prelude.{◌≡◌, ℕ, ◌+◌, ◌-◌, ◌^◌, ◌<◌, ◌≤◌, length, Some, None, IfSome, option_map};
 ghost use Rattle.cet_words.specs.Access.{InRange};
 ghost use Rattle.cet_words.specs.declared.accesses.Access.{Access};
 ghost use Rattle.cet_isa.specs.declared.threads.End.{End};
@@ -10,6 +10,7 @@ ghost use Rattle.cet_page.specs.Within.{IsCore};
 ghost use Rattle.cet_page.specs.Core.{row_played, core_at, first_core, child_core, next_access, taken, recorded, fault_record};
 ghost use Rattle.cet_page.specs.Plays.{held_by};
 ghost use Rattle.cet_page.specs.Finish.{IsMade};
+ghost use Rattle.cet_page.specs.Restoring.{AtRestore, Restores};
 ghost use Rattle.cet_page.specs.ValsData.{no_vals};
 ghost use Rattle.cet_cpu.specs.Code.{IsCode};
 ghost use Rattle.cet_cpu.specs.Cpu.{awaited, RefinesRow, CpuData, IsCpu, IsNext, KeepsCode};
@@ -188,7 +189,7 @@ impl Cpu {
     }
 
     /// Takes the answer to the thread's next access.
-    #[tactic(auto, using(cet_page::proofs::WithinLaws::room, cet_page::proofs::WithinLaws::taken_at, cet_page::proofs::FaultLaws::faults_of))]
+    #[tactic(auto, using(cet_page::proofs::WithinLaws::room, cet_page::proofs::WithinLaws::taken_at, cet_page::proofs::FaultLaws::faults_of, cet_page::proofs::RestoreLaws::restores_of))]
     pub fn take(&mut self, job: &Job, answer: u64) -> Taken
         requires state { IsCpu job.now self.old }
         requires going { self.old.core.over ≡ None }
@@ -201,6 +202,9 @@ impl Cpu {
 
         // A faulting instruction changes no register, flag, SSP or word, and its fault is due.
         ensures fault { (r : Record) (name : FaultName) → result.noted ≡ Some r → r.what ≡ What.Fault name → Faults job.now self.old.core self.new.core answer r }
+
+        // RSTORSSP's exchange switches where it finds the restore token, and else is #CP with the word found.
+        ensures restore { (p : ℕ) → AtRestore job.now self.old.core p → Restores job.now self.old.core self.new.core p answer result.noted }
     {
         let child = self.child(job, answer);
         let noted = self.accept_answer(job, answer);

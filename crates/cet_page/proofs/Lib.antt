@@ -12,4 +12,5 @@ pub mod ScriptLaws
 pub mod TrailLaws
 pub mod WithinLaws
 pub mod RowLaws
+pub mod RestoreLaws
 pub mod ChildLaws

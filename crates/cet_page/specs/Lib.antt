@@ -21,6 +21,7 @@ pub mod Core
 pub mod Trail
 pub mod Plays
 pub mod Faults
+pub mod Restoring
 pub mod Within
 pub mod Machine
 pub mod Left
