@@ -133,8 +133,8 @@ taken_by job core p answer h c e =
     let held = held_still p answer core.arch.held (answer == restore_token_at p) in (
       ap (λ (r : Played Finish). (answered job core answer r).noted) (awaits job core p h) ∙ ap (noted_by core.arch) came,
       ap (λ (r : Played Finish). (answered job core answer r).core) (awaits job core p h)
-      ∙ ap (λ (k : Option ℕ). core_by job core.arch k seen (row_played job core.arch seen)) held
-      ∙ ap (core_by job core.arch core.arch.held seen) came,
+          ∙ ap (λ (k : Option ℕ). core_by job core.arch k seen (row_played job core.arch seen)) held
+          ∙ ap (core_by job core.arch core.arch.held seen) came,
     )
 
 page_of : (p : ℕ) (page other : ℕ) → page_at p ≡ Some page → page_at p ≡ Some other → page ≡ other
