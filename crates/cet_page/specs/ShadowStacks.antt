@@ -6,8 +6,6 @@ use Rattle.cet_words.specs.Change.{Change, Raised, Acquired, Released}
 use Rattle.cet_isa.specs.Address.{canonical}
 use Rattle.cet_isa.specs.declared.instructions.Instr.{Instr}
 use Rattle.cet_isa.specs.declared.instructions.Instr.TheVariants as instr
-use Rattle.cet_isa.specs.declared.instructions.Mem.{Mem}
-use Rattle.cet_isa.specs.declared.instructions.Reg.{Reg}
 use Rattle.cet_isa.specs.declared.threads.Arch.{Arch}
 use Rattle.cet_isa.specs.declared.threads.Fault.{Fault}
 use Rattle.cet_isa.specs.declared.threads.FaultName.TheVariants.{Cp}
