@@ -189,9 +189,15 @@ fn restores_by_the_word_found(rt: HostRuntime) -> Result<(), Fail> {
         signals: &[],
     };
     let (record, cpu) = restore(&rt, &job, 0x2_0000_9001);
-    assert_eq!(rt; record, noted(0x40100b, What::Take, 0x2_0000_8ff8, 0x2_0000_9000));
+    assert_eq!(rt;
+        record,
+        noted(0x40100b, What::Take, 0x2_0000_8ff8, 0x2_0000_9000)
+    );
     let arch = cpu.arch();
-    assert_eq!(rt; [arch.rip, arch.flags, arch.ssp], [0x40100f, 2, 0x2_0000_8ff8]);
+    assert_eq!(rt;
+        [arch.rip, arch.flags, arch.ssp],
+        [0x40100f, 2, 0x2_0000_8ff8]
+    );
     assert!(rt; arch.due.is_none());
     // The token of another pointer.
     let (record, cpu) = restore(&rt, &job, 0x2_0000_8001);
@@ -210,7 +216,10 @@ fn restores_by_the_word_found(rt: HostRuntime) -> Result<(), Fail> {
     };
     assert_eq!(rt; record, Some(miss));
     let arch = cpu.arch();
-    assert_eq!(rt; [arch.rip, arch.flags, arch.ssp], [0x40100b, 3, 0x2_0000_9000]);
+    assert_eq!(rt;
+        [arch.rip, arch.flags, arch.ssp],
+        [0x40100b, 3, 0x2_0000_9000]
+    );
     assert_eq!(rt; arch.due, Some(fault));
     Ok(())
 }
