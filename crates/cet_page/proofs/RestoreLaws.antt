@@ -47,7 +47,9 @@ looked : Arch → (p next page : ℕ) → Row
 looked arch p next page = ask (token_exchange arch p page) (acquired_if p) (found_part arch p next)
 
 -- the tests pass, and so does the look
-restore_part : (arch : Arch) (p next page entry n : ℕ) (values : List ℕ) → canonical p ≡ true → p % 8 ≡ 0 → page_at p ≡ Some page → allows entry kind.ShadowStore User ≡ true → play (rstorssp arch p next >>= noted) (suc n) (entry ∷ values) ≡ play (exchange_part arch p next page) n values
+restore_part : (arch : Arch) (p next page entry n : ℕ) (values : List ℕ)
+    → canonical p ≡ true → p % 8 ≡ 0 → page_at p ≡ Some page → allows entry kind.ShadowStore User ≡ true
+    → play (rstorssp arch p next >>= noted) (suc n) (entry ∷ values) ≡ play (exchange_part arch p next page) n values
 unfolding rstorssp check_address_as look_as look_in_as compare_exchange_as ◌>>=◌ looked
 restore_part arch p next page entry n values reached aligned within passed =
     let checked = λ (s : Script (Unit {0})). play (s >>= (λ _. look kind.ShadowStore User p >>= looked arch p next) >>= noted) (suc n) (entry ∷ values) in
@@ -79,7 +81,8 @@ after_unheld arch Unknown = refl
 
 -- ---- the row of a thread at RSTORSSP
 
-row_part : (job : JobData) (core : Core) (p n : ℕ) (values : List ℕ) (h : AtRestore job core p) → play (row job (unheld core.arch)) (suc (suc (suc n))) (0 ∷ h.pending ∷ h.entry ∷ values) ≡ play (exchange_part (unheld core.arch) p (next_address job core.arch) h.page) n values
+row_part : (job : JobData) (core : Core) (p n : ℕ) (values : List ℕ) (h : AtRestore job core p)
+    → play (row job (unheld core.arch)) (suc (suc (suc n))) (0 ∷ h.pending ∷ h.entry ∷ values) ≡ play (exchange_part (unheld core.arch) p (next_address job core.arch) h.page) n values
 row_part job core p n values h =
     let arch = unheld core.arch in
     let i = instr.Rstorssp h.operand in
@@ -96,11 +99,14 @@ awaits : (job : JobData) (core : Core) (p : ℕ) (h : AtRestore job core p) → 
 awaits job core p h = ap (row_played job core.arch) h.seen ∙ row_part job core p zero [] h
 
 -- and ends with it
-ends_by : (job : JobData) (core : Core) (p answer : ℕ) (h : AtRestore job core p) → row_played job core.arch (vals_after core.vals (token_exchange core.arch p h.page) answer) ≡ play (found_part (unheld core.arch) p (next_address job core.arch) answer >>= noted) zero []
+ends_by : (job : JobData) (core : Core) (p answer : ℕ) (h : AtRestore job core p)
+    → row_played job core.arch (vals_after core.vals (token_exchange core.arch p h.page) answer)
+    ≡ play (found_part (unheld core.arch) p (next_address job core.arch) answer >>= noted) zero []
 ends_by job core p answer h =
     ap (λ (seen : ValsData). row_played job core.arch (vals_after seen (token_exchange core.arch p h.page) answer)) h.seen
     ∙ row_part job core p (suc zero) (answer ∷ []) h
 
+-- by the word found
 takes_found : (arch : Arch) (p next found : ℕ) → found ≡ restore_token_at p → play (found_part arch p next found >>= noted) zero [] ≡ Completed (Noted (restored arch p next).0 (restored arch p next).1) zero []
 unfolding ◌>>=◌
 takes_found arch p next found e =
@@ -114,9 +120,9 @@ misses_found arch p next found e =
     ap (λ (b : Bool). play (cond b (done (restored arch p next)) (fault (no_restore_token p found)) >>= noted) zero []) other
 
 -- the exchange takes no supervisor stack, whatever it finds
-held_still : (p found : ℕ) (held : Option ℕ) (b : Bool) → held_after (cond b (Acquired p ∷ []) []) held ≡ held
-held_still p found held true = refl
-held_still p found held false = refl
+still_held : (p : ℕ) (held : Option ℕ) (b : Bool) → held_after (cond b (Acquired p ∷ []) []) held ≡ held
+still_held p held true = refl
+still_held p held false = refl
 
 -- the next access, by what the thread waits for
 next_is : (job : JobData) (core : Core) (a : Access) (changes : ℕ → List Change) (over : Option End) → over ≡ None → row_played job core.arch core.vals ≡ Wants a changes → access_of job core over ≡ Some a
@@ -124,22 +130,27 @@ next_is job core a changes None e w = ap wanted w
 next_is job core a changes (Some end) e w = cc
 
 -- what is taken, by what the row comes to after the exchange
-taken_by : (job : JobData) (core : Core) (p answer : ℕ) (h : AtRestore job core p) (c : Played Finish) → play (found_part (unheld core.arch) p (next_address job core.arch) answer >>= noted) zero [] ≡ c → ((taken job core answer).noted ≡ noted_by core.arch c) × ((taken job core answer).core ≡ core_by job core.arch core.arch.held (vals_after core.vals (token_exchange core.arch p h.page) answer) c)
+taken_by : (job : JobData) (core : Core) (p answer : ℕ) (h : AtRestore job core p) (c : Played Finish)
+    → play (found_part (unheld core.arch) p (next_address job core.arch) answer >>= noted) zero [] ≡ c
+    → ((taken job core answer).noted ≡ noted_by core.arch c)
+    × ((taken job core answer).core ≡ core_by job core.arch core.arch.held (vals_after core.vals (token_exchange core.arch p h.page) answer) c)
 unfolding taken
 taken_by job core p answer h c e =
     let a = token_exchange core.arch p h.page in
     let seen = vals_after core.vals a answer in
     let came : row_played job core.arch seen ≡ c = ends_by job core p answer h ∙ e in
-    let held = held_still p answer core.arch.held (answer == restore_token_at p) in (
+    let held = still_held p core.arch.held (answer == restore_token_at p) in (
       ap (λ (r : Played Finish). (answered job core answer r).noted) (awaits job core p h) ∙ ap (noted_by core.arch) came,
       ap (λ (r : Played Finish). (answered job core answer r).core) (awaits job core p h)
           ∙ ap (λ (k : Option ℕ). core_by job core.arch k seen (row_played job core.arch seen)) held
           ∙ ap (core_by job core.arch core.arch.held seen) came,
     )
 
+-- an address is on one page
 page_of : (p : ℕ) (page other : ℕ) → page_at p ≡ Some page → page_at p ≡ Some other → page ≡ other
 page_of p page other e f = cc
 
+-- the clause, by the thread before the answer
 restores : (job : JobData) (core : Core) (p answer : ℕ) → core.over ≡ None → AtRestore job core p → Restores job core (taken job core answer).core p answer (taken job core answer).noted
 unfolding next_access
 restores job core p answer going h = record {
@@ -151,7 +162,9 @@ restores job core p answer going h = record {
 }
 
 -- the same of a thread and a record by other names
-pub restores_of : (job : JobData) (core new : Core) (answer : ℕ) (noted : Option Record) → core.over ≡ None → new ≡ (taken job core answer).core → noted ≡ (taken job core answer).noted → (p : ℕ) → AtRestore job core p → Restores job core new p answer noted
+pub restores_of : (job : JobData) (core new : Core) (answer : ℕ) (noted : Option Record)
+    → core.over ≡ None → new ≡ (taken job core answer).core → noted ≡ (taken job core answer).noted
+    → (p : ℕ) → AtRestore job core p → Restores job core new p answer noted
 restores_of job core new answer noted going e n p h =
     subst (λ c. Restores job core c p answer noted) (sym e)
     (subst (λ r. Restores job core (taken job core answer).core p answer r) (sym n) (restores job core p answer going h))
