@@ -13,8 +13,7 @@ ghost use Rattle.cet_cpu.specs.Changes.{finish_with, Stays};
 ghost use Rattle.cet_cpu.specs.Entry.{work_of};
 
 use cet_isa::{Arch, Fault, FaultName, Record, What};
-use cet_kmem::{MAP_SHADOW_STACK, map_shadow_stack};
-use cet_page::{Cursor, Errno, Leaving, Mark, RAX, Suspended, failed, serve, sys_record};
+use cet_page::{Cursor, Leaving, Mark, RAX, Suspended, serve, sys_record};
 use cet_words::{
     Access, EXIT_WORD, FIRST_ENTRY_WORD, FIRST_SHADOW_PAGE, Job, KERNEL_RETURN, SHADOW_START,
     action_word, token, token_page, token_word,
@@ -178,8 +177,7 @@ fn service(arch: &Arch, at: &mut Cursor) -> Result<(Arch, Record, Leaving), Susp
     match arch.regs[RAX] {
         EXIT => exit(arch, at),
         EXIT_GROUP => exit_group(arch, at),
-        MAP_SHADOW_STACK => map_shadow_stack(arch, at),
-        _ => Ok(failed(arch, Errno::NoSys)),
+        _ => cet_kmem::follow(arch, at),
     }
 }
 

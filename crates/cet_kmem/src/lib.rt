@@ -9,5 +9,4 @@ mod shadow_stacks;
 #[cfg(test)]
 mod tests;
 
-pub use services::{MAP_SHADOW_STACK, follow, next};
-pub use shadow_stacks::map_shadow_stack;
+pub use services::{follow, next};

@@ -11,7 +11,7 @@ use cet_page::{Cursor, Errno, Leaving, Next, RAX, Suspended, Vals, failed};
 use cet_words::Job;
 
 /// The number of map_shadow_stack.
-pub const MAP_SHADOW_STACK: u64 = 453;
+const MAP_SHADOW_STACK: u64 = 453;
 
 /// The service whose number is in RAX, as far as the cursor's accesses lead. Every number of another crate
 /// is no call.

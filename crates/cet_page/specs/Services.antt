@@ -4,19 +4,17 @@ use Rattle.std.specs.Prelude.{◌==◌, if◌then◌else◌}
 use Rattle.cet_words.specs.Job.{JobData}
 use Rattle.cet_isa.specs.declared.threads.Arch.{Arch}
 use Rattle.cet_page.specs.Finish.{rax}
-use Rattle.cet_page.specs.Gate.{Work, entered, exit, exit_group, failed}
-use Rattle.cet_page.specs.MapShadowStack.{map_shadow_stack}
-use Rattle.cet_page.specs.Script.{Script, done}
+use Rattle.cet_page.specs.Gate.{Work, entered, exit, exit_group}
+use Rattle.cet_page.specs.MapShadowStack.{memory_service}
+use Rattle.cet_page.specs.Script.{Script}
 use Rattle.cet_page.specs.declared.finishes.Finish.{Finish}
-use Rattle.cet_page.specs.declared.services.Errno.TheVariants as errno
 
--- the service whose number is in RAX; every number that isn't built is no call
+-- the service whose number is in RAX: exit, exit_group, or one on memory
 abbrev pub service : Arch → Work
 service arch =
     if rax arch == 60 then exit arch
     else if rax arch == 231 then exit_group arch
-    else if rax arch == 453 then map_shadow_stack arch
-    else done (failed arch errno.NoSys)
+    else memory_service arch
 
 -- SYSCALL
 abbrev pub syscall : JobData → Arch → Script Finish

@@ -135,7 +135,7 @@ fn restores() -> [Row; 6] {
 
 /// The token of the stack that was left at 0x200008ff0 goes to 0x200008fe8, word 1,085,949. The word
 /// 0x401006 looks like one that leads to 0x401000.
-fn saves() -> [Row; 7] {
+fn saves() -> [Row; 8] {
     const READ: [Access; 2] = [Access::Look(2122), Access::Load(1_086_975)];
     [
         (
@@ -165,6 +165,14 @@ fn saves() -> [Row; 7] {
             Instr::Saveprevssp,
             [2, OTHER, 0],
             &[SECOND, 0x40_1005],
+            &READ,
+            fault(FaultName::Gp, 0, 0, 0),
+        ),
+        // the word of a signal's frame
+        (
+            Instr::Saveprevssp,
+            [2, OTHER, 0],
+            &[SECOND, 0x8000_0002_0000_9000],
             &READ,
             fault(FaultName::Gp, 0, 0, 0),
         ),

@@ -8,7 +8,7 @@ ghost use Rattle.cet_top.specs.TracedThreads.{threads_of};
 use crate::traced_threads::TracedThread;
 use cet_book::Region;
 use cet_isa::{End, Record, What};
-use cet_words::{FIRST_REGION_END, FIRST_REGION_START, NoMemory, page_up};
+use cet_words::{FIRST_REGION_END, FIRST_REGION_START, NoMemory, THREAD_REGION_SIZE, page_up};
 use std::alloc::Global;
 
 /// The place of thread 0's first shadow stack.
@@ -16,9 +16,6 @@ pub(crate) const FIRST_STACK: Region = Region {
     start: FIRST_REGION_START,
     end: FIRST_REGION_END,
 };
-
-/// The bytes of the shadow stack that a thread is born with: eight pages.
-const BORN_BYTES: u64 = 0x8000;
 
 /// Appends the shadow stack that a record tells of, if any.
 fn push_told(spans: &mut Vec<Region>, noted: Record) -> Result<(), NoMemory>
@@ -31,7 +28,7 @@ fn push_told(spans: &mut Vec<Region>, noted: Record) -> Result<(), NoMemory>
             end: noted.a + page_up(noted.b),
         })?,
         What::Born => spans.push(Region {
-            start: noted.b.saturating_sub(BORN_BYTES),
+            start: noted.b.saturating_sub(THREAD_REGION_SIZE),
             end: noted.b,
         })?,
         What::Step
