@@ -116,4 +116,7 @@ pub record Keeps (c : Class) (job : JobData) (m : Machine) (b : Book) (t : ℕ) 
 -- gets this answer, keeps it so.
 abbrev pub HasClass : Class → Access → Arch → (value : ℕ) → Type 0
 HasClass c a arch value =
-    (job : JobData) (start : Machine) (turns : List ℕ) (t : ℕ) (thread : Thread) → IsJob job → Starts job start → slice_get (run job start turns).threads t ≡ Some thread → thread.core.arch ≡ arch → next_access job thread.core ≡ Some a → answer (run job start turns).words a ≡ value → (b : Book) × (book_of job start turns ≡ Some b) × Keeps c job (run job start turns) b t
+    (job : JobData) (start : Machine) (turns : List ℕ) (t : ℕ) (thread : Thread) → IsJob job → Starts job start
+    → slice_get (run job start turns).threads t ≡ Some thread → thread.core.arch ≡ arch
+    → next_access job thread.core ≡ Some a → answer (run job start turns).words a ≡ value
+    → (b : Book) × (book_of job start turns ≡ Some b) × Keeps c job (run job start turns) b t
