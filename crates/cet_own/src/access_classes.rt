@@ -1,14 +1,14 @@
 //! The classes of accesses, by what an access can do to the book of shadow stacks.
 
+ghost use Rattle.std.specs.Prelude.{◌≡◌, IsTrue};
+ghost use Rattle.cet_own.specs.Class.{HasClass, address_of, class_by, draws_number, draws_pages, exchanges_token, finds_word, is_shadow_word, is_supervisor_token, reads_stack, stores_below, stores_token};
+
 use cet_isa::Arch;
 use cet_page::restore_token;
 use cet_words::{
     Access, DRAW_SHADOW_WORD, FIRST_KERNEL_PAGE, FIRST_KERNEL_WORD, FIRST_SHADOW_PAGE,
     FIRST_SHADOW_WORD, NEXT_THREAD_WORD, SHADOW_START, token_word,
 };
-
-ghost use Rattle.std.specs.Prelude.{◌≡◌, IsTrue};
-ghost use Rattle.cet_own.specs.Class.{HasClass, address_of, class_by, draws_number, draws_pages, exchanges_token, finds_word, is_shadow_word, is_supervisor_token, reads_stack, stores_below, stores_token};
 
 /// What an access can do to the book of shadow stacks.
 #[derive(Clone, Copy, Debug, PartialEq, Eq)]
@@ -64,7 +64,8 @@ fn stores_token(access: &Access) -> bool
     ensures { result ≡ stores_token access.now }
 {
     match *access {
-        Access::Store(word, next) => is_shadow_word(word) && next == restore_token(address_of(word) + 8),
+        Access::Store(word, next) => is_shadow_word(word)
+            && next == restore_token(address_of(word) + 8),
         _ => false,
     }
 }

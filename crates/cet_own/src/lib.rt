@@ -3,6 +3,8 @@
 
 mod access_classes;
 mod laws;
+#[cfg(test)]
+mod tests;
 
 pub use access_classes::{Class, class_of};
 pub use laws::{every_run_ends_right, every_run_is_safe, every_run_stands};
