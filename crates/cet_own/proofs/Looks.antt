@@ -1,8 +1,6 @@
 -- A shadow store's look at any address, what it tells of the address, and the tokens' bits. Source: own.
 use Rattle.std.proofs.Common.{◌≡◌, ℕ, ◌+◌, ◌-◌, ◌*◌, ◌/◌, ◌%◌, ◌^◌, ◌<◌, ◌≤◌, inl, inr, Bool, true, false, List, [], ◌∷◌, length, Option, Some, None, refl, sym, ◌∙◌, ap, subst, arith, lit<}
-use Rattle.std.specs.Prelude.{bit_or, nat_lt, ◌==◌, if◌then◌else◌, find}
-use Rattle.std.specs.Int.Bits.{or_zero_r}
-use Rattle.std.proofs.lemmas.Nat.{or_block}
+use Rattle.std.specs.Prelude.{nat_lt, ◌==◌, if◌then◌else◌, find}
 use Rattle.std.proofs.lemmas.Bool.{cases_lt, false≢true}
 use Rattle.std.proofs.lemmas.Bool.Decides.{nat_tests}
 use Rattle.cet_words.specs.Entries.{entry_of, entry_with, no_execute, segment_entry}
@@ -18,7 +16,6 @@ use Rattle.cet_book.proofs.Relies.{Relies}
 use Rattle.cet_page.specs.Page.{allows}
 use Rattle.cet_page.specs.Parts.{look}
 use Rattle.cet_page.specs.Script.{Script, ◌>>=◌}
-use Rattle.cet_page.specs.Tokens.{restore_token, previous_token}
 use Rattle.cet_page.specs.Trail.{Visit, visit}
 use Rattle.cet_page.specs.declared.checks.Kind.TheVariants as kind
 use Rattle.cet_page.specs.declared.checks.Who.TheVariants.{User}
