@@ -58,8 +58,8 @@ module _ (job : JobData) (j : IsJob job) (m : Machine) (s : State) (st : Invaria
       }
 
 pub has_class : (c : Class) (a : Access) (arch : Arch) (value : ℕ) → c ≡ class_by a arch value → HasClass c a arch value
-has_class c a arch value e = λ job start turns t thread j s found state q is.
+has_class c a arch value e = λ job start turns t j s at.
     let r = ran job j turns start (record { book = first_book }) (first_stands job start j s) (first_recorded job start s) in
     let m = run job start turns in
-    let same : class_by a thread.core.arch (answer m.words a) ≡ c = ap (λ (x : Arch). class_by a x (answer m.words a)) state ∙ ap (class_by a arch) is ∙ sym e in
-    (r.next.book, r.is, subst (λ x. Keeps x job m r.next.book t) same (keeps job j m r.next r.stands t thread found a q))
+    let same : class_by a at.thread.core.arch (answer m.words a) ≡ c = ap (λ (x : Arch). class_by a x (answer m.words a)) at.state ∙ ap (class_by a arch) at.answers ∙ sym e in
+    (r.next.book, r.is, subst (λ x. Keeps x job m r.next.book t) same (keeps job j m r.next r.stands t at.thread at.found a at.wants))

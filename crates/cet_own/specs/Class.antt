@@ -112,11 +112,17 @@ pub record Keeps (c : Class) (job : JobData) (m : Machine) (b : Book) (t : ℕ) 
   pub is : books_after t b (turn_changes job m t) ≡ Some next
   pub stands : Stands job (step job m t) next
 
--- In every run of every job there is a book, and an access of this class, wherever a thread in this state makes it next and
--- gets this answer, keeps it so.
+-- thread t is in this state, makes this access next, and gets this answer
+pub record IsNext (a : Access) (arch : Arch) (value : ℕ) (job : JobData) (m : Machine) (t : ℕ) : Type 0 where
+  pub thread : Thread
+  pub found : slice_get m.threads t ≡ Some thread
+  pub state : thread.core.arch ≡ arch
+  pub wants : next_access job thread.core ≡ Some a
+  pub answers : answer m.words a ≡ value
+
+-- In every run from a start m there is a book, and an access of this class keeps it, wherever a thread in this state makes
+-- it next and gets this answer.
 abbrev pub HasClass : Class → Access → Arch → (value : ℕ) → Type 0
 HasClass c a arch value =
-    (job : JobData) (start : Machine) (turns : List ℕ) (t : ℕ) (thread : Thread) → IsJob job → Starts job start
-    → slice_get (run job start turns).threads t ≡ Some thread → thread.core.arch ≡ arch
-    → next_access job thread.core ≡ Some a → answer (run job start turns).words a ≡ value
-    → (b : Book) × (book_of job start turns ≡ Some b) × Keeps c job (run job start turns) b t
+    (job : JobData) (m : Machine) (turns : List ℕ) (t : ℕ) → IsJob job → Starts job m → IsNext a arch value job (run job m turns) t
+    → (b : Book) × (book_of job m turns ≡ Some b) × Keeps c job (run job m turns) b t
