@@ -1,10 +1,13 @@
 -- The settings of a run, which its options set. Source: own.
 use Rattle.std.specs.Prelude.{ℕ, ◌≤◌}
 
--- at most so many records for each thread
+-- at most so many records for each thread, and so many processors
 pub record SettingsData : Type 0 where
   pub limit : ℕ
+  pub procs : ℕ
 
 pub record IsSettings (settings : SettingsData) : Type 0 where
   pub limit_low : 1 ≤ settings.limit
   pub limit_high : settings.limit ≤ 100000
+  pub procs_low : 1 ≤ settings.procs
+  pub procs_high : settings.procs ≤ 8

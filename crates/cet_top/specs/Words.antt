@@ -15,9 +15,12 @@ use Rattle.cet_top.specs.declared.words.CommandName.TheVariants as name
 abbrev pub limit : OptionRow OptionName
 limit = record { name = option.Limit; word = codes "--limit"; value = Some (Number 1 100000); part = 0 }
 
+abbrev pub procs : OptionRow OptionName
+procs = record { name = option.Procs; word = codes "--procs"; value = Some (Number 1 8); part = 1 }
+
 -- those of every run
 abbrev pub common : List (OptionRow OptionName)
-common = limit ∷ []
+common = limit ∷ procs ∷ []
 
 -- ---- the commands
 
@@ -31,11 +34,12 @@ commands = plain_row name.Run (codes "run") common ∷ plain_row name.Dis (codes
 
 -- the settings where no option is given
 abbrev pub defaults : SettingsData
-defaults = record { limit = 100000 }
+defaults = record { limit = 100000; procs = 4 }
 
 -- an option sets its setting to what its value means
 abbrev pub with_option : SettingsData → OptionName → (value : List ℕ) → SettingsData
 with_option settings option.Limit value = record settings { limit = unwrap_or (number_within 1 100000 value) settings.limit }
+with_option settings option.Procs value = record settings { procs = unwrap_or (number_within 1 8 value) settings.procs }
 
 abbrev pub with_given : SettingsData → Given OptionName → SettingsData
 with_given settings g = with_option settings g.option.name g.value

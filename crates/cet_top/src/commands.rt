@@ -23,9 +23,6 @@ use cet_io::{Sink, Source};
 use cet_words::{Bytes, Image, Job, NoMemory};
 use std::alloc::Global;
 
-/// The number of processors.
-const PROCS: u8 = 4;
-
 /// The status and the output of a command.
 #[derive(Debug, Drop)]
 pub(crate) struct Answer {
@@ -66,7 +63,7 @@ fn run_image(alloc: Global, settings: &Settings, image: &Image) -> Result<Answer
     let _entry = image.entry;
     let job = Job {
         image,
-        procs: PROCS,
+        procs: settings.procs,
         limit: settings.limit,
         signals: &[],
     };

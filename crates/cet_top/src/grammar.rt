@@ -13,6 +13,9 @@ use cet_base::read_u64;
 /// The most records that the limit of a run allows, and its limit where no option says another.
 pub(crate) const MOST_RECORDS: u32 = 100_000;
 
+/// The most processors of a run.
+pub(crate) const MOST_PROCS: u8 = 8;
+
 /// Which texts are a value.
 #[derive(Clone, Copy, Debug, PartialEq, Eq)]
 pub(crate) enum Value {
@@ -51,15 +54,26 @@ pub(crate) struct CommandRow {
 }
 
 /// The options of every run.
-const COMMON: [OptionRow; 1] = [OptionRow {
-    name: OptionName::Limit,
-    word: "--limit",
-    value: Some(Value::Number {
-        low: 1,
-        high: MOST_RECORDS as u64,
-    }),
-    part: 0,
-}];
+const COMMON: [OptionRow; 2] = [
+    OptionRow {
+        name: OptionName::Limit,
+        word: "--limit",
+        value: Some(Value::Number {
+            low: 1,
+            high: MOST_RECORDS as u64,
+        }),
+        part: 0,
+    },
+    OptionRow {
+        name: OptionName::Procs,
+        word: "--procs",
+        value: Some(Value::Number {
+            low: 1,
+            high: MOST_PROCS as u64,
+        }),
+        part: 1,
+    },
+];
 
 const COMMANDS: [CommandRow; 4] = [
     CommandRow {

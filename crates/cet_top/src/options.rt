@@ -5,14 +5,19 @@ ghost use Rattle.cet_top.specs.Table.{given_view};
 ghost use Rattle.cet_top.specs.Values.{number_within};
 ghost use Rattle.cet_top.specs.Words.{defaults, with_any, with_option};
 
-use crate::grammar::{Given, MOST_RECORDS, number_within};
+use crate::grammar::{Given, MOST_PROCS, MOST_RECORDS, number_within};
 use std::marker::Model;
+
+/// The number of processors where no option says another.
+const PROCS: u8 = 4;
 
 /// An option, by its name.
 #[derive(Clone, Copy, Debug, PartialEq, Eq)]
 pub(crate) enum OptionName {
     /// `--limit`: the most records of each thread, 1 to 100,000.
     Limit,
+    /// `--procs`: the number of processors, 1 to 8.
+    Procs,
 }
 
 /// The settings of a run.
@@ -20,6 +25,8 @@ pub(crate) enum OptionName {
 pub struct Settings {
     /// The most records of each thread, 1 to 100,000.
     pub limit: u32,
+    /// The number of processors, 1 to 8.
+    pub procs: u8,
 }
 
 impl Model for Settings {
@@ -27,11 +34,11 @@ impl Model for Settings {
 
     ghost Value = { SettingsData };
 
-    ghost view = { λ s. record { limit = s.limit } };
+    ghost view = { λ s. record { limit = s.limit; procs = s.procs } };
 
-    ghost invariant = { λ s. IsSettings (record { limit = s.limit }) };
+    ghost invariant = { λ s. IsSettings (record { limit = s.limit; procs = s.procs }) };
 
-    ghost inverse = { λ d. record { limit = d.limit } };
+    ghost inverse = { λ d. record { limit = d.limit; procs = d.procs } };
 }
 
 /// The limit that a text is.
@@ -42,6 +49,14 @@ fn limit_of(text: &str) -> Option<u32>
     Some(limit as u32)
 }
 
+/// The number of processors that a text is.
+fn procs_of(text: &str) -> Option<u8>
+    ensures { result ≡ number_within 1 8 text.now }
+{
+    let procs = number_within(text, 1, MOST_PROCS.into())?;
+    Some(procs as u8)
+}
+
 impl Settings {
     /// The settings where no option is given.
     pub(crate) fn defaults() -> Settings
@@ -49,6 +64,7 @@ impl Settings {
     {
         Settings {
             limit: MOST_RECORDS,
+            procs: PROCS,
         }
     }
 
@@ -59,6 +75,11 @@ impl Settings {
         match option {
             OptionName::Limit => Settings {
                 limit: limit_of(value).unwrap_or(self.limit),
+                procs: self.procs,
+            },
+            OptionName::Procs => Settings {
+                limit: self.limit,
+                procs: procs_of(value).unwrap_or(self.procs),
             },
         }
     }
