@@ -3,7 +3,7 @@ use Rattle.std.specs.Prelude.{◌≡◌, ℕ, ◌+◌, ◌-◌, ◌*◌, ◌%◌
 use Rattle.cet_words.specs.Change.{Change, Called, Returned, Raised, Acquired, Released, Claimed, Seeded, Born, Pushed, Popped, Ended, Busied, Freed}
 use Rattle.cet_words.specs.Access.{answer}
 use Rattle.cet_words.specs.Job.{JobData, IsJob}
-use Rattle.cet_words.specs.Layout.{within, shadow_start, first_shadow_page, first_kernel_page, first_shadow_word, first_kernel_word, next_thread_word, draw_shadow_word, token_word}
+use Rattle.cet_words.specs.Layout.{within, shadow_start, first_shadow_page, first_kernel_page, first_shadow_word, first_kernel_word, next_thread_word, draw_shadow_word, thread_limit, token_word}
 use Rattle.cet_words.specs.declared.accesses.Access.{Access}
 use Rattle.cet_words.specs.declared.accesses.Access.TheVariants as access
 use Rattle.cet_isa.specs.declared.threads.Arch.{Arch}
@@ -43,7 +43,7 @@ stores_token a = false
 
 -- the number of a thread is drawn, and there is one left
 abbrev pub draws_number : Access → (value : ℕ) → Bool
-draws_number (access.FetchAdd word n) value = word == next_thread_word && nat_lt value 32
+draws_number (access.FetchAdd word n) value = word == next_thread_word && nat_lt value thread_limit
 draws_number a value = false
 
 -- a word without bit 63 is stored right below SSP, or any word below that one

@@ -1,6 +1,6 @@
 -- What is read off the trail of a row: what it left in a word, what it may still lean on, and what it has counted.
 -- Source: own.
-use Rattle.std.specs.Prelude.{ℕ, ◌+◌, ◌-◌, ◌*◌, ◌%◌, ◌^◌, Bool, true, false, ◌||◌, ◌&&◌, nat_lt, ◌==◌, if◌then◌else◌, bit_or, bit_and, List, [], ◌∷◌, Option, Some, None}
+use Rattle.std.specs.Prelude.{ℕ, ◌+◌, ◌-◌, ◌%◌, ◌^◌, Bool, true, false, ◌||◌, ◌&&◌, nat_lt, ◌==◌, if◌then◌else◌, bit_or, bit_and, List, [], ◌∷◌, Option, Some, None}
 use Rattle.cet_words.specs.Layout.{action_word, draw_shadow_word, next_thread_word}
 use Rattle.cet_words.specs.Change.{Change, Acquired, Claimed, Seeded, Born, Pushed, Busied}
 use Rattle.cet_words.specs.Job.{JobData}
@@ -54,7 +54,7 @@ left_in (x ∷ past) w =
 
 -- the restorer stands two words above the handler
 abbrev pub restorer_word : (signal : ℕ) → ℕ
-restorer_word signal = 1605698 + 4 * signal
+restorer_word signal = action_word signal + 2
 
 -- the access loads a handler other than the default and ignoring, or stores a restorer
 abbrev pub shows_restorer : Access → (answer signal : ℕ) → Bool

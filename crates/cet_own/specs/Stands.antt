@@ -4,7 +4,7 @@ use Rattle.std.specs.Prelude.{◌≡◌, ◌≢◌, ℕ, ◌+◌, ◌-◌, ◌*�
 use Rattle.cet_words.specs.Entries.{entry_of}
 use Rattle.cet_words.specs.Bytes.{code_byte}
 use Rattle.cet_words.specs.Job.{JobData, ImageData}
-use Rattle.cet_words.specs.Layout.{entry_word, token, token_word, action_word, first_kernel_page, first_mmap_page, first_shadow_page, page_count, shadow_start, thread_region_size}
+use Rattle.cet_words.specs.Layout.{entry_word, token, token_word, action_word, first_kernel_page, first_mmap_page, first_shadow_page, page_count, shadow_start, thread_limit, thread_region_size}
 use Rattle.cet_book.specs.declared.entries.Holder.TheVariants.{Lost, Maker}
 use Rattle.cet_book.specs.Book.{Book, region, top, stack_of}
 use Rattle.cet_book.specs.Facts.{Bounds, In, Place, LiesIn, Owns, Stack, is_left, one, links, Returns}
@@ -87,7 +87,7 @@ pub record Counters (words : List ℕ) (threads : List Thread) (b : Book) : Type
   -- every region ends at or below the next page to be drawn
   pub drawn : (i : ℕ) → (region b i).end ≤ shadow_start + 4096 * slice_index words draw_word
   pub least : 1 ≤ slice_index words next_word
-  pub number : length threads ≡ min (slice_index words next_word) 32
+  pub number : length threads ≡ min (slice_index words next_word) thread_limit
 
 pub record Counts (job : JobData) (words : List ℕ) (threads : List Thread) : Type 0 where
   pub most : (t : ℕ) (thread : Thread) → slice_get threads t ≡ Some thread → thread.core.arch.count ≤ job.limit

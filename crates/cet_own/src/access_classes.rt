@@ -7,7 +7,7 @@ use cet_isa::Arch;
 use cet_page::restore_token;
 use cet_words::{
     Access, DRAW_SHADOW_WORD, FIRST_KERNEL_PAGE, FIRST_KERNEL_WORD, FIRST_SHADOW_PAGE,
-    FIRST_SHADOW_WORD, NEXT_THREAD_WORD, SHADOW_START, token_word,
+    FIRST_SHADOW_WORD, NEXT_THREAD_WORD, SHADOW_START, THREAD_LIMIT, token_word,
 };
 
 /// What an access can do to the book of shadow stacks.
@@ -74,7 +74,7 @@ fn draws_number(access: &Access, value: u64) -> bool
     ensures { result ≡ draws_number access.now value }
 {
     match *access {
-        Access::FetchAdd(word, _) => word == NEXT_THREAD_WORD && value < 32,
+        Access::FetchAdd(word, _) => word == NEXT_THREAD_WORD && value < THREAD_LIMIT,
         _ => false,
     }
 }

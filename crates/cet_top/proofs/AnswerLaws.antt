@@ -1,6 +1,5 @@
 -- A command has one answer to the same bytes.
-use Rattle.std.proofs.Common.{◌≡◌, ◌≢◌, ℕ, ◌+◌, ◌<◌, ◌≤◌, Bool, true, false, List, [], ◌∷◌, ◌++◌, length, take, drop, get_or, Option, Some, None, refl, sym, ap, ◌∙◌, subst, inl, inr, arith}
-use Rattle.std.specs.Prelude.{slice_index, ◌⊎◌}
+use Rattle.std.proofs.Common.{◌≡◌, ℕ, ◌<◌, ◌≤◌, Bool, true, false, List, [], ◌∷◌, ◌++◌, length, take, drop, Option, Some, None, refl, sym, ap, ◌∙◌, subst, inl, inr, arith}
 use Rattle.std.proofs.lemmas.Bool.{cases_lt}
 use Rattle.std.proofs.lemmas.List.{append-nil, ext_get_or, length-append, take_at}
 use Rattle.std.proofs.Math.Seq.{drop-append_seam}
@@ -10,24 +9,22 @@ use Rattle.cet_words.specs.Start.{IsStart}
 use Rattle.cet_words.specs.declared.images.Segment.{Segment}
 use Rattle.cet_isa.specs.declared.instructions.Instr.{Instr}
 use Rattle.cet_isa.specs.Reading.{Read, decoded}
-use Rattle.cet_isa.specs.Spells.{Begins, Spells}
+use Rattle.cet_isa.specs.Spells.{Spells}
 use Rattle.cet_isa.proofs.DecodedLaws.{decoded_spelling}
 use Rattle.cet_isa.proofs.ReadingLaws.{decoded_within}
-use Rattle.cet_asm.specs.Program.{Fault, IsFirstFault, IsProgram, fault_of}
+use Rattle.cet_asm.specs.Program.{Fault, IsProgram}
 use Rattle.cet_asm.specs.declared.program.Program.{Program}
-use Rattle.cet_book.specs.Book.{Book}
 use Rattle.cet_elf.specs.Accepts.{Accepts, FirstBroken, image_of}
 use Rattle.cet_elf.specs.Rules.{breach}
 use Rattle.cet_elf.specs.Written.{written}
 use Rattle.cet_own.specs.Event.{book_of}
-use Rattle.cet_page.specs.Machine.{Machine, Starts, Thread, machine, run}
-use Rattle.cet_top.specs.Answer.{Answers, Assembles, Checks, Disassembles, Faults, Refuses, Reports, Runs, job_of, status_of}
+use Rattle.cet_page.specs.Machine.{Machine, Starts, machine, run}
+use Rattle.cet_top.specs.Answer.{Answers, Assembles, Faults, Refuses, Reports, job_of, status_of}
 use Rattle.cet_top.specs.Listing.{Instruction, IsCut, IsFirst, IsListing, Lists, ListsIf, Lone, Piece, piece_bytes, piece_lines}
 use Rattle.cet_top.specs.Report.{report_of}
 use Rattle.cet_top.specs.SafeRun.{SafeRun, outcome_of}
 use Rattle.cet_top.specs.Schedule.{ByRobin}
 use Rattle.cet_top.specs.declared.outcomes.Outcome.{Outcome}
-use Rattle.cet_top.specs.declared.outcomes.Style.{Style}
 use Rattle.cet_top.specs.declared.outcomes.Style.TheVariants as style
 use Rattle.cet_top.specs.declared.status.Status.{Status}
 use Rattle.cet_top.specs.declared.status.Status.TheVariants as status

@@ -7,7 +7,7 @@ use Rattle.std.proofs.lemmas.List.{append-nil, length-append, length-take-le}
 use Rattle.std.specs.Io.KnownBytes.{Consumes, IsAtEnd}
 use Rattle.cet_top.proofs.Known.{Consumes-more, rose_later, rose_more, rose_none}
 use Rattle.cet_io.specs.Stream.{CountsFaults, Rose, RoseBy, Tally, TakesUpTo, added, counted, is_end, raised, tallied}
-use Rattle.cet_top.specs.Reading.{SourceState, TakesAll, CountsBy, TalliesBy, NoneFailed, OneFailed, ReadToEnd, ReadUntilFault, ReadTooMuch, ReadSome}
+use Rattle.cet_top.specs.Reading.{SourceState, TakesAll, CountsBy, TalliesBy, NoneFailed, ReadToEnd, ReadUntilFault, ReadTooMuch, ReadSome}
 
 -- reads gave these bytes so far; none failed or found the end
 pub record Reading (src src' : SourceState) (bytes : List ℕ) : Type 0 where

@@ -2,13 +2,12 @@
 use Rattle.std.proofs.Common.{◌≡◌, ℕ, ◌<◌, ◌≤◌, arith, Bool, true, false, List, [], ◌∷◌, length, Option, Some, None, refl, sym, ap, subst, inl, inr, ◌⊎◌}
 use Rattle.std.specs.Io.KnownBytes.{Appends}
 use Rattle.cet_top.specs.Answer.{Answers, reads, status_of}
-use Rattle.cet_top.specs.Serves.{Answering, Answered, Completes, CountsTooMuch, Cut, GaveTooMuch, IsAnswered, LostTooMuch, Read, Serves, SinkState, Takes, Wrote}
+use Rattle.cet_top.specs.Serves.{Answering, Answered, Completes, CountsTooMuch, Cut, GaveTooMuch, IsAnswered, LostTooMuch, Serves, SinkState, Takes, Wrote}
 use Rattle.cet_io.specs.Stream.{AppendsSome, Rose, Tally}
 use Rattle.cet_top.specs.Reading.{ReadSome, ReadToEnd, ReadTooMuch, ReadUntilFault, SourceState, TakesAll, TalliesBy}
 use Rattle.cet_top.specs.Words.{Means}
 use Rattle.cet_top.specs.declared.outcomes.ProcessEnd.{ProcessEnd}
 use Rattle.cet_top.specs.declared.outcomes.ProcessEnd.TheVariants as process
-use Rattle.cet_top.specs.declared.outcomes.Style.TheVariants as style
 use Rattle.cet_top.specs.declared.status.Status.{Status}
 use Rattle.cet_top.specs.declared.status.Status.TheVariants as status
 use Rattle.cet_top.specs.declared.words.Command.{Command}

@@ -1,8 +1,7 @@
 -- Turns that go on to a whole run by Robin. Source: own.
-use Rattle.std.specs.Prelude.{◌≡◌, ℕ, ◌++◌, List, Option, Some, None, slice_get, sum_by}
+use Rattle.std.specs.Prelude.{◌≡◌, ℕ, ◌++◌, List, Option, None}
 use Rattle.cet_words.specs.Job.{JobData}
-use Rattle.cet_page.specs.Left.{left_of}
-use Rattle.cet_page.specs.Machine.{Machine, Thread, run}
+use Rattle.cet_page.specs.Machine.{Machine, run}
 use Rattle.cet_top.specs.Schedule.{IsRobin}
 
 -- these turns lead to this machine, and with more turns that end by Robin they are a run by Robin

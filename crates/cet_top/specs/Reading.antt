@@ -3,6 +3,10 @@ use Rattle.std.specs.Prelude.{ℕ, ◌<◌, ◌≤◌, ◌≡◌, List, [], ◌+
 use Rattle.std.specs.Io.KnownBytes.{Consumes}
 use Rattle.cet_io.specs.Stream.{Rose, RoseBy, Tally, raised}
 
+-- the most bytes that an input may have: 8 MiB
+abbrev pub most_input : ℕ
+most_input = 8388608
+
 -- the known bytes were exactly these, and none is left
 abbrev pub TakesAll : Option (List ℕ) → Option (List ℕ) → List ℕ → Type 0
 TakesAll None new bytes = ⊤
@@ -40,7 +44,7 @@ OneFailed src src' = IfSome src.tally (λ t. src'.faults ≡ raised src.faults)
 -- The source gave these bytes, at most 8,388,608, and none is left. No read failed, and one found the end.
 pub record ReadToEnd (src src' : SourceState) (bytes : List ℕ) : Type 0 where
   pub all : TakesAll src.left src'.left bytes
-  pub short : length bytes ≤ 8388608
+  pub short : length bytes ≤ most_input
   pub reads : TalliesBy (length bytes) 1 src.tally src'.tally
   pub calm : NoneFailed src src'
 
@@ -49,7 +53,7 @@ pub record ReadUntilFault (src src' : SourceState) : Type 0 where
   pub bytes : List ℕ
   pub lost : List ℕ
   pub taken : Consumes src.left src'.left (bytes ++ lost)
-  pub short : length bytes ≤ 8388608
+  pub short : length bytes ≤ most_input
   pub reads : TalliesBy (length bytes) 0 src.tally src'.tally
   pub once : OneFailed src src'
   pub cause : Rose src.faults src'.faults
@@ -58,7 +62,7 @@ pub record ReadUntilFault (src src' : SourceState) : Type 0 where
 pub record ReadTooMuch (src src' : SourceState) : Type 0 where
   pub bytes : List ℕ
   pub taken : Consumes src.left src'.left bytes
-  pub long : 8388608 < length bytes
+  pub long : most_input < length bytes
   pub reads : TalliesBy (length bytes) 0 src.tally src'.tally
   pub calm : NoneFailed src src'
 

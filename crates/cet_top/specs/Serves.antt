@@ -2,7 +2,7 @@
 use Rattle.std.specs.Prelude.{◌≡◌, ℕ, ◌+◌, ◌<◌, ◌≤◌, ◌⊎◌, Bool, true, false, List, [], ◌∷◌, length, Option, Some, None}
 use Rattle.std.specs.Io.KnownBytes.{Appends}
 use Rattle.cet_io.specs.Stream.{Rose, AppendsSome, Tally}
-use Rattle.cet_top.specs.Reading.{SourceState, ReadToEnd, ReadUntilFault, ReadTooMuch, ReadSome}
+use Rattle.cet_top.specs.Reading.{most_input, SourceState, ReadToEnd, ReadUntilFault, ReadTooMuch, ReadSome}
 use Rattle.cet_top.specs.declared.status.Status.{Status}
 use Rattle.cet_top.specs.declared.status.Status.TheVariants as status
 
@@ -93,13 +93,13 @@ Completes reads Answer src src' sink sink' s = ¬ Rose src.faults src'.faults �
 abbrev pub LostTooMuch : Option (List ℕ) → Option (List ℕ) → Type 0
 LostTooMuch None new = ⊥
 LostTooMuch (Some xs) None = ⊥
-LostTooMuch (Some xs) (Some ys) = length ys + 8388608 < length xs
+LostTooMuch (Some xs) (Some ys) = length ys + most_input < length xs
 
 -- more than 8,388,608 bytes more are counted as given
 abbrev pub CountsTooMuch : Option Tally → Option Tally → Type 0
 CountsTooMuch None new = ⊥
 CountsTooMuch (Some t) None = ⊥
-CountsTooMuch (Some t) (Some u) = t.given + 8388608 < u.given
+CountsTooMuch (Some t) (Some u) = t.given + most_input < u.given
 
 -- The source gave more than 8,388,608 bytes, by its count of them, or by what is left of its bytes where no fault rose; for a
 -- read that fails may lose bytes that it doesn't give.

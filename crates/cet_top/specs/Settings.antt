@@ -1,6 +1,10 @@
 -- The settings of a run, which its options set. Source: own.
 use Rattle.std.specs.Prelude.{ℕ, ◌≤◌}
 
+-- the most records of a thread
+abbrev pub most_records : ℕ
+most_records = 100000
+
 -- at most so many records for each thread, and so many processors
 pub record SettingsData : Type 0 where
   pub limit : ℕ
@@ -8,6 +12,6 @@ pub record SettingsData : Type 0 where
 
 pub record IsSettings (settings : SettingsData) : Type 0 where
   pub limit_low : 1 ≤ settings.limit
-  pub limit_high : settings.limit ≤ 100000
+  pub limit_high : settings.limit ≤ most_records
   pub procs_low : 1 ≤ settings.procs
   pub procs_high : settings.procs ≤ 8

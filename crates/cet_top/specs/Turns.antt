@@ -1,5 +1,5 @@
 -- A run by Robin, from one machine to another. Source: own.
-use Rattle.std.specs.Prelude.{◌≡◌, ℕ, ◌++◌, List, Option, Some, None, slice_get, sum_by}
+use Rattle.std.specs.Prelude.{◌≡◌, ℕ, List, Some, None, slice_get, sum_by}
 use Rattle.cet_words.specs.Job.{JobData}
 use Rattle.cet_page.specs.Left.{left_of}
 use Rattle.cet_page.specs.Machine.{Machine, Thread, run}

@@ -2,7 +2,7 @@
 use Rattle.std.specs.Prelude.{ℕ, ◌≡◌, List, [], ◌∷◌, fold, codes, Option, Some, None, unwrap_or}
 use Rattle.cet_top.specs.Grammar.{CommandRow, Given, IsAmong, IsLine, OptionRow}
 use Rattle.cet_top.specs.Values.{Number, number_within}
-use Rattle.cet_top.specs.Settings.{SettingsData}
+use Rattle.cet_top.specs.Settings.{SettingsData, most_records}
 use Rattle.cet_top.specs.declared.options.OptionName.{OptionName}
 use Rattle.cet_top.specs.declared.options.OptionName.TheVariants as option
 use Rattle.cet_top.specs.declared.words.Command.{Command}
@@ -13,7 +13,7 @@ use Rattle.cet_top.specs.declared.words.CommandName.TheVariants as name
 -- ---- the options
 
 abbrev pub limit : OptionRow OptionName
-limit = record { name = option.Limit; word = codes "--limit"; value = Some (Number 1 100000); part = 0 }
+limit = record { name = option.Limit; word = codes "--limit"; value = Some (Number 1 most_records); part = 0 }
 
 abbrev pub procs : OptionRow OptionName
 procs = record { name = option.Procs; word = codes "--procs"; value = Some (Number 1 8); part = 1 }
@@ -34,11 +34,11 @@ commands = plain_row name.Run (codes "run") common ∷ plain_row name.Dis (codes
 
 -- the settings where no option is given
 abbrev pub defaults : SettingsData
-defaults = record { limit = 100000; procs = 4 }
+defaults = record { limit = most_records; procs = 4 }
 
 -- an option sets its setting to what its value means
 abbrev pub with_option : SettingsData → OptionName → (value : List ℕ) → SettingsData
-with_option settings option.Limit value = record settings { limit = unwrap_or (number_within 1 100000 value) settings.limit }
+with_option settings option.Limit value = record settings { limit = unwrap_or (number_within 1 most_records value) settings.limit }
 with_option settings option.Procs value = record settings { procs = unwrap_or (number_within 1 8 value) settings.procs }
 
 abbrev pub with_given : SettingsData → Given OptionName → SettingsData

@@ -7,7 +7,7 @@ ghost use Rattle.cet_elf.specs.Written.{written};
 ghost use Rattle.cet_top.specs.Listing.{IsListing};
 ghost use Rattle.cet_top.specs.Schedule.{ByRobin};
 ghost use Rattle.cet_top.specs.Serves.{Serves, sink_state};
-ghost use Rattle.cet_top.specs.Reading.{source_state};
+ghost use Rattle.cet_top.specs.Reading.{most_input, source_state};
 
 use crate::listing::listing;
 use crate::options::Settings;
@@ -160,7 +160,7 @@ fn faulty(alloc: Global, line: u32, rule: u8) -> Answer
 
 /// Assembles the text that the bytes are.
 fn assemble_bytes(alloc: Global, bytes: &[u8]) -> Result<Answer, NoMemory>
-    requires short { length bytes.now ≤ 8388608 }
+    requires short { length bytes.now ≤ most_input }
     ensures { IfOk result (λ answer. Answers Command.Asm bytes.now answer.status answer.output) }
 {
     match assemble(alloc, bytes) {
@@ -172,7 +172,7 @@ fn assemble_bytes(alloc: Global, bytes: &[u8]) -> Result<Answer, NoMemory>
 
 /// What a command answers to the bytes of the source.
 fn answer_to(alloc: Global, command: &Command, bytes: &[u8]) -> Result<Answer, NoMemory>
-    requires short { length bytes.now ≤ 8388608 }
+    requires short { length bytes.now ≤ most_input }
     ensures { IfOk result (λ answer. Answers command.now bytes.now answer.status answer.output) }
 {
     match command {

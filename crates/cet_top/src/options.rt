@@ -1,6 +1,7 @@
 //! The options of a command, and the settings that they make.
 
 ghost use Rattle.std.specs.Prelude.{◌≡◌, option_map};
+ghost use Rattle.cet_top.specs.Settings.{most_records};
 ghost use Rattle.cet_top.specs.Table.{given_view};
 ghost use Rattle.cet_top.specs.Values.{number_within};
 ghost use Rattle.cet_top.specs.Words.{defaults, with_any, with_option};
@@ -43,7 +44,7 @@ impl Model for Settings {
 
 /// The limit that a text is.
 fn limit_of(text: &str) -> Option<u32>
-    ensures { result ≡ number_within 1 100000 text.now }
+    ensures { result ≡ number_within 1 most_records text.now }
 {
     let limit = number_within(text, 1, MOST_RECORDS.into())?;
     Some(limit as u32)
