@@ -3,7 +3,7 @@
 use Rattle.std.proofs.Common.{zero, suc}
 use Rattle.std.specs.Prelude.{ℕ, ◌+◌, ◌-◌, ◌*◌, ◌/◌, ◌%◌, Bool, true, false, ◌&&◌, ◌==◌, nat_lt, nat_le, if◌then◌else◌, List, [], ◌∷◌, ◌++◌, length, replicate, slice_index_or, slice_set, Option, Some, None, option_and_then}
 use Rattle.std.specs.List.{position_or_len}
-use Rattle.cet_words.specs.Layout.{first_region_end, first_region_start, shadow_start, last_region_end}
+use Rattle.cet_words.specs.Layout.{first_region_end, first_region_start, shadow_start, last_region_end, most_stack_pages}
 use Rattle.cet_book.specs.declared.entries.Entry.{Entry}
 use Rattle.cet_book.specs.declared.entries.Entry.TheVariants.{Call, Restorer, Frame, Previous, Blank}
 use Rattle.cet_book.specs.declared.entries.Holder.{Holder}
@@ -164,7 +164,7 @@ last_end b = if nat_lt 0 (length b.regions) then (region b (length b.regions - 1
 
 abbrev pub can_claim : ℕ → ℕ → Book → Bool
 can_claim start pages b =
-    nat_le 1 pages && nat_le pages 1022 && start % 4096 == 0 && nat_le (last_end b + 4096) start &&
+    nat_le 1 pages && nat_le pages most_stack_pages && start % 4096 == 0 && nat_le (last_end b + 4096) start &&
     nat_le (start + 4096 * pages) last_region_end
 
 abbrev pub claimed : ℕ → ℕ → ℕ → Bool → Book → Option Book

@@ -1,17 +1,14 @@
 //! Which region the pages of the shadow area are of, so that an address leads to its region at once.
 
 ghost use Rattle.std.specs.Prelude.{◌≡◌, ℕ, ◌-◌, ◌/◌, ◌<◌, ◌≤◌, ◌⊎◌, ◌&&◌, nat_lt, IfOk, All, length, slice_index_or};
-ghost use Rattle.cet_words.specs.Layout.{shadow_start};
+ghost use Rattle.cet_words.specs.Layout.{area_pages, shadow_start};
 ghost use Rattle.cet_book.specs.Marks.{has, place};
 ghost use Rattle.cet_book.specs.Pages.{IsTable, listed};
 ghost use Rattle.cet_book.specs.View.{Has, IsSpan, no_span};
 
 use crate::regions::Region;
-use cet_words::{NoMemory, SHADOW_START};
+use cet_words::{AREA_PAGES, NoMemory, SHADOW_START};
 use std::alloc::Global;
-
-/// The number of pages of the shadow area.
-const PAGE_COUNT: usize = 1024;
 
 /// What a table tells of the page of an address, or `none` for one outside the shadow area.
 fn listed(table: &[usize], addr: u64, none: usize) -> usize
@@ -55,7 +52,7 @@ fn pages_of(regions: &[Region], at: usize) -> (usize, usize)
     ensures first { result.0 ≡ ((slice_index_or regions.now at no_span).start - shadow_start) / 4096 }
     ensures last { result.1 ≡ ((slice_index_or regions.now at no_span).end - shadow_start) / 4096 }
     ensures order { result.0 ≤ result.1 }
-    ensures high { result.1 < 1024 }
+    ensures high { result.1 < area_pages }
 {
     let first = (regions[at].start - SHADOW_START) / 4096;
     let last = (regions[at].end - SHADOW_START) / 4096;
@@ -76,7 +73,7 @@ fn put_pages(table: &mut [usize], first: usize, last: usize, at: usize)
 
 /// Puts the pages of each region, that of its end among them, into a table.
 fn fill_table(table: &mut [usize], regions: &[Region])
-    requires size { length table.old ≡ 1024 }
+    requires size { length table.old ≡ area_pages }
     requires each { All IsSpan regions.now }
     requires apart { (i j a : ℕ) → i < length regions.now → j < length regions.now → Has a (slice_index_or regions.now i no_span) → Has a (slice_index_or regions.now j no_span) → i ≡ j }
     ensures { IsTable regions.now table.new (length regions.now) }
@@ -93,7 +90,7 @@ pub(crate) fn table_of(alloc: Global, regions: &[Region]) -> Result<Vec<usize>, 
     requires apart { (i j a : ℕ) → i < length regions.now → j < length regions.now → Has a (slice_index_or regions.now i no_span) → Has a (slice_index_or regions.now j no_span) → i ≡ j }
     ensures { IfOk result (λ table. IsTable regions.now table.items (length regions.now)) }
 {
-    let mut table = vec![in alloc; regions.len(); PAGE_COUNT]?;
+    let mut table = vec![in alloc; regions.len(); AREA_PAGES as usize]?;
     fill_table(&mut table, regions);
     Ok(table)
 }

@@ -16,11 +16,8 @@ use crate::stacks::{
     Stack, add_stack, count_of, current_of, hand_over, has_more_than, has_room, is_maker, last_end,
     newest, parked_at, put_entry, put_two, remove, seed,
 };
-use cet_words::NoMemory;
+use cet_words::{LAST_REGION_END, MOST_STACK_PAGES, NoMemory};
 use std::alloc::Global;
-
-/// The highest address at which a stack may end.
-const LAST_END: u64 = 0x2_003f_f000;
 
 /// A call puts the address that it is to return to on the stack of its thread.
 pub(crate) fn called(
@@ -183,13 +180,13 @@ fn can_claim(stacks: &[Stack], start: u64, pages: u32) -> bool
     ensures test { (g : List (Option ℕ)) → result ≡ can_claim start pages (book_of stacks.now g) }
     ensures bound { result ≡ true → start + 4096 * pages ≤ last_region_end }
 {
-    if pages < 1 || pages > 1022 || start % 4096 != 0 {
+    if pages < 1 || pages > MOST_STACK_PAGES || start % 4096 != 0 {
         return false;
     }
-    if start < last_end(stacks) + 4096 || start > LAST_END {
+    if start < last_end(stacks) + 4096 || start > LAST_REGION_END {
         return false;
     }
-    start + 4096 * pages as u64 <= LAST_END
+    start + 4096 * pages as u64 <= LAST_REGION_END
 }
 
 /// Pages are drawn: a stack that the thread goes on to make, or a lost one.

@@ -12,14 +12,12 @@ ghost use Rattle.cet_page.specs.Gate.{busied_if, stack_of, gate_in, gate_out, fi
 ghost use Rattle.cet_cpu.specs.Changes.{finish_with, Stays};
 ghost use Rattle.cet_cpu.specs.Entry.{work_of};
 
-use cet_isa::{Arch, Fault, FaultName, Record, What};
-use cet_page::{Cursor, Leaving, Mark, RAX, Suspended, serve, sys_record};
+use cet_isa::{Arch, Fault, FaultName, RAX, RDI, Record, What};
+use cet_page::{Cursor, Leaving, Mark, Suspended, serve, sys_record};
 use cet_words::{
     Access, EXIT_WORD, FIRST_ENTRY_WORD, FIRST_SHADOW_PAGE, Job, KERNEL_RETURN, SHADOW_START,
     action_word, token, token_page, token_word,
 };
-
-const RDI: usize = 7;
 
 /// What a row comes to beside the state after it, which is changed in its place.
 #[derive(Clone, Copy)]

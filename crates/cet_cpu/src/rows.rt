@@ -2,6 +2,7 @@
 
 ghost use Rattle.std.specs.Prelude.{◌≡◌, ◌+◌, ◌-◌, ◌^◌, ◌<◌, IfSome};
 ghost use Rattle.cet_isa.specs.Reading.{decoded};
+ghost use Rattle.cet_words.specs.Layout.{thread_limit};
 ghost use Rattle.cet_page.specs.Script.{play};
 ghost use Rattle.cet_page.specs.Plays.{RefinesBy};
 ghost use Rattle.cet_page.specs.Finish.{IsMade};
@@ -107,7 +108,7 @@ fn boundary(
 ) -> Result<RowEnd, Suspended>
     requires count { arch.old.count < 2 ^ 32 - 1 }
     requires made { IsMade arch.old.made }
-    requires number { arch.old.number < 32 }
+    requires number { arch.old.number < thread_limit }
     requires code { IfSome code.old (IsCode job.now.image.segments arch.old.rip) }
     ensures comes { RefinesBy (finish_with arch.new) (play (boundary job.now arch.old) at.old.left at.old.rest.now) result at.new.left at.new.rest.now }
     ensures stays { Stays arch.old arch.new result }
@@ -131,7 +132,7 @@ pub fn row(
 ) -> Result<RowEnd, Suspended>
     requires count { arch.old.count < 2 ^ 32 - 1 }
     requires made { IsMade arch.old.made }
-    requires number { arch.old.number < 32 }
+    requires number { arch.old.number < thread_limit }
     requires code { IfSome code.old (IsCode job.now.image.segments arch.old.rip) }
     ensures comes { RefinesBy (finish_with arch.new) (play (row job.now arch.old) at.old.left at.old.rest.now) result at.new.left at.new.rest.now }
     ensures stays { Stays arch.old arch.new result }

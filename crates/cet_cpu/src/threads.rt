@@ -11,7 +11,7 @@ ghost use Rattle.cet_page.specs.Core.{row_played, core_at, first_core, child_cor
 ghost use Rattle.cet_page.specs.Plays.{held_by};
 ghost use Rattle.cet_page.specs.Finish.{IsMade};
 ghost use Rattle.cet_page.specs.Restoring.{AtRestore, Restores};
-ghost use Rattle.cet_page.specs.ValsData.{no_vals};
+ghost use Rattle.cet_page.specs.ValsData.{most_accesses, most_values, no_vals};
 ghost use Rattle.cet_cpu.specs.Code.{IsCode};
 ghost use Rattle.cet_cpu.specs.Cpu.{awaited, RefinesRow, CpuData, IsCpu, IsNext, KeepsCode};
 ghost use Rattle.cet_words.specs.Layout.{thread_region_size, thread_limit};
@@ -19,8 +19,8 @@ ghost use Rattle.cet_words.specs.Layout.{thread_region_size, thread_limit};
 use crate::fetches::Code;
 use crate::gate::RowEnd;
 use crate::rows::row;
-use cet_isa::{Arch, End, Fault, Record, What};
-use cet_page::{Mark, R11, RAX, RCX, SYSCALL_LENGTH, Suspended, Vals};
+use cet_isa::{Arch, End, Fault, R11, RAX, RCX, RSI, RSP, Record, What};
+use cet_page::{Mark, SYSCALL_LENGTH, Suspended, Vals};
 use cet_words::{
     Access, FIRST_REGION_END, FIRST_REGION_START, Job, THREAD_LIMIT, THREAD_REGION_SIZE, token,
 };
@@ -53,10 +53,6 @@ pub struct Taken {
     pub child: Option<Cpu>,
     pub end: Option<End>,
 }
-
-const RSP: usize = 4;
-
-const RSI: usize = 6;
 
 /// The registers of thread 0: RSP stands below the end of the main stack.
 const FIRST_REGS: [u64; 16] = [0, 0, 0, 0, 0x7fff_ffc0, 0, 0, 0, 0, 0, 0, 0, 0, 0, 0, 0];
@@ -292,8 +288,8 @@ impl Cpu {
     fn accept_answer(&mut self, job: &Job, answer: u64) -> Option<Record>
         requires state { IsCpu job.now self.old }
         requires going { self.old.core.over ≡ None }
-        requires room { length self.old.core.vals.values < 32 }
-        requires more { self.old.core.vals.accesses < 4096 }
+        requires room { length self.old.core.vals.values < most_values }
+        requires more { self.old.core.vals.accesses < most_accesses }
         ensures core { self.new.core ≡ (taken job.now self.old.core answer).core }
         ensures noted { result ≡ (taken job.now self.old.core answer).noted }
         ensures waits { IfSome self.new.next (IsNext job.now self.new.core) }

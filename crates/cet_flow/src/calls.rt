@@ -5,9 +5,8 @@ ghost use Rattle.cet_page.specs.Script.{play};
 ghost use Rattle.cet_page.specs.Plays.{Refines};
 ghost use Rattle.cet_page.specs.Flow.{called, call, call_next, call_relative, call_to, call_indirect};
 
-use crate::RSP;
 use crate::jumps::relative;
-use cet_isa::{Arch, Operand, Record, Size, What, is_canonical};
+use cet_isa::{Arch, Operand, RSP, Record, Size, What, is_canonical};
 use cet_page::{Cursor, Kind, Suspended, Who, general_protection, word_in};
 
 fn called(arch: &Arch, target: u64, sp: u64, ssp: u64) -> (Arch, Record)

@@ -13,9 +13,3 @@ mod stacks;
 mod tests;
 
 pub use rows::{follow, next};
-
-/// RSP's place among the registers.
-const RSP: usize = 4;
-
-/// RBP's place among the registers.
-const RBP: usize = 5;

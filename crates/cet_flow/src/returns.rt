@@ -5,8 +5,7 @@ ghost use Rattle.cet_page.specs.Script.{play};
 ghost use Rattle.cet_page.specs.Plays.{Refines};
 ghost use Rattle.cet_page.specs.Flow.{returned, ret, return_differs};
 
-use crate::RSP;
-use cet_isa::{Arch, Fault, FaultName, Record, What, is_canonical};
+use cet_isa::{Arch, Fault, FaultName, RSP, Record, What, is_canonical};
 use cet_page::{Cursor, Kind, Suspended, Who, general_protection, word_in};
 
 fn returned(arch: &Arch, bytes: u16, target: u64) -> (Arch, Record)

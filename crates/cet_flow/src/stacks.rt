@@ -5,8 +5,7 @@ ghost use Rattle.cet_page.specs.Script.{play};
 ghost use Rattle.cet_page.specs.Plays.{Refines};
 ghost use Rattle.cet_page.specs.Flow.{push, pop, leave};
 
-use crate::{RBP, RSP};
-use cet_isa::{Arch, Operand, Record, Reg, Size};
+use cet_isa::{Arch, Operand, RBP, RSP, Record, Reg, Size};
 use cet_page::{Cursor, Suspended, stepped};
 
 /// PUSH. The value is read before RSP changes.

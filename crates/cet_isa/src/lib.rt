@@ -16,4 +16,6 @@ pub use bits::{PageEntry, Rflags};
 pub use fields::fits_byte;
 pub use instructions::{AluOp, Base, Cond, Count, Instr, Mem, Operand, Reg, Size};
 pub use spelled::is_spelled;
-pub use threads::{Arch, End, Fault, FaultName, Record, What};
+pub use threads::{
+    Arch, End, Fault, FaultName, R10, R11, RAX, RBP, RCX, RDI, RDX, RSI, RSP, Record, What,
+};

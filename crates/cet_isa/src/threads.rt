@@ -85,6 +85,33 @@ pub enum End {
     Limit,
 }
 
+/// RAX's place among the registers of `Arch`, which are in encoding order.
+pub const RAX: usize = 0;
+
+/// RCX's place.
+pub const RCX: usize = 1;
+
+/// RDX's place.
+pub const RDX: usize = 2;
+
+/// RSP's place.
+pub const RSP: usize = 4;
+
+/// RBP's place.
+pub const RBP: usize = 5;
+
+/// RSI's place.
+pub const RSI: usize = 6;
+
+/// RDI's place.
+pub const RDI: usize = 7;
+
+/// R10's place.
+pub const R10: usize = 10;
+
+/// R11's place.
+pub const R11: usize = 11;
+
 /// The state of a thread.
 #[derive(Clone, Copy, Debug, PartialEq, Eq)]
 pub struct Arch {

@@ -6,8 +6,8 @@ ghost use Rattle.cet_page.specs.Plays.{Refines, NextInRange, next_by, with_leavi
 ghost use Rattle.cet_page.specs.MapShadowStack.{memory_service};
 
 use crate::shadow_stacks::map_shadow_stack;
-use cet_isa::{Arch, Record};
-use cet_page::{Cursor, Errno, Leaving, Next, RAX, Suspended, Vals, failed};
+use cet_isa::{Arch, RAX, Record};
+use cet_page::{Cursor, Errno, Leaving, Next, Suspended, Vals, failed};
 use cet_words::Job;
 
 /// The number of map_shadow_stack.

@@ -1,60 +1,29 @@
 //! map_shadow_stack: a new shadow stack (Linux, Documentation/arch/x86/shstk.rst).
 
 ghost use Rattle.std.specs.Prelude.{◌≡◌, ◌+◌, ◌-◌, ◌*◌, ◌^◌, ◌<◌, ◌≤◌, true};
-ghost use Rattle.cet_words.specs.Layout.{draw_shadow_word};
+ghost use Rattle.cet_words.specs.Layout.{draw_shadow_word, last_area_page, most_stack_pages, shadow_end, shadow_start};
 ghost use Rattle.cet_page.specs.Script.{play};
 ghost use Rattle.cet_page.specs.Plays.{Refines};
 ghost use Rattle.cet_page.specs.Parts.{fetch_add_as};
-ghost use Rattle.cet_page.specs.MapShadowStack.{can_draw, claimed, claimed_if, draw_stack, drawn_page, drawn_start, fill_drawn, fill_stack, map_shadow_stack, most_stack_pages, pages_of, refused, seed_if, seed_word, shadow_entry};
+ghost use Rattle.cet_page.specs.MapShadowStack.{can_draw, claimed, claimed_if, draw_stack, drawn_page, drawn_start, fill_drawn, fill_stack, map_shadow_stack, refused, seed_if, seed_word};
 
-use cet_isa::{Arch, Record, What};
+use cet_isa::{Arch, RDI, RDX, RSI, Record, What};
 use cet_page::{Cursor, Errno, Leaving, Suspended, failed, restore_token, served, word_in};
-use cet_words::{DRAW_SHADOW_WORD, FIRST_ENTRY_WORD, FIRST_SHADOW_PAGE, SHADOW_START};
-
-const RDX: usize = 2;
-
-const RSI: usize = 6;
-
-const RDI: usize = 7;
-
-/// A shadow stack has at most so many pages: the area has 1,024, and one below and one above stay absent.
-const MOST_PAGES: u64 = 1022;
-
-/// The last draw ends at this page of the area.
-const LAST_PAGE: u64 = 1023;
+use cet_words::{
+    DRAW_SHADOW_WORD, FIRST_ENTRY_WORD, FIRST_SHADOW_PAGE, LAST_AREA_PAGE, MOST_STACK_PAGES,
+    SHADOW_START, pages_of, shadow_entry,
+};
 
 /// The largest size that whole pages hold below 2^64 bytes.
 const MOST_BYTES: u64 = u64::MAX - 4095;
-
-/// A present shadow-stack page: P, U/S, A and D.
-const PRESENT: u64 = 0x65;
-
-/// Bit 63 of an entry, execute-disable.
-const NO_EXECUTE: u64 = 1 << 63;
-
-/// Frames are numbered from the page's number and 256 on.
-const FIRST_FRAME: u64 = 256;
-
-fn pages_of(size: u64) -> u64
-    requires { size ≤ 2 ^ 64 - 4096 }
-    ensures { result ≡ pages_of size }
-{
-    (size + 4095) / 4096
-}
 
 /// Whether so many pages fit above those that were drawn before.
 fn can_draw(pages: u64, drawn: u64) -> bool
     requires { pages ≤ most_stack_pages }
     ensures { result ≡ can_draw pages drawn }
 {
-    drawn <= LAST_PAGE && drawn + pages + 1 <= LAST_PAGE
-}
-
-fn shadow_entry(page: u32) -> u64
-    ensures value { result ≡ shadow_entry page }
-    ensures small { result < 2 ^ 63 + 2 ^ 45 }
-{
-    NO_EXECUTE + 4096 * (u64::from(page) + FIRST_FRAME) + PRESENT
+    let last = u64::from(LAST_AREA_PAGE);
+    drawn <= last && drawn + pages + 1 <= last
 }
 
 fn claimed(arch: &Arch, start: u64, size: u64) -> (Arch, Record, Leaving)
@@ -74,9 +43,9 @@ fn claimed(arch: &Arch, start: u64, size: u64) -> (Arch, Record, Leaving)
 /// The restore token at the end of the bytes that were asked for, where there is to be one.
 #[tactic(auto, unfolding(cet_page::specs::Parts::store_as))]
 fn seed_if(start: u64, size: u64, pages: u64, token: bool, at: &mut Cursor) -> Result<(), Suspended>
-    requires low { 0x200000000 ≤ start }
+    requires low { shadow_start ≤ start }
     requires some { token ≡ true → 8 ≤ size }
-    requires high { start + size ≤ 0x200400000 }
+    requires high { start + size ≤ shadow_end }
     ensures { Refines (play (seed_if start size pages token) at.old.left at.old.rest.now) result at.new.left at.new.rest.now }
 {
     if !token {
@@ -98,7 +67,7 @@ fn fill_stack(
     at: &mut Cursor,
 ) -> Result<(Arch, Record, Leaving), Suspended>
     requires count { arch.now.count < 2 ^ 32 - 1 }
-    requires place { drawn + pages + 1 ≤ 1023 }
+    requires place { drawn + pages + 1 ≤ last_area_page }
     requires fits { size ≤ 4096 * pages }
     requires some { token ≡ true → 8 ≤ size }
     ensures { Refines (play (fill_stack arch.now drawn size pages token) at.old.left at.old.rest.now) result at.new.left at.new.rest.now }
@@ -185,7 +154,7 @@ fn refused(address: u64, size: u64, flags: u64) -> Option<Errno>
     if address != 0 {
         return Some(Errno::Exist);
     }
-    if pages_of(size) > MOST_PAGES {
+    if pages_of(size) > u64::from(MOST_STACK_PAGES) {
         return Some(Errno::NoMem);
     }
     None

@@ -4,9 +4,9 @@ use Rattle.std.specs.Prelude.{◌==◌, if◌then◌else◌, nat_lt, nat_le}
 use Rattle.std.proofs.lemmas.Bool.{false≢true}
 use Rattle.std.proofs.lemmas.Bool.Decides.{nat_tests}
 use Rattle.cet_words.specs.Change.{Claimed, Seeded}
-use Rattle.cet_words.specs.Entries.{entry_of}
+use Rattle.cet_words.specs.Entries.{entry_of, shadow_entry}
 use Rattle.cet_words.specs.Job.{JobData, ImageData}
-use Rattle.cet_words.specs.Layout.{draw_shadow_word, entry_word, first_kernel_page, first_shadow_page, first_stack_page, page_up, shadow_start, token_word}
+use Rattle.cet_words.specs.Layout.{draw_shadow_word, entry_word, first_kernel_page, first_shadow_page, first_stack_page, page_up, shadow_start, token_word, most_stack_pages, pages_of}
 use Rattle.cet_words.specs.declared.accesses.Access.TheVariants as access
 use Rattle.cet_isa.specs.declared.threads.Arch.{Arch}
 use Rattle.cet_book.specs.Book.{Book, Region, region, top, claim, current_of, is_current}
@@ -21,9 +21,9 @@ use Rattle.cet_book.proofs.Kept.{claims}
 use Rattle.cet_book.proofs.Relies.{Relies, append_relies}
 use Rattle.cet_book.proofs.Top.{AtTop}
 use Rattle.cet_book.proofs.Ways.{claimed_way, seeded_way}
-use Rattle.cet_page.specs.Finish.{rdi}
+use Rattle.cet_page.specs.Finish.{rdi, rdx, rsi}
 use Rattle.cet_page.specs.Gate.{failed}
-use Rattle.cet_page.specs.MapShadowStack.{can_draw, claimed, claimed_if, draw_stack, drawn_page, drawn_start, fill_stack, map_by, map_shadow_stack, most_stack_pages, pages_of, rdx, refused, rsi, seed_if, seed_word, shadow_entry}
+use Rattle.cet_page.specs.MapShadowStack.{can_draw, claimed, claimed_if, draw_stack, drawn_page, drawn_start, fill_stack, map_by, map_shadow_stack, refused, seed_if, seed_word}
 use Rattle.cet_page.specs.Parts.{fetch_add_as, store_as, stores}
 use Rattle.cet_page.specs.Script.{done, ◌>>=◌}
 use Rattle.cet_page.specs.Tokens.{restore_token}

@@ -2,7 +2,7 @@
 use Rattle.std.proofs.Common.{◌≡◌, ℕ, zero, suc, ◌+◌, ◌%◌, Bool, true, false, inl, inr, cond, List, [], ◌∷◌, Option, Some, None, refl, subst, sym}
 use Rattle.std.specs.Prelude.{◌==◌, if◌then◌else◌}
 use Rattle.std.specs.Int.{cast_unsigned}
-use Rattle.cet_words.specs.Layout.{page_at}
+use Rattle.cet_words.specs.Layout.{page_at, pages_of}
 use Rattle.cet_words.specs.Job.{JobData}
 use Rattle.cet_words.specs.Change.{Change, Claimed}
 use Rattle.cet_isa.specs.Address.{canonical}
@@ -23,14 +23,14 @@ use Rattle.cet_page.specs.Script.{Script, done, fault, ask, tell, ◌>>=◌}
 use Rattle.cet_page.specs.Page.{allows, page_fault}
 use Rattle.cet_page.specs.Parts.{check_address_as, look_in_as, look_as, probe_in, probe, read_entry, load_as, store_as, compare_exchange_as, swap, fetch_add_as, stores, general_protection}
 use Rattle.cet_page.specs.Values.{limit, width}
-use Rattle.cet_page.specs.Finish.{Row, noted, rdi}
+use Rattle.cet_page.specs.Finish.{Row, noted, rdi, rdx, rsi}
 use Rattle.cet_page.specs.Word64.{add64}
 use Rattle.cet_page.specs.Family.{family_of}
 use Rattle.cet_page.specs.Operands.{register, load_word, load_at, write_place, store_at, read_operand}
 use Rattle.cet_page.specs.Arithmetic.{operated, alu, test, imul, move, movzx, movsxd, cmov, xchg, lock_xadd, lock_cmpxchg, arithmetic}
 use Rattle.cet_page.specs.Flow.{call, call_next, call_indirect, ret, push, pop, leave as leave_frame, jump_indirect, flow}
 use Rattle.cet_page.specs.Gate.{failed, gate_in, gate_out, freed, leave, entered, exit, exit_group, kill, delivery, deliver}
-use Rattle.cet_page.specs.MapShadowStack.{can_draw, claimed, drawn_start, fill_stack, draw_stack, map_by, map_shadow_stack, pages_of, rdx, refused, rsi, seed_if}
+use Rattle.cet_page.specs.MapShadowStack.{can_draw, claimed, drawn_start, fill_stack, draw_stack, map_by, map_shadow_stack, refused, seed_if}
 use Rattle.cet_page.specs.Services.{syscall}
 use Rattle.cet_page.specs.ShadowStacks.{rstorssp, save, saveprevssp, incsspq, shadow_stacks}
 use Rattle.cet_page.specs.Fetch.{missing, missing_in}

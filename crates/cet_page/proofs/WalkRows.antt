@@ -4,7 +4,7 @@ use Rattle.std.specs.Prelude.{◌≡◌, ℕ, ◌+◌, Bool, List, [], length, n
 use Rattle.std.proofs.Common.{arith}
 use Rattle.std.proofs.lemmas.Bool.Decides.{nat_tests}
 use Rattle.cet_words.specs.Job.{JobData}
-use Rattle.cet_words.specs.Layout.{page_at}
+use Rattle.cet_words.specs.Layout.{page_at, most_stack_pages, pages_of}
 use Rattle.cet_words.specs.Change.{Change}
 use Rattle.cet_words.specs.declared.accesses.Access.{Access}
 use Rattle.cet_isa.specs.Reading.{Decoding, Read, Short, Unknown}
@@ -35,8 +35,8 @@ use Rattle.cet_page.specs.ShadowStacks.{shadow_stacks, rstorssp, save, saveprevs
 use Rattle.cet_page.specs.Flow.{call, call_next, call_indirect, ret, push, pop, leave, jump_indirect, flow}
 use Rattle.cet_page.specs.Gate.{gate_in, entered, exit, exit_group, kill, delivery, deliver}
 use Rattle.cet_page.specs.Gate.{leave as leave_kernel}
-use Rattle.cet_page.specs.MapShadowStack.{fill_stack, draw_stack, map_by, map_shadow_stack, pages_of, rdx, refused, rsi}
-use Rattle.cet_page.specs.Finish.{rdi}
+use Rattle.cet_page.specs.MapShadowStack.{fill_stack, draw_stack, map_by, map_shadow_stack, refused}
+use Rattle.cet_page.specs.Finish.{rdi, rdx, rsi}
 use Rattle.cet_page.specs.declared.services.Errno.{Errno}
 use Rattle.cet_page.specs.Services.{syscall}
 use Rattle.cet_page.specs.Fetch.{missing, missing_in}
@@ -110,13 +110,13 @@ walk_shadow_stacks arch i next = search rules depth 99 fits 9000
 -- ---- the kernel
 
 -- a stack that may be drawn has at most 1,022 pages
-few_pages : (address size flags : ℕ) → refused address size flags ≡ None → nat_le (pages_of size) 1022 ≡ true
+few_pages : (address size flags : ℕ) → refused address size flags ≡ None → nat_le (pages_of size) most_stack_pages ≡ true
 few_pages address size flags e = grind (arith, nat_tests)
 
-walk_map_by : (arch : Arch) (k : ℕ) (w : Bool) (size flags : ℕ) (o : Option Errno) → (o ≡ None → nat_le (pages_of size) 1022 ≡ true) → Walk 5 4 w (Ends arch) (map_by arch size flags o >>= leave_kernel k)
+walk_map_by : (arch : Arch) (k : ℕ) (w : Bool) (size flags : ℕ) (o : Option Errno) → (o ≡ None → nat_le (pages_of size) most_stack_pages ≡ true) → Walk 5 4 w (Ends arch) (map_by arch size flags o >>= leave_kernel k)
 unfolding fill_stack draw_stack
 walk_map_by arch k w size flags (Some error) few = search rules depth 99 fits 9000
-walk_map_by arch k w size flags None few = let fits : nat_le (pages_of size) 1022 ≡ true = few refl in search rules depth 99 fits 9000
+walk_map_by arch k w size flags None few = let fits : nat_le (pages_of size) most_stack_pages ≡ true = few refl in search rules depth 99 fits 9000
 
 -- behind the way in: five accesses, of which four were kept
 walk_map : (arch : Arch) (k : ℕ) (w : Bool) → Walk 5 4 w (Ends arch) (map_shadow_stack arch >>= leave_kernel k)

@@ -11,7 +11,7 @@ use Rattle.cet_isa.specs.declared.threads.Arch.{Arch}
 use Rattle.cet_isa.specs.declared.threads.End.{End}
 use Rattle.cet_isa.specs.declared.threads.End.TheVariants as ending
 use Rattle.cet_page.specs.Script.{Played, Completed, Faulted, Wants, birth}
-use Rattle.cet_page.specs.ValsData.{ValsData, no_vals, vals_after}
+use Rattle.cet_page.specs.ValsData.{ValsData, no_vals, vals_after, most_values, most_accesses}
 use Rattle.cet_page.specs.Finish.{IsMade}
 use Rattle.cet_page.specs.Trail.{vals_of, row_trail}
 use Rattle.cet_page.specs.Within.{IsState, Waits, CoreAt, IsCore}
@@ -85,7 +85,7 @@ unfolding taken
 taken_is job core answer h = answered_is job core answer h (row_played job core.arch core.vals) refl h.waits.0 h.waits.1 h.waits.2
 
 -- there is room for one more value and one more access
-pub room : (job : JobData) (core : Core) → Waits job core → (length core.vals.values < 32) × (core.vals.accesses < 4096)
+pub room : (job : JobData) (core : Core) → Waits job core → (length core.vals.values < most_values) × (core.vals.accesses < most_accesses)
 room job core h =
     let arch = unheld core.arch in
     let r = spent_fits (Ends arch) false (row job arch) 0 0 core.vals.accesses core.vals.values h.waits.0 h.waits.1 (walk_row job arch).walks (spent job core h) h.waits.2 in

@@ -18,11 +18,20 @@ noted x = done (finish.Noted x.0 x.1)
 abbrev pub rax : Arch → ℕ
 rax arch = slice_index arch.regs 0
 
+abbrev pub rdx : Arch → ℕ
+rdx arch = slice_index arch.regs 2
+
 abbrev pub rsp : Arch → ℕ
 rsp arch = slice_index arch.regs 4
 
+abbrev pub rsi : Arch → ℕ
+rsi arch = slice_index arch.regs 6
+
 abbrev pub rdi : Arch → ℕ
 rdi arch = slice_index arch.regs 7
+
+abbrev pub r10 : Arch → ℕ
+r10 arch = slice_index arch.regs 10
 
 -- one record more
 abbrev pub counted : Arch → Arch

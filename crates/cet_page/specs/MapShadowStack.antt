@@ -1,13 +1,13 @@
 -- map_shadow_stack (453), which makes a shadow stack. Source: Linux, Documentation/arch/x86/shstk.rst. Own: the order of the
 -- tests, and that places are drawn from a counter and never given back.
-use Rattle.std.specs.Prelude.{ℕ, ◌+◌, ◌-◌, ◌*◌, ◌/◌, ◌%◌, ◌^◌, ◌==◌, ◌&&◌, ◌||◌, nat_le, nat_lt, Bool, if◌then◌else◌, slice_index, List, [], ◌∷◌, Option, Some, None}
+use Rattle.std.specs.Prelude.{ℕ, ◌+◌, ◌-◌, ◌*◌, ◌/◌, ◌%◌, ◌^◌, ◌==◌, ◌&&◌, ◌||◌, nat_le, nat_lt, Bool, if◌then◌else◌, List, [], ◌∷◌, Option, Some, None}
 use Rattle.cet_words.specs.Change.{Change, Claimed, Seeded}
-use Rattle.cet_words.specs.Entries.{entry_with, no_execute}
-use Rattle.cet_words.specs.Layout.{draw_shadow_word, entry_word, first_shadow_page, page_up, shadow_start, word_in}
+use Rattle.cet_words.specs.Entries.{shadow_entry}
+use Rattle.cet_words.specs.Layout.{draw_shadow_word, entry_word, first_shadow_page, last_area_page, most_stack_pages, page_up, pages_of, shadow_start, word_in}
 use Rattle.cet_isa.specs.declared.threads.Arch.{Arch}
 use Rattle.cet_isa.specs.declared.threads.Record.{Record}
 use Rattle.cet_isa.specs.declared.threads.What.TheVariants as what
-use Rattle.cet_page.specs.Finish.{rax, rdi}
+use Rattle.cet_page.specs.Finish.{rax, rdi, rdx, rsi}
 use Rattle.cet_page.specs.Gate.{Work, failed, served}
 use Rattle.cet_page.specs.Parts.{fetch_add_as, store_as, stores}
 use Rattle.cet_page.specs.Script.{Script, done, ◌>>=◌}
@@ -19,17 +19,10 @@ use Rattle.cet_page.specs.declared.finishes.Leaving.TheVariants as leaving
 
 -- ---- the draw
 
--- a shadow stack has at most so many pages
-abbrev pub most_stack_pages : ℕ
-most_stack_pages = 1022
-
-abbrev pub pages_of : (size : ℕ) → ℕ
-pages_of size = (size + 4095) / 4096
-
 -- The counter gave this many pages of the shadow area before. The first page drawn stays absent, and the stack lies above it,
 -- with a page of the area left above the stack.
 abbrev pub can_draw : (pages drawn : ℕ) → Bool
-can_draw pages drawn = nat_le (drawn + pages + 1) 1023
+can_draw pages drawn = nat_le (drawn + pages + 1) last_area_page
 
 abbrev pub drawn_page : (drawn : ℕ) → ℕ
 drawn_page drawn = first_shadow_page + (drawn + 1)
@@ -38,10 +31,6 @@ abbrev pub drawn_start : (drawn : ℕ) → ℕ
 drawn_start drawn = shadow_start + 4096 * (drawn + 1)
 
 -- ---- the stack that is made
-
--- the entry of a shadow-stack page that is present
-abbrev pub shadow_entry : (page : ℕ) → ℕ
-shadow_entry page = no_execute + entry_with page 0x65
 
 -- with a restore token to come the region is in the making, and else it is nobody's
 abbrev pub claimed_if : (pages : ℕ) → (token : Bool) → (drawn : ℕ) → List Change
@@ -99,12 +88,6 @@ refused address size flags =
 abbrev pub map_by : Arch → (size flags : ℕ) → Option Errno → Work
 map_by arch size flags (Some error) = done (failed arch error)
 map_by arch size flags None = draw_stack arch size (pages_of size) (flags == 1)
-
-abbrev pub rsi : Arch → ℕ
-rsi arch = slice_index arch.regs 6
-
-abbrev pub rdx : Arch → ℕ
-rdx arch = slice_index arch.regs 2
 
 abbrev pub map_shadow_stack : Arch → Work
 map_shadow_stack arch = map_by arch (rsi arch) (rdx arch) (refused (rdi arch) (rsi arch) (rdx arch))

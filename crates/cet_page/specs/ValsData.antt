@@ -7,6 +7,15 @@ pub record ValsData : Type 0 where
   pub accesses : ℕ
   pub values : List ℕ
 
+-- The most values that a row may keep. The rows that keep most keep 7: EXIT, PEND, and up to five looks, loads and
+-- exchanges. Calls of the kernel that read a signal's frame, 29 in all, are to come.
+abbrev pub most_values : ℕ
+most_values = 32
+
+-- The most accesses of a row: the longest, which clears the entries of 1,024 pages, makes 1,031.
+abbrev pub most_accesses : ℕ
+most_accesses = 4096
+
 abbrev pub no_vals : ValsData
 no_vals = record { accesses = 0; values = [] }
 

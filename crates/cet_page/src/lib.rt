@@ -33,7 +33,7 @@ pub use operands::{
     assigned, compared, effective, register, register_of, settled, stepped, truncated,
     with_register,
 };
-pub use services::{Errno, R11, RAX, RCX, SYSCALL_LENGTH, failed, serve, served, sys_record};
+pub use services::{Errno, SYSCALL_LENGTH, failed, serve, served, sys_record};
 pub use tokens::{
     frame_ssp, frame_word, is_frame_word, is_previous_token, previous_ssp, previous_token,
     restore_token, restore_token_at, saved_at,

@@ -4,16 +4,7 @@ ghost use Rattle.std.specs.Prelude.{◌≡◌, ◌-◌, ◌^◌, ◌<◌, ◌≤
 ghost use Rattle.cet_page.specs.Gate.{error_number, failed, served, sys_record, serve};
 
 use crate::finishes::Leaving;
-use cet_isa::{Arch, Record, What};
-
-/// RAX's place among the registers.
-pub const RAX: usize = 0;
-
-/// RCX's place.
-pub const RCX: usize = 1;
-
-/// R11's place.
-pub const R11: usize = 11;
+use cet_isa::{Arch, R11, RAX, RCX, Record, What};
 
 /// SYSCALL is `0F 05`.
 pub const SYSCALL_LENGTH: u64 = 2;

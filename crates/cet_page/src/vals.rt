@@ -1,35 +1,33 @@
 //! The values read so far in a row.
 
 ghost use Rattle.std.specs.Prelude.{◌≡◌, ◌<◌, length, slice_index};
-ghost use Rattle.cet_page.specs.ValsData.{vals_after, no_vals};
+ghost use Rattle.cet_page.specs.ValsData.{vals_after, no_vals, most_values, most_accesses};
 
 use crate::cursors::Cursor;
 use cet_words::Access;
 use std::marker::Model;
 
-/// How many values a row keeps at most. The rows that keep most keep 7 (EXIT, PEND, and up to five looks,
-/// loads and exchanges); services that exchange more words are to come.
+/// How many values a row may keep; the rows that keep most keep 7.
 const MOST_KEPT: usize = 32;
 
-/// The values kept in a row, at most 32, and the number of its accesses so far, at most 4,096: the longest
-/// row, a map_shadow_stack of 1,022 pages, makes 1,031, and a service to come clears up to 1,024 entries.
-/// All accesses but stores keep their value.
+/// The values kept in a row, at most 32, and the number of its accesses so far, at most 4,096; the longest
+/// row makes 1,031. All accesses but stores keep their value.
 #[derive(Drop)]
 pub struct Vals {
-    kept: [u64; 32],
+    kept: [u64; MOST_KEPT],
     used: usize,
     accesses: u32,
 }
 
 impl Model for Vals {
     ghost use Rattle.std.specs.Prelude.{take, ◌≤◌};
-    ghost use Rattle.cet_page.specs.ValsData.{ValsData};
+    ghost use Rattle.cet_page.specs.ValsData.{ValsData, most_values, most_accesses};
 
     ghost Value = { ValsData };
 
     ghost view = { λ v. record { accesses = v.accesses; values = take v.used v.kept } };
 
-    ghost invariant = { λ v. (v.used ≤ 32) × (v.accesses ≤ 4096) };
+    ghost invariant = { λ v. (v.used ≤ most_values) × (v.accesses ≤ most_accesses) };
 }
 
 impl Vals {
@@ -54,8 +52,8 @@ impl Vals {
 
     /// Counts an access, and keeps its value unless it is a store.
     pub fn add(&mut self, access: Access, value: u64)
-        requires room { length self.old.values < 32 }
-        requires more { self.old.accesses < 4096 }
+        requires room { length self.old.values < most_values }
+        requires more { self.old.accesses < most_accesses }
         ensures { self.new ≡ vals_after self.old access value }
     {
         self.accesses += 1;

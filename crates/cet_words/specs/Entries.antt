@@ -13,6 +13,14 @@ entry_with page bits = 4096 * (page + 256) + bits
 abbrev pub no_execute : ℕ
 no_execute = 2 ^ 63
 
+-- of a page of the main stack or the mmap area, which may be written
+abbrev pub data_entry : (page : ℕ) → ℕ
+data_entry page = no_execute + entry_with page 0x67
+
+-- of a page of the shadow area: R/W clear and D set make it a shadow-stack page
+abbrev pub shadow_entry : (page : ℕ) → ℕ
+shadow_entry page = no_execute + entry_with page 0x65
+
 -- of an image page in this segment, by the segment's rights; 0 of a page in no segment
 abbrev pub segment_entry : ℕ → Option Segment → ℕ
 segment_entry page None = 0
@@ -25,8 +33,8 @@ segment_entry page (Some s) =
 unfoldable pub entry_of : ImageData → ℕ → ℕ
 entry_of image page =
     if nat_lt page first_stack_page then segment_entry page (find (covers (1024 + page)) image.segments)
-    else if nat_lt page first_shadow_page then no_execute + entry_with page 0x67
-    else if nat_lt page first_kernel_page then no_execute + entry_with page 0x65
+    else if nat_lt page first_shadow_page then data_entry page
+    else if nat_lt page first_kernel_page then shadow_entry page
     else if page == first_kernel_page then no_execute + entry_with page 0x63
     else if page % 2 == 0 then no_execute + entry_with page 0x61
     else 0

@@ -50,6 +50,18 @@ thread_region_size = 32768
 abbrev pub last_region_end : ℕ
 last_region_end = 0x2003ff000
 
+-- how many pages the shadow area has, and the mmap area too
+abbrev pub area_pages : ℕ
+area_pages = 1024
+
+-- The last page of the shadow area, by its number there: no draw goes past it, so it is in no shadow stack.
+abbrev pub last_area_page : ℕ
+last_area_page = 1023
+
+-- a shadow stack has at most so many pages: the area's without one below it and the last
+abbrev pub most_stack_pages : ℕ
+most_stack_pages = 1022
+
 -- ---- threads
 
 -- how many threads there are at most
@@ -117,9 +129,13 @@ word_at addr = if addr % 8 == 0 then option_map (λ page. word_in page addr) (pa
 abbrev pub entry_word : ℕ → ℕ
 entry_word page = first_entry_word + page
 
+-- how many whole pages hold so many bytes
+abbrev pub pages_of : (bytes : ℕ) → ℕ
+pages_of bytes = (bytes + 4095) / 4096
+
 -- so many bytes, rounded up to whole pages
-abbrev pub page_up : ℕ → ℕ
-page_up bytes = 4096 * ((bytes + 4095) / 4096)
+abbrev pub page_up : (bytes : ℕ) → ℕ
+page_up bytes = 4096 * pages_of bytes
 
 -- ---- the words of kernel page 0
 
@@ -134,6 +150,10 @@ next_thread_word = 1605633
 -- how many pages of the shadow area have been drawn
 abbrev pub draw_shadow_word : ℕ
 draw_shadow_word = 1605634
+
+-- how many pages of the mmap area have been drawn
+abbrev pub draw_mmap_word : ℕ
+draw_mmap_word = 1605635
 
 -- the pending signals of a thread
 abbrev pub pend_word : (thread : ℕ) → ℕ

@@ -4,11 +4,12 @@ ghost use Rattle.std.specs.Prelude.{◌≡◌, ◌<◌, ◌+◌, ◌*◌, ◌^�
 ghost use Rattle.std.specs.Option.{option_copied};
 ghost use Rattle.cet_words.specs.Job.{covers, IsSegment};
 ghost use Rattle.cet_words.specs.Layout.{image_end, page_count, first_stack_page};
-ghost use Rattle.cet_words.specs.Entries.{entry_of, entry_with, segment_entry, no_execute};
+ghost use Rattle.cet_words.specs.Entries.{data_entry, entry_of, entry_with, segment_entry, shadow_entry, no_execute};
 
 use crate::images::{Image, Segment};
 use crate::places::{FIRST_KERNEL_PAGE, FIRST_SHADOW_PAGE, FIRST_STACK_PAGE};
 
+/// Execute-disable, bit 63.
 const NO_EXECUTE: u64 = 1 << 63;
 
 /// Whether the segment has a byte in the page that begins at 4096 * `number`.
@@ -38,13 +39,32 @@ pub fn segment_at(image: &Image, number: u64) -> Option<&Segment>
     segment_of(image.segments.as_slice(), number)
 }
 
+/// The entry of a page with these low bits: P 1, R/W 2, U/S 4, A 32, D 64.
 fn entry_with(page: u32, bits: u64) -> u64
     requires page { page < page_count }
     requires bits { bits < 4096 }
     ensures value { result ≡ entry_with page bits }
-    ensures small { result < 2 ^ 63 }
+    ensures small { result < 2 ^ 45 }
 {
     4096 * (u64::from(page) + 256) + bits
+}
+
+/// The present entry of a page of the main stack or the mmap area, which may be written.
+pub fn data_entry(page: u32) -> u64
+    requires { page < page_count }
+    ensures value { result ≡ data_entry page }
+    ensures bits { result < 2 ^ 63 + 2 ^ 45 }
+{
+    NO_EXECUTE + entry_with(page, 0x67)
+}
+
+/// The present entry of a page of the shadow area: R/W clear and D set make it a shadow-stack page.
+pub fn shadow_entry(page: u32) -> u64
+    requires { page < page_count }
+    ensures value { result ≡ shadow_entry page }
+    ensures bits { result < 2 ^ 63 + 2 ^ 45 }
+{
+    NO_EXECUTE + entry_with(page, 0x65)
 }
 
 /// The entry of a page in a segment, by the segment's rights.
@@ -80,8 +100,8 @@ pub fn present(image: &Image, page: u32) -> u64
 {
     match page {
         0..FIRST_STACK_PAGE => image_entry(image, page),
-        FIRST_STACK_PAGE..FIRST_SHADOW_PAGE => NO_EXECUTE + entry_with(page, 0x67),
-        FIRST_SHADOW_PAGE..FIRST_KERNEL_PAGE => NO_EXECUTE + entry_with(page, 0x65),
+        FIRST_STACK_PAGE..FIRST_SHADOW_PAGE => data_entry(page),
+        FIRST_SHADOW_PAGE..FIRST_KERNEL_PAGE => shadow_entry(page),
         FIRST_KERNEL_PAGE => NO_EXECUTE + entry_with(page, 0x63),
         _ if page % 2 == 0 => NO_EXECUTE + entry_with(page, 0x61),
         _ => 0,

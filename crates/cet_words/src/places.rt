@@ -1,7 +1,7 @@
 //! Where pages and words lie: the machine's numbers by their names, and the place of an address.
 
 ghost use Rattle.std.specs.Prelude.{◌≡◌, ◌<◌, ◌^◌, IfSome};
-ghost use Rattle.cet_words.specs.Layout.{page_count, first_entry_word, page_at, word_at, page_up, pend_word, action_word, token, token_page, token_word};
+ghost use Rattle.cet_words.specs.Layout.{page_count, first_entry_word, page_at, word_at, pages_of, page_up, pend_word, action_word, token, token_page, token_word};
 
 /// The first address of the image range.
 pub const IMAGE_START: u64 = 0x400000;
@@ -41,6 +41,18 @@ pub const FIRST_REGION_END: u64 = 0x2_0000_9000;
 
 /// The size of a thread's first shadow stack, in bytes: eight pages.
 pub const THREAD_REGION_SIZE: u64 = 0x8000;
+
+/// The address past the last shadow stack: the last page of the shadow area is in none.
+pub const LAST_REGION_END: u64 = 0x2_003f_f000;
+
+/// How many pages the shadow area has, and the mmap area too.
+pub const AREA_PAGES: u32 = 1024;
+
+/// The last page of the shadow area, by its number there: no draw goes past it.
+pub const LAST_AREA_PAGE: u32 = 1023;
+
+/// A shadow stack has at most so many pages: the area's without one below it and the last.
+pub const MOST_STACK_PAGES: u32 = 1022;
 
 /// How many threads there are at most.
 pub const THREAD_LIMIT: u64 = 32;
@@ -84,6 +96,9 @@ pub const NEXT_THREAD_WORD: u32 = 1_605_633;
 /// The kernel's word DRAW_SHADOW: how many pages of the shadow area have been drawn.
 pub const DRAW_SHADOW_WORD: u32 = 1_605_634;
 
+/// The kernel's word DRAW_MMAP: how many pages of the mmap area have been drawn.
+pub const DRAW_MMAP_WORD: u32 = 1_605_635;
+
 /// The first of the kernel's words of the actions of signals.
 const FIRST_ACTION_WORD: u32 = 1_605_696;
 
@@ -122,12 +137,19 @@ pub fn word_of(addr: u64) -> Option<u32>
     Some(512 * page + ((addr % 4096) / 8) as u32)
 }
 
+/// How many whole pages hold so many bytes.
+pub fn pages_of(bytes: u64) -> u64
+    ensures { result ≡ pages_of bytes }
+{
+    bytes.div_ceil(4096)
+}
+
 /// So many bytes, rounded up to whole pages.
 pub fn page_up(bytes: u64) -> u64
     requires { bytes < 2 ^ 63 }
     ensures { result ≡ page_up bytes }
 {
-    bytes.div_ceil(4096) * 4096
+    pages_of(bytes) * 4096
 }
 
 /// The kernel's word PEND of a thread: its pending signals.
