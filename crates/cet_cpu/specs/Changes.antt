@@ -4,8 +4,8 @@ use Rattle.cet_isa.specs.declared.threads.Arch.{Arch}
 use Rattle.cet_page.specs.declared.cursors.Suspended.{Suspended}
 use Rattle.cet_page.specs.declared.finishes.Finish.{Finish}
 use Rattle.cet_page.specs.declared.finishes.Finish.TheVariants as finish
-use Rattle.cet_cpu.specs.declared.gate.RowEnd.{RowEnd}
-use Rattle.cet_cpu.specs.declared.gate.RowEnd.TheVariants as row_end
+use Rattle.cet_cpu.specs.declared.kernel.RowEnd.{RowEnd}
+use Rattle.cet_cpu.specs.declared.kernel.RowEnd.TheVariants as row_end
 
 -- what a row comes to, by the state after it and what it completed
 abbrev pub finish_with : Arch → RowEnd → Finish

@@ -13,7 +13,7 @@ use Rattle.cet_page.specs.declared.finishes.Finish.{Finish}
 use Rattle.cet_cpu.specs.Changes.{finish_with, Stays}
 use Rattle.cet_cpu.specs.Code.{IsCode}
 use Rattle.cet_cpu.specs.declared.fetches.Code.{Code}
-use Rattle.cet_cpu.specs.declared.gate.RowEnd.{RowEnd}
+use Rattle.cet_cpu.specs.declared.kernel.RowEnd.{RowEnd}
 
 -- the thread, the access that it waits for with its mark, and the code at RIP, once its row has read that
 pub record CpuData : Type 0 where

@@ -6,7 +6,7 @@
 #![tactic(auto)]
 
 mod fetches;
-mod gate;
+mod kernel;
 mod rows;
 mod threads;
 

@@ -11,7 +11,7 @@ ghost use Rattle.cet_cpu.specs.Changes.{finish_with, Stays};
 ghost use Rattle.cet_cpu.specs.Code.{IsCode};
 
 use crate::fetches::{Code, code_at};
-use crate::gate::{RowEnd, deliver, syscall};
+use crate::kernel::{RowEnd, deliver, syscall};
 use cet_decode::Decoded;
 use cet_isa::{Arch, Instr, is_canonical};
 use cet_page::{Cursor, Family, Suspended, family_of, general_protection, invalid_opcode, missing};
@@ -48,7 +48,7 @@ fn execute(
             Ok(RowEnd::Noted(noted))
         }
         Family::SystemCall => syscall(job, arch, at),
-        Family::Unbuilt => Err(invalid_opcode()),
+        Family::Supervisor => Err(general_protection()),
     }
 }
 

@@ -10,6 +10,7 @@ ghost use Rattle.cet_page.specs.Within.{IsCore};
 ghost use Rattle.cet_page.specs.Core.{row_played, core_at, first_core, child_core, next_access, taken, recorded, fault_record};
 ghost use Rattle.cet_page.specs.Plays.{held_by};
 ghost use Rattle.cet_page.specs.Finish.{IsMade};
+ghost use Rattle.cet_page.specs.Entering.{AtGate, Enters};
 ghost use Rattle.cet_page.specs.Restoring.{AtRestore, Restores};
 ghost use Rattle.cet_page.specs.ValsData.{most_accesses, most_values, no_vals};
 ghost use Rattle.cet_cpu.specs.Code.{IsCode};
@@ -17,7 +18,7 @@ ghost use Rattle.cet_cpu.specs.Cpu.{awaited, RefinesRow, CpuData, IsCpu, IsNext,
 ghost use Rattle.cet_words.specs.Layout.{thread_region_size, thread_limit};
 
 use crate::fetches::Code;
-use crate::gate::RowEnd;
+use crate::kernel::RowEnd;
 use crate::rows::row;
 use cet_isa::{Arch, End, Fault, R11, RAX, RCX, RSI, RSP, Record, What};
 use cet_page::{Mark, SYSCALL_LENGTH, Suspended, Vals};
@@ -185,7 +186,7 @@ impl Cpu {
     }
 
     /// Takes the answer to the thread's next access.
-    #[tactic(auto, using(cet_page::proofs::WithinLaws::room, cet_page::proofs::WithinLaws::taken_at, cet_page::proofs::FaultLaws::faults_of, cet_page::proofs::RestoreLaws::restores_of))]
+    #[tactic(auto, using(cet_page::proofs::WithinLaws::room, cet_page::proofs::WithinLaws::taken_at, cet_page::proofs::FaultLaws::faults_of, cet_page::proofs::RestoreLaws::restores_of, cet_page::proofs::EnterLaws::enters_of))]
     pub fn take(&mut self, job: &Job, answer: u64) -> Taken
         requires state { IsCpu job.now self.old }
         requires going { self.old.core.over ≡ None }
@@ -201,6 +202,10 @@ impl Cpu {
 
         // RSTORSSP's exchange switches where it finds the restore token, and else is #CP with the word found.
         ensures restore { (p : ℕ) → AtRestore job.now self.old.core p → Restores job.now self.old.core self.new.core p answer result.noted }
+
+        // The first exchange of the kernel's entry takes the supervisor stack where it finds the free token, and else there is
+        // a busy record with the word found.
+        ensures gate { AtGate job.now self.old.core → Enters job.now self.old.core self.new.core answer result.noted }
     {
         let child = self.child(job, answer);
         let noted = self.accept_answer(job, answer);

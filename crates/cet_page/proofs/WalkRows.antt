@@ -147,7 +147,7 @@ walk_family job arch i next families.Arithmetic = walk_noted _ (walk_arithmetic 
 walk_family job arch i next families.Flow = walk_noted _ (walk_flow arch i next)
 walk_family job arch i next families.ShadowStacks = walk_noted _ (walk_shadow_stacks arch i next)
 walk_family job arch i next families.SystemCall = walk_syscall job arch
-walk_family job arch i next families.Unbuilt = walk_fault refl refl
+walk_family job arch i next families.Supervisor = walk_fault refl refl
 
 walk_missing : (arch : Arch) (at : Option ℕ) (addr : ℕ) → Walk 2 2 false (Ends arch) (missing_in at addr)
 walk_missing arch None addr = walk_fault refl refl

@@ -4,7 +4,7 @@ use Rattle.cet_isa.specs.declared.instructions.Instr.TheVariants as instr
 use Rattle.cet_page.specs.declared.families.Family.{Family}
 use Rattle.cet_page.specs.declared.families.Family.TheVariants as families
 
--- SETSSBSY and CLRSSBSY aren't built. Every other instruction has a family.
+-- every instruction has a family
 abbrev pub family_of : Instr → Family
 family_of (instr.CallRel disp) = families.Flow
 family_of (instr.CallInd target notrack) = families.Flow
@@ -21,8 +21,8 @@ family_of (instr.Incsspq r) = families.ShadowStacks
 family_of (instr.Rdsspq r) = families.ShadowStacks
 family_of (instr.Rstorssp m) = families.ShadowStacks
 family_of instr.Saveprevssp = families.ShadowStacks
-family_of instr.Setssbsy = families.Unbuilt
-family_of (instr.Clrssbsy m) = families.Unbuilt
+family_of instr.Setssbsy = families.Supervisor
+family_of (instr.Clrssbsy m) = families.Supervisor
 family_of (instr.Wrssq m r) = families.ShadowStacks
 family_of (instr.Wrussq m r) = families.ShadowStacks
 family_of (instr.Alu op s dst src) = families.Arithmetic

@@ -65,10 +65,13 @@ finish_of next noted leaving.Back = finish.Noted next noted
 finish_of next noted leaving.Popped = finish.Noted next noted
 finish_of next noted (leaving.Ended status) = finish.Exited next noted status
 
+-- the record of a busy supervisor stack: the address of its token, and the word found there
+abbrev pub busy_record : Arch → (k found : ℕ) → Record
+busy_record arch k found = record { rip = arch.rip; what = what.Busy; code = 0; a = token k; b = found }
+
 -- a busy supervisor stack: nothing else has changed, and the instruction, fault or delivery starts anew
 abbrev pub found_busy : Arch → (k found : ℕ) → Finish
-found_busy arch k found =
-    finish.Noted (counted arch) (record { rip = arch.rip; what = what.Busy; code = 0; a = token k; b = found })
+found_busy arch k found = finish.Noted (counted arch) (busy_record arch k found)
 
 -- the way out after a piece of work
 abbrev pub leave : (k : ℕ) → Arch × Record × Leaving → Script Finish

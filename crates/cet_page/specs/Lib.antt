@@ -22,6 +22,7 @@ pub mod Trail
 pub mod Plays
 pub mod Faults
 pub mod Restoring
+pub mod Entering
 pub mod Within
 pub mod Machine
 pub mod Left

@@ -29,9 +29,10 @@ execute_family job arch i next families.Arithmetic = arithmetic arch i next >>= 
 execute_family job arch i next families.Flow = flow arch i next >>= noted
 execute_family job arch i next families.ShadowStacks = shadow_stacks arch i next >>= noted
 execute_family job arch i next families.SystemCall = syscall job arch
-execute_family job arch i next families.Unbuilt = fault invalid_opcode
+execute_family job arch i next families.Supervisor = fault general_protection
 
--- An instruction, with the address of the next one. One that isn't built is an invalid opcode.
+-- An instruction, with the address of the next one. SETSSBSY and CLRSSBSY are the supervisor's: from the user they are
+-- #GP(0), before any other test.
 abbrev pub execute : JobData → Arch → Instr → (next : ℕ) → Script Finish
 execute job arch i next = execute_family job arch i next (family_of i)
 

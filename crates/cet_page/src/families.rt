@@ -16,8 +16,8 @@ pub enum Family {
     ShadowStacks,
     /// SYSCALL.
     SystemCall,
-    /// What is an invalid opcode for want of being built.
-    Unbuilt,
+    /// SETSSBSY and CLRSSBSY, which are the supervisor's.
+    Supervisor,
 }
 
 /// The part of the machine that carries an instruction.
@@ -42,7 +42,7 @@ pub fn family_of(instr: &Instr) -> Family
         | Instr::Saveprevssp
         | Instr::Wrssq { .. }
         | Instr::Wrussq { .. } => Family::ShadowStacks,
-        Instr::Setssbsy | Instr::Clrssbsy { .. } => Family::Unbuilt,
+        Instr::Setssbsy | Instr::Clrssbsy { .. } => Family::Supervisor,
         _ => Family::Arithmetic,
     }
 }

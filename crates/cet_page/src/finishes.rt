@@ -1,5 +1,8 @@
 //! What rows come to, and what ends with the way out of the kernel.
 
+ghost use Rattle.std.specs.Prelude.{◌≡◌, ◌-◌, ◌<◌, ◌^◌};
+ghost use Rattle.cet_page.specs.Finish.{counted};
+
 use cet_isa::{Arch, Record};
 
 /// What a row comes to, with the state after it.
@@ -24,4 +27,14 @@ pub enum Leaving {
     Popped,
     /// The thread, with this status.
     Ended(u8),
+}
+
+/// The state with one record more.
+pub fn counted(arch: &Arch) -> Arch
+    requires { arch.now.count < 2 ^ 32 - 1 }
+    ensures { result ≡ counted arch.now }
+{
+    let mut after = *arch;
+    after.count = arch.count + 1;
+    after
 }

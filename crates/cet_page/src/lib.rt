@@ -25,7 +25,7 @@ pub use checks::{Kind, Who, check, index_of, page_fault};
 pub use cursors::{Cursor, Mark, Suspended, general_protection, invalid_opcode, word_in};
 pub use families::{Family, family_of};
 pub use fetches::{fetch, missing, next_address};
-pub use finishes::{Finish, Leaving};
+pub use finishes::{Finish, Leaving, counted};
 pub use flags::{Computed, StatusFlags};
 pub use laws::parts_are_in_their_rows;
 pub use nexts::Next;

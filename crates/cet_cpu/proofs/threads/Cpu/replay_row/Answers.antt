@@ -8,8 +8,8 @@ use Rattle.cet_page.specs.declared.cursors.Suspended.{Suspended}
 use Rattle.cet_page.specs.declared.finishes.Finish.{Finish}
 use Rattle.cet_cpu.specs.Changes.{finish_with, Stays}
 use Rattle.cet_cpu.specs.Cpu.{RefinesRow, CpuData}
-use Rattle.cet_cpu.specs.declared.gate.RowEnd.{RowEnd}
-use Rattle.cet_cpu.specs.declared.gate.RowEnd.TheVariants as row_end
+use Rattle.cet_cpu.specs.declared.kernel.RowEnd.{RowEnd}
+use Rattle.cet_cpu.specs.declared.kernel.RowEnd.TheVariants as row_end
 use Rattle.cet_cpu.proofs.threads.Cpu.replay_row.Goals as goal
 
 -- the place of the cursor afterwards doesn't matter

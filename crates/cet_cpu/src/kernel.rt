@@ -1,23 +1,19 @@
-//! The kernel's entry: the gate, the services exit and exit_group, and the delivery of a fault with the kill.
+//! The kernel: its services exit and exit_group, the delivery of a fault with the kill, and its entry, which is the gate
+//! round each.
 
-ghost use Rattle.std.specs.Prelude.{◌≡◌, ◌+◌, ◌-◌, ◌*◌, ◌%◌, ◌^◌, ◌<◌, ◌≤◌, [], ◌∷◌, Ok};
-ghost use Rattle.cet_words.specs.Layout.{token, token_page, token_word};
-ghost use Rattle.cet_words.specs.Change.{Freed};
+ghost use Rattle.std.specs.Prelude.{◌≡◌, ◌+◌, ◌-◌, ◌*◌, ◌%◌, ◌^◌, ◌<◌, ◌≤◌, Ok};
 ghost use Rattle.cet_page.specs.Script.{play};
 ghost use Rattle.cet_page.specs.Plays.{Refines, RefinesBy};
-ghost use Rattle.cet_page.specs.Parts.{compare_exchange_as};
 ghost use Rattle.cet_page.specs.Finish.{IsMade, counted};
 ghost use Rattle.cet_page.specs.Services.{service, syscall};
-ghost use Rattle.cet_page.specs.Gate.{busied_if, stack_of, gate_in, gate_out, finish_of, found_busy, entered, clears, made_page, exit_status, exit, exit_group, signal_of, is_masked, killed, kill, delivery, deliver};
+ghost use Rattle.cet_page.specs.Gate.{finish_of, found_busy, entered, clears, made_page, exit_status, exit, exit_group, signal_of, is_masked, killed, kill, delivery, deliver};
 ghost use Rattle.cet_cpu.specs.Changes.{finish_with, Stays};
 ghost use Rattle.cet_cpu.specs.Entry.{work_of};
 
+use cet_busy::{busy_record, gate_in, gate_out, stack_of};
 use cet_isa::{Arch, Fault, FaultName, RAX, RDI, Record, What};
-use cet_page::{Cursor, Leaving, Mark, Suspended, serve, sys_record};
-use cet_words::{
-    Access, EXIT_WORD, FIRST_ENTRY_WORD, FIRST_SHADOW_PAGE, Job, KERNEL_RETURN, SHADOW_START,
-    action_word, token, token_page, token_word,
-};
+use cet_page::{Cursor, Leaving, Suspended, counted, serve, sys_record};
+use cet_words::{EXIT_WORD, FIRST_ENTRY_WORD, FIRST_SHADOW_PAGE, Job, SHADOW_START, action_word};
 
 /// What a row comes to beside the state after it, which is changed in its place.
 #[derive(Clone, Copy)]
@@ -38,99 +34,13 @@ const EXIT: u64 = 60;
 /// The number of the service exit_group.
 const EXIT_GROUP: u64 = 231;
 
-/// The supervisor stack of a thread's processor, below 8.
-fn stack_of(job: &Job, arch: &Arch) -> u8
-    ensures value { result ≡ stack_of job.now arch.now }
-    ensures range { result < 8 }
-{
-    arch.number % job.procs
-}
-
-/// The gate's first exchange: it takes the supervisor stack, where it finds the token free.
-#[tactic(auto, unfolding(cet_page::specs::Parts::compare_exchange_as))]
-fn take_stack(k: u8, at: &mut Cursor) -> Result<u64, Suspended>
-    requires { k < 8 }
-    ensures { Refines (play (compare_exchange_as (busied_if k) (token_word k) (token k) (token k + 1)) at.old.left at.old.rest.now) result at.new.left at.new.rest.now }
-{
-    let free = token(k);
-    at.ask_as(
-        Access::CompareExchange(token_word(k), free, free + 1),
-        Mark::Takes(k),
-    )
-}
-
-/// The gate's last exchange, which gives the supervisor stack back.
-#[tactic(auto, unfolding(cet_page::specs::Parts::compare_exchange_as))]
-fn give_stack(k: u8, at: &mut Cursor) -> Result<u64, Suspended>
-    requires { k < 8 }
-    ensures { Refines (play (compare_exchange_as (λ found. Freed k ∷ []) (token_word k) (token k + 1) (token k)) at.old.left at.old.rest.now) result at.new.left at.new.rest.now }
-{
-    let free = token(k);
-    at.ask_as(
-        Access::CompareExchange(token_word(k), free + 1, free),
-        Mark::Gives,
-    )
-}
-
-/// The gate's way in. Where the supervisor stack is busy, the word found.
-#[tactic(auto, using(cet_page::proofs::ScriptLaws::play_bind), unfolding(cet_page::specs::Gate::gate_in, cet_page::specs::Parts::compare_exchange_as))]
-fn gate_in(k: u8, at: &mut Cursor) -> Result<Option<u64>, Suspended>
-    requires { k < 8 }
-    ensures { Refines (play (gate_in k) at.old.left at.old.rest.now) result at.new.left at.new.rest.now }
-{
-    at.read_entry(token_page(k))?;
-    let free = token(k);
-    let found = take_stack(k, at)?;
-    if found != free {
-        return Ok(Some(found));
-    }
-    at.store(token_word(k) - 1, KERNEL_RETURN)?;
-    Ok(None)
-}
-
-/// The gate's way out, where nothing else ends with it. What follows is the same whatever it finds.
-#[tactic(auto, using(cet_page::proofs::ScriptLaws::play_bind), unfolding(cet_page::specs::Gate::gate_out))]
-fn way_out(k: u8, at: &mut Cursor) -> Result<(), Suspended>
-    requires { k < 8 }
-    ensures { Refines (play (gate_out Leaving.Back k) at.old.left at.old.rest.now) result at.new.left at.new.rest.now }
-{
-    at.load(token_word(k) - 1)?;
-    give_stack(k, at)?;
-    Ok(())
-}
-
-/// The gate's way out, with what ends with it.
-#[tactic(auto, using(cet_page::proofs::GateLaws::comes_out))]
-fn gate_out(k: u8, ends: Leaving, at: &mut Cursor) -> Result<(), Suspended>
-    requires { k < 8 }
-    ensures { Refines (play (gate_out ends k) at.old.left at.old.rest.now) result at.new.left at.new.rest.now }
-{
-    way_out(k, at)
-}
-
-/// The state with one record more.
-pub fn counted(arch: &Arch) -> Arch
-    requires { arch.now.count < 2 ^ 32 - 1 }
-    ensures { result ≡ counted arch.now }
-{
-    let mut after = *arch;
-    after.count = arch.count + 1;
-    after
-}
-
 fn found_busy(arch: &mut Arch, k: u8, found: u64) -> RowEnd
     requires stack { k < 8 }
     requires count { arch.old.count < 2 ^ 32 - 1 }
     ensures comes { finish_with arch.new result ≡ found_busy arch.old k found }
     ensures stays { Stays arch.old arch.new (Ok result) }
 {
-    let noted = Record {
-        rip: arch.rip,
-        what: What::Busy,
-        code: 0,
-        a: token(k),
-        b: found,
-    };
+    let noted = busy_record(arch, k, found);
     arch.count += 1;
     RowEnd::Noted(noted)
 }
