@@ -1,5 +1,7 @@
 -- RSTORSSP's exchange: the token of a parked region becomes the word of the region that the thread leaves, or no token is found
 -- and nothing changes. Source: own.
+use Rattle.cet_book.proofs.Held.{Free}
+use Rattle.cet_own.proofs.Still.{tells_below, not_below}
 use Rattle.std.proofs.Common.{◌≡◌, ◌≢◌, ℕ, ◌+◌, ◌-◌, ◌*◌, inl, List, [], ◌∷◌, length, refl, sym, ◌∙◌, ap, subst, arith}
 use Rattle.std.specs.Prelude.{slice_index, slice_set}
 use Rattle.cet_words.specs.Access.{answer, after}
@@ -108,6 +110,7 @@ module _ {image : ImageData} {t k : ℕ} {past : List Visit} {b : Book} {a : Acc
       (λ words is h ssp held stands note. of_class class.Acquire (Acquired p ∷ []) ev refl
       (ap (λ c. class_at c ssp held v) e ∙ is_acquire p ssp v held (token_place (token h.sound.book.shape)).0 (p + 9) (top (region b m) + 3) found))
       (λ words is h. let high = (token_place (token h.sound.book.shape)).0.high in no_count_by (leaves_by e (other_word (slot p) (omega arith)) (next_other (slot p) (omega arith))) (ap birth ev))
+      (λ words is h. let high = (token_place (token h.sound.book.shape)).0.high in tells_below t b v e (λ j l. not_below (slot p) j (λ z. omega arith)))
       (λ words is h. acquired_way (token h.sound.book.shape).takes p at)
       (λ words is h sound.
       let l = token h.sound.book.shape in
@@ -128,8 +131,8 @@ module _ {image : ImageData} {t k : ℕ} {past : List Visit} {b : Book} {a : Acc
       here words is = sym (is ∙ ap (answer words) e) ∙ found
 
   -- another word is found
-  pub misses : (word expected value : ℕ) → a ≡ access.CompareExchange word expected value → word ≢ draw_word → word ≢ next_word → v ≢ expected → changes ≡ [] → Owed image t k past b a v changes
-  misses word expected value e no_draw no_next n ev =
-      quiet ev (leaves_by e (other_word word no_draw) (next_other word no_next)) (λ words is h.
+  pub misses : (word expected value : ℕ) → a ≡ access.CompareExchange word expected value → word ≢ draw_word → word ≢ next_word → v ≢ expected → Free t b → changes ≡ [] → Owed image t k past b a v changes
+  misses word expected value e no_draw no_next n free ev =
+      quiet ev (leaves_by e (other_word word no_draw) (next_other word no_next)) (λ j l own q. absurd (free j own)) (λ words is h.
       let none : after words a ≡ words = ap (after words) e ∙ exchange_fails words word expected value (λ z. n (is ∙ ap (answer words) e ∙ z)) in
       subst (λ now. Holds image now b × Spared b words now) (sym none) (h, record { own = λ y w own. refl; restorers = λ s l m. m }))

@@ -31,7 +31,7 @@ use Rattle.cet_page.specs.declared.checks.Kind.TheVariants as kind
 use Rattle.cet_page.specs.declared.finishes.Finish.{Finish}
 use Rattle.cet_page.specs.declared.finishes.Finish.TheVariants.{Noted, Posted, Exited, Stopped}
 use Rattle.cet_own.specs.Safe.{IsElsewhere, ReturnsBy}
-use Rattle.cet_own.specs.Restores.{RestoresBy}
+use Rattle.cet_own.specs.ToldTokens.{TokensBy}
 use Rattle.cet_own.proofs.Standing.{stacked, AtRest, HasNone}
 use Rattle.cet_own.proofs.Owed.{State}
 use Rattle.cet_own.proofs.Classes.{pushes}
@@ -51,10 +51,10 @@ entries_of t b = (region b (current_of t b)).entries
 -- before the last access.
 abbrev pub Ends : JobData → Arch → (past : List Visit) → (before s : State) → Finish → Type 0
 Ends job arch past before s (Noted next r) =
-    AtRest arch.number s.book next.ssp × ((held now : Option ℕ) → ReturnsBy job (entries_of arch.number before.book) (record arch { held = held }) (kept_by arch now next) r r.what) × RestoresBy before.book s.book r r.what
+    AtRest arch.number s.book next.ssp × ((held now : Option ℕ) → ReturnsBy job (entries_of arch.number before.book) (record arch { held = held }) (kept_by arch now next) r r.what) × TokensBy before.book s.book r r.what
 Ends job arch past before s (Posted next) = AtRest arch.number s.book next.ssp × (drew past ≡ false) × (numbered past ≡ false)
 Ends job arch past before s (Exited next r status) =
-    HasNone arch.number s.book × ((held now : Option ℕ) → ReturnsBy job (entries_of arch.number before.book) (record arch { held = held }) (kept_by arch now next) r r.what) × RestoresBy before.book s.book r r.what
+    HasNone arch.number s.book × ((held now : Option ℕ) → ReturnsBy job (entries_of arch.number before.book) (record arch { held = held }) (kept_by arch now next) r r.what) × TokensBy before.book s.book r r.what
 Ends job arch past before s Stopped = AtRest arch.number s.book arch.ssp × (drew past ≡ false) × (numbered past ≡ false)
 
 -- the same of the part of an instruction

@@ -13,7 +13,7 @@ use Rattle.cet_book.specs.Facts.{Place, In}
 use Rattle.cet_own.proofs.Holds.{Sound, Holds}
 use Rattle.cet_page.specs.Trail.{Visit}
 use Rattle.cet_own.specs.Stands.{OwnWord, own_slot, below_token}
-use Rattle.cet_own.proofs.Still.{KeepsRestorers}
+use Rattle.cet_own.proofs.Still.{KeepsRestorers, TellsBelow}
 use Rattle.cet_own.proofs.Counters.{CountsBy}
 use Rattle.cet_own.proofs.Fits.{Fits}
 use Rattle.cet_own.proofs.Owed.{Owed}
@@ -46,9 +46,10 @@ pub spares_none : (t : ℕ) (b : Book) (words : List ℕ) → Spares t b words w
 spares_none t b words = record { own = λ y n w own. refl; restorers = λ s l n. n }
 
 -- it is enough to say to which book the change leads, that words and book are in step there, and which words were spared
-pub changed : {image : ImageData} {t k : ℕ} {past : List Visit} {b : Book} {a : Access} {v : ℕ} {changes : List Change} → (c : Change) (to : Book) → changes ≡ c ∷ [] → ChangeReturns c → ((words : List ℕ) → v ≡ answer words a → Holds image words b → Fits t past b a v changes) → ((words : List ℕ) → v ≡ answer words a → Holds image words b → CountsBy t past b a v changes) → ((words : List ℕ) → v ≡ answer words a → Holds image words b → book_after t b c ≡ Some to) → ((words : List ℕ) → v ≡ answer words a → Holds image words b → Sound to → Holds image (after words a) to × Spares t b words (after words a)) → Owed image t k past b a v changes
-changed {image = image} {t = t} {b = b} {a = a} {v = v} {changes = changes} c to ev returns fits counts way does = record {
+pub changed : {image : ImageData} {t k : ℕ} {past : List Visit} {b : Book} {a : Access} {v : ℕ} {changes : List Change} → (c : Change) (to : Book) → changes ≡ c ∷ [] → ChangeReturns c → ((words : List ℕ) → v ≡ answer words a → Holds image words b → Fits t past b a v changes) → ((words : List ℕ) → v ≡ answer words a → Holds image words b → CountsBy t past b a v changes) → ((words : List ℕ) → v ≡ answer words a → Holds image words b → TellsBelow t b a v) → ((words : List ℕ) → v ≡ answer words a → Holds image words b → book_after t b c ≡ Some to) → ((words : List ℕ) → v ≡ answer words a → Holds image words b → Sound to → Holds image (after words a) to × Spares t b words (after words a)) → Owed image t k past b a v changes
+changed {image = image} {t = t} {b = b} {a = a} {v = v} {changes = changes} c to ev returns fits counts below way does = record {
   fits = fits;
+  below = below;
   counts = counts;
   keeps = λ words next is h still q.
       let w = way words is h in

@@ -1,4 +1,5 @@
 -- A draw on the counter of shadow pages: a region is claimed, or the draw fails and the counter stays raised. Source: own.
+use Rattle.cet_own.proofs.Still.{tells_below, not_below}
 use Rattle.std.proofs.Common.{◌≡◌, ℕ, ◌+◌, ◌-◌, ◌*◌, ◌%◌, ◌^◌, ◌<◌, ◌≤◌, inl, inr, Bool, true, false, List, [], ◌∷◌, length, refl, sym, ◌∙◌, ap, subst, arith, get_or-set_same}
 use Rattle.std.specs.Prelude.{nat_lt, slice_index, slice_set}
 use Rattle.std.proofs.lemmas.Bool.{cases_lt}
@@ -136,6 +137,7 @@ module _ {image : ImageData} {t k : ℕ} {past : List Visit} {b : Book} {a : Acc
       changed (Claimed (shadow_start + 4096 * (v + 1)) pages maker) (append (claim t (shadow_start + 4096 * (v + 1)) pages maker) b) ev tt
       (λ words is h ssp held stands note. of_class class.Claim (Claimed (shadow_start + 4096 * (v + 1)) pages maker ∷ []) ev refl (ap (λ c. class_at c ssp held v) e ∙ is_claim (pages + 1) ssp v held))
       (λ words is h. draws_pages (pages + 1) (omega arith) e once (ap birth ev))
+      (λ words is h. tells_below t b v e (λ j l. not_below draw_word j (λ z. omega arith)))
       (λ words is h. claimed_way t (shadow_start + 4096 * (v + 1)) pages maker b (draw_can_claim b v pages (drawn words is h) least fits))
       (λ words is h sound.
       let here = found words is in
@@ -159,6 +161,7 @@ module _ {image : ImageData} {t k : ℕ} {past : List Visit} {b : Book} {a : Acc
   pub overdraws : (n : ℕ) → a ≡ access.FetchAdd draw_word n → n ≤ 1023 → v + n < 2 ^ 64 → drew past ≡ false → changes ≡ [] → Owed image t k past b a v changes
   overdraws n e most few once ev = record {
     counts = λ words is h. draws_pages n most e once (ap birth ev);
+    below = λ words is h. tells_below t b v e (λ j l. not_below draw_word j (λ z. omega arith));
     fits = λ words is h ssp held stands note. none_of _ ev;
     keeps = λ words next is h still q. subst (Holds image (after words a)) (same_book t b next changes ev q) (does words is h).0;
     spares = λ words is h y u w own. (does words is h).1.own y w own;

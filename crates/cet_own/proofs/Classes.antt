@@ -31,12 +31,12 @@ use Rattle.cet_page.specs.Script.{birth}
 use Rattle.cet_page.specs.Trail.{Visit}
 use Rattle.cet_own.specs.ExitWord.{IsEnding}
 use Rattle.cet_own.specs.Class.{class_at}
-use Rattle.cet_own.specs.Past.{next_word, draw_word, restorer_word, frame_pushed, below_frame}
+use Rattle.cet_own.specs.Past.{next_word, draw_word, restorer_word, frame_pushed, below_frame, leaves_word}
 use Rattle.cet_own.specs.declared.access_classes.Class.TheVariants as class
 use Rattle.cet_own.proofs.Counters.{CountsBy, no_count, LeavesCounters, alters}
 use Rattle.cet_own.specs.Stands.{OwnWord, own_slot, below_token}
 use Rattle.cet_own.proofs.Standing.{Stacked}
-use Rattle.cet_own.proofs.Still.{KeepsRestorers}
+use Rattle.cet_own.proofs.Still.{KeepsRestorers, TellsBelow, tells_below, not_below}
 use Rattle.cet_own.proofs.ClassLaws.{one_book, sound_after, wrote, exchange_does, exchange_fails, holds_gate, holds_end}
 
 pub own_region : {image : ImageData} {words : List ℕ} {b : Book} (t m : ℕ) → Holds image words b → (region b m).holder ≡ Current t → Owned t m b
@@ -176,8 +176,9 @@ other_word w n = grind (arith, nat_tests)
 pub next_other : (w : ℕ) → w ≢ next_word → (w == next_word) ≡ false
 next_other w n = grind (arith, nat_tests)
 
-pub quiet : {image : ImageData} {t k : ℕ} {past : List Visit} {b : Book} {a : Access} {v : ℕ} {changes : List Change} → changes ≡ [] → LeavesCounters a → ((words : List ℕ) → v ≡ answer words a → Holds image words b → Holds image (after words a) b × Spared b words (after words a)) → Owed image t k past b a v changes
-quiet {image = image} {t = t} {b = b} {a = a} {changes = changes} ev leaves h = record {
+pub quiet : {image : ImageData} {t k : ℕ} {past : List Visit} {b : Book} {a : Access} {v : ℕ} {changes : List Change} → changes ≡ [] → LeavesCounters a → TellsBelow t b a v → ((words : List ℕ) → v ≡ answer words a → Holds image words b → Holds image (after words a) b × Spared b words (after words a)) → Owed image t k past b a v changes
+quiet {image = image} {t = t} {b = b} {a = a} {changes = changes} ev leaves below h = record {
+  below = λ words is h. below;
   counts = λ words is holds. no_count_by leaves (ap birth ev);
   fits = λ words is holds ssp held stands note. none_of _ ev;
   keeps = λ words next is holds still q. subst (Holds image (after words a)) (same_book t b next changes ev q) (h words is holds).0;
@@ -187,17 +188,21 @@ quiet {image = image} {t = t} {b = b} {a = a} {changes = changes} ev leaves h = 
 
 module _ {image : ImageData} {t k : ℕ} {past : List Visit} {b : Book} {a : Access} {v : ℕ} {changes : List Change} where
   pub looks : (page : ℕ) → a ≡ access.Look page → changes ≡ [] → Owed image t k past b a v changes
-  looks page e ev = quiet ev (leaves_by e refl refl) (λ words is h. subst (λ c. Holds image (after words c) b × Spared b words (after words c)) (sym e) (h, record { own = λ y w own. refl; restorers = λ s l n. n }))
+  looks page e ev = quiet ev (leaves_by e refl refl) (tells_below t b v e (λ j l. refl)) (λ words is h. subst (λ c. Holds image (after words c) b × Spared b words (after words c)) (sym e) (h, record { own = λ y w own. refl; restorers = λ s l n. n }))
 
-  pub loads : (word : ℕ) → a ≡ access.Load word → changes ≡ [] → Owed image t k past b a v changes
-  loads word e ev = quiet ev (leaves_by e refl refl) (λ words is h. subst (λ c. Holds image (after words c) b × Spared b words (after words c)) (sym e) (h, record { own = λ y w own. refl; restorers = λ s l n. n }))
+  pub loads : (word : ℕ) → a ≡ access.Load word → TellsBelow t b a v → changes ≡ [] → Owed image t k past b a v changes
+  loads word e below ev = quiet ev (leaves_by e refl refl) below (λ words is h. subst (λ c. Holds image (after words c) b × Spared b words (after words c)) (sym e) (h, record { own = λ y w own. refl; restorers = λ s l n. n }))
+
+  -- of a thread that holds no supervisor stack
+  pub free_loads : (word : ℕ) → a ≡ access.Load word → Free t b → changes ≡ [] → Owed image t k past b a v changes
+  free_loads word e free ev = loads word e (λ j l h q. absurd (free j h)) ev
 
   pub stores : (word value : ℕ) → a ≡ access.Store word value → IsOut word → changes ≡ [] → Owed image t k past b a v changes
-  stores word value e out ev = quiet ev (leaves_by e (other_word word out.draw) (next_other word out.next)) (λ words is h. subst (λ c. Holds image (after words c) b × Spared b words (after words c)) (sym e) (holds_out image words b word value out h, out_spared words b word value out))
+  stores word value e out ev = quiet ev (leaves_by e (other_word word out.draw) (next_other word out.next)) (tells_below t b v e (λ j l. not_below word j (λ z. out.below j l (sym z)))) (λ words is h. subst (λ c. Holds image (after words c) b × Spared b words (after words c)) (sym e) (holds_out image words b word value out h, out_spared words b word value out))
 
   pub exchanges : (word expected value : ℕ) → a ≡ access.CompareExchange word expected value → IsOut word → changes ≡ [] → Owed image t k past b a v changes
   exchanges word expected value e out ev =
-      quiet ev (leaves_by e (other_word word out.draw) (next_other word out.next)) (λ words is h. subst (λ c. Holds image (after words c) b × Spared b words (after words c)) (sym e) (
+      quiet ev (leaves_by e (other_word word out.draw) (next_other word out.next)) (tells_below t b v e (λ j l. not_below word j (λ z. out.below j l (sym z)))) (λ words is h. subst (λ c. Holds image (after words c) b × Spared b words (after words c)) (sym e) (
         wrote image words b word expected value (slice_index words word == expected) refl h (λ _. holds_out image words b word value out h),
         record {
           own = λ y w own. exchange_other words word value w (slice_index words word == expected) (own_out y w word b out own);
@@ -206,11 +211,11 @@ module _ {image : ImageData} {t k : ℕ} {past : List Visit} {b : Book} {a : Acc
       ))
 
   pub swaps : (word value : ℕ) → a ≡ access.Swap word value → IsOut word → changes ≡ [] → Owed image t k past b a v changes
-  swaps word value e out ev = quiet ev (leaves_by e (other_word word out.draw) (next_other word out.next)) (λ words is h. subst (λ c. Holds image (after words c) b × Spared b words (after words c)) (sym e) (holds_out image words b word value out h, out_spared words b word value out))
+  swaps word value e out ev = quiet ev (leaves_by e (other_word word out.draw) (next_other word out.next)) (tells_below t b v e (λ j l. not_below word j (λ z. out.below j l (sym z)))) (λ words is h. subst (λ c. Holds image (after words c) b × Spared b words (after words c)) (sym e) (holds_out image words b word value out h, out_spared words b word value out))
 
   pub adds : (word value : ℕ) → a ≡ access.FetchAdd word value → IsOut word → changes ≡ [] → Owed image t k past b a v changes
   adds word value e out ev =
-      quiet ev (leaves_by e (other_word word out.draw) (next_other word out.next)) (λ words is h. subst (λ c. Holds image (after words c) b × Spared b words (after words c)) (sym e) (
+      quiet ev (leaves_by e (other_word word out.draw) (next_other word out.next)) (tells_below t b v e (λ j l. not_below word j (λ z. out.below j l (sym z)))) (λ words is h. subst (λ c. Holds image (after words c) b × Spared b words (after words c)) (sym e) (
         holds_out image words b word ((slice_index words word + value) % 2 ^ 64) out h,
         out_spared words b word ((slice_index words word + value) % 2 ^ 64) out,
       ))
@@ -218,7 +223,7 @@ module _ {image : ImageData} {t k : ℕ} {past : List Visit} {b : Book} {a : Acc
   -- the process ends, where it hasn't ended before
   pub finishes : (value : ℕ) → a ≡ access.CompareExchange exit_word 0 value → IsEnding value → changes ≡ [] → Owed image t k past b a v changes
   finishes value e ending ev =
-      quiet ev (leaves_by e (other_word exit_word (omega arith)) (next_other exit_word (omega arith))) (λ words is h. subst (λ c. Holds image (after words c) b × Spared b words (after words c)) (sym e) (
+      quiet ev (leaves_by e (other_word exit_word (omega arith)) (next_other exit_word (omega arith))) (tells_below t b v e (λ j l. not_below exit_word j (λ z. omega arith))) (λ words is h. subst (λ c. Holds image (after words c) b × Spared b words (after words c)) (sym e) (
         wrote image words b exit_word 0 value (slice_index words exit_word == 0) refl h (λ _. holds_ended image words b value ending h),
         record {
           own = λ y w own. exchange_other words exit_word value w (slice_index words exit_word == 0) (own_exit y w b own);
@@ -228,7 +233,7 @@ module _ {image : ImageData} {t k : ℕ} {past : List Visit} {b : Book} {a : Acc
 
   -- the entry of a page of the shadow area is stored: 0, or where the page lies in a region its present one
   pub sets_page : (page x : ℕ) → a ≡ access.Store (entry_word page) x → first_shadow_page ≤ page → page < first_kernel_page → IsEntry image page x → (x ≢ 0 → (i : ℕ) × LiesIn (region b i) page) → changes ≡ [] → Owed image t k past b a v changes
-  sets_page page x e lo hi entry lies ev = quiet ev (leaves_by e (other_word (entry_word page) (omega arith)) (next_other (entry_word page) (omega arith))) (λ words is h. subst (λ c. Holds image (after words c) b × Spared b words (after words c)) (sym e) (
+  sets_page page x e lo hi entry lies ev = quiet ev (leaves_by e (other_word (entry_word page) (omega arith)) (next_other (entry_word page) (omega arith))) (tells_below t b v e (λ j l. not_below (entry_word page) j (λ z. omega arith))) (λ words is h. subst (λ c. Holds image (after words c) b × Spared b words (after words c)) (sym e) (
     holds_entry image words b page x lo hi entry lies h,
     record {
       own = λ y w own. word_other words (entry_word page) x w (own_entry y w (entry_word page) b (omega arith) own);
@@ -245,7 +250,7 @@ module _ {image : ImageData} {t k : ℕ} {past : List Visit} {b : Book} {a : Acc
   -- the way in finds the supervisor stack busy
   pub refused : (value : ℕ) → k < 8 → a ≡ access.CompareExchange (token_word k) (token k) value → v ≢ token k → changes ≡ [] → Owed image t k past b a v changes
   refused value l e n ev =
-      quiet ev (leaves_by e (other_word (token_word k) (omega arith)) (next_other (token_word k) (omega arith))) (λ words is h.
+      quiet ev (leaves_by e (other_word (token_word k) (omega arith)) (next_other (token_word k) (omega arith))) (tells_below t b v e (λ j m. not_below (token_word k) j (λ z. omega arith))) (λ words is h.
       let n' : slice_index words (token_word k) ≢ token k = λ z. n (is ∙ ap (answer words) e ∙ z) in
       subst (λ c. Holds image (after words c) b × Spared b words (after words c)) (sym e) (
         subst (λ w. Holds image w b) (sym (exchange_fails words (token_word k) (token k) value n')) h,
@@ -254,11 +259,12 @@ module _ {image : ImageData} {t k : ℕ} {past : List Visit} {b : Book} {a : Acc
 
   -- the way out reads it again
   pub reloads : k < 8 → a ≡ access.Load (token_word k - 1) → v ≡ kernel_return → changes ≡ [] → Owed image t k past b a v changes
-  reloads l e found ev = loads (token_word k - 1) e ev
+  reloads l e found ev = loads (token_word k - 1) e (λ j m h q. ap (λ c. leaves_word c v) e ∙ found) ev
 
   -- the way in stores the kernel's return address below its token
   pub settles : k < 8 → a ≡ access.Store (token_word k - 1) kernel_return → stack_of b k ≡ Some t → changes ≡ [] → Owed image t k past b a v changes
   settles l e held ev = record {
+    below = λ words is h j m own q. ap (λ c. leaves_word c v) e;
     fits = λ words is h ssp held stands note. none_of _ ev;
     counts = λ words is h. no_count_by (leaves_by e (other_word (token_word k - 1) (omega arith)) (next_other (token_word k - 1) (omega arith))) (ap birth ev);
     keeps = λ words next is h still q.
@@ -280,6 +286,9 @@ module _ {image : ImageData} {t k : ℕ} {past : List Visit} {b : Book} {a : Acc
   -- a return address is stored below the top of the thread's region
   pub pushes : (m back : ℕ) → (region b m).holder ≡ Current t → a ≡ access.Store (slot (top (region b m) - 8)) back → (region b m).start + 8 ≤ top (region b m) → IsReturn back → frame_pushed past ≡ false → changes ≡ Called back ∷ [] → Owed image t k past b a v changes
   pushes m back current e room is_return level ev = record {
+    below = λ words is h.
+        let high = (below_top (own_region t m h current) room).place.high in
+        tells_below t b v e (λ j l. not_below (slot (top (region b m) - 8)) j (λ z. omega arith));
     fits = λ words is h ssp held stands note.
         let o = own_region t m h current in
         let place = (below_top o room).place in
@@ -306,6 +315,7 @@ module _ {image : ImageData} {t k : ℕ} {past : List Visit} {b : Book} {a : Acc
   -- the newest entry goes, where the book has that change
   pub pops : (m : ℕ) → (region b m).holder ≡ Current t → a ≡ access.Load (slot (top (region b m))) → Free t b → frame_pushed past ≡ false → changes ≡ Returned ∷ [] → Owed image t k past b a v changes
   pops m current e free level ev = record {
+    below = λ words is h j l own q. absurd (free j own);
     fits = λ words is h ssp held stands note.
         let at' = subst (λ f. Stacked t b (below_frame f ssp)) level stands in
         let here : ssp ≡ top (region b m) = top_is (own_region t m h current) at'.top in
@@ -328,6 +338,7 @@ module _ {image : ImageData} {t k : ℕ} {past : List Visit} {b : Book} {a : Acc
   -- the way in takes the supervisor stack
   pub enters : k < 8 → a ≡ access.CompareExchange (token_word k) (token k) (token k + 1) → v ≡ token k → Free t b → changes ≡ Busied k ∷ [] → Owed image t k past b a v changes
   enters l e found free ev = record {
+    below = λ words is h. tells_below t b v e (λ j m. not_below (token_word k) j (λ z. omega arith));
     fits = λ words is h ssp held stands note. of_class class.Neutral (Busied k ∷ []) ev refl (ap (λ c. class_at c ssp held v) e ∙ is_entry k (token k) (token k + 1) ssp v held l (none_held b held free note));
     counts = λ words is h. no_count_by (leaves_by e (other_word (token_word k) (omega arith)) (next_other (token_word k) (omega arith))) (ap birth ev);
     keeps = λ words next is h still q.
@@ -345,6 +356,7 @@ module _ {image : ImageData} {t k : ℕ} {past : List Visit} {b : Book} {a : Acc
   -- the way out gives it back
   pub leaves : k < 8 → a ≡ access.CompareExchange (token_word k) (token k + 1) (token k) → stack_of b k ≡ Some t → changes ≡ Freed k ∷ [] → Owed image t k past b a v changes
   leaves l e held ev = record {
+    below = λ words is h. tells_below t b v e (λ j m. not_below (token_word k) j (λ z. omega arith));
     fits = λ words is h ssp noted stands note. of_class class.End (Freed k ∷ []) ev refl (ap (λ c. class_at c ssp noted v) e ∙ is_end k (token k + 1) (token k) ssp v noted l (some_held b noted k held note));
     counts = λ words is h. no_count_by (leaves_by e (other_word (token_word k) (omega arith)) (next_other (token_word k) (omega arith))) (ap birth ev);
     keeps = λ words next is h still q.
@@ -362,6 +374,7 @@ module _ {image : ImageData} {t k : ℕ} {past : List Visit} {b : Book} {a : Acc
   -- and the thread's region may end with it
   pub exits : (m : ℕ) → k < 8 → a ≡ access.CompareExchange (token_word k) (token k + 1) (token k) → stack_of b k ≡ Some t → (region b m).holder ≡ Current t → changes ≡ Ended ∷ Freed k ∷ [] → Owed image t k past b a v changes
   exits m l e held current ev = record {
+    below = λ words is h. tells_below t b v e (λ j n. not_below (token_word k) j (λ z. omega arith));
     fits = λ words is h ssp noted stands note. of_class class.End (Ended ∷ Freed k ∷ []) ev refl (ap (λ c. class_at c ssp noted v) e ∙ is_end k (token k + 1) (token k) ssp v noted l (some_held b noted k held note));
     counts = λ words is h. no_count_by (leaves_by e (other_word (token_word k) (omega arith)) (next_other (token_word k) (omega arith))) (ap birth ev);
     keeps = λ words next is h still q.

@@ -1,5 +1,5 @@
 -- What a thread claims of the gate's way in and way out. Source: own.
-use Rattle.std.proofs.Common.{◌≡◌, ℕ, ◌+◌, ◌-◌, ◌<◌, ◌≤◌, inl, inr, true, length, Option, Some, None, refl, sym, ◌∙◌, ap, arith, eqb, List}
+use Rattle.std.proofs.Common.{◌≡◌, ℕ, ◌+◌, ◌-◌, ◌<◌, ◌≤◌, inl, inr, true, length, Option, Some, None, refl, sym, ◌∙◌, ap, arith, eqb, List, ◌≢◌}
 use Rattle.std.specs.Prelude.{option_map, option_and_then}
 use Rattle.std.proofs.lemmas.Bool.{cases_lt}
 use Rattle.std.proofs.lemmas.Bool.Decides.{eqb_tells, nat_tests}
@@ -46,6 +46,20 @@ free_by : (o : Option ℕ) (p v : ℕ) → v ≡ p + busy o → v ≡ p → o �
 free_by None p v e f = refl
 free_by (Some t) p v e f = absurd (omega arith)
 
+-- a stack that was taken is the thread's only one
+only_taken : (t k : ℕ) (b : Book) → k < length b.stacks → Free t b → (j : ℕ) → stack_of (put_stack b k (Some t)) j ≡ Some t → j ≡ k
+only_taken t k b inside free j own =
+    let at = stack_of-put_stack b k j (Some t) inside in
+    elim (eqb_tells j k) [
+      | inl u ↦ u.1
+      | inr u ↦ absurd (free j (sym (rw u.0 at at) ∙ own))
+    ]
+
+-- another word than the free token is that of a busy one, and the stack has a holder
+busy_by : (o : Option ℕ) (p v : ℕ) → v ≡ p + busy o → v ≢ p → (v ≡ p + 1) × (o ≢ None)
+busy_by None p v e n = absurd (n (omega arith))
+busy_by (Some t) p v e n = (omega arith, λ z. cc)
+
 free_given : (t k : ℕ) (b : Book) → length b.stacks ≡ 8 → k < 8 → StackShape b.stacks → stack_of b k ≡ Some t → Free t (put_stack b k None)
 free_given t k b eight l s holds j e =
     let h = given_held t k b (omega arith) s holds j in
@@ -75,7 +89,7 @@ module _ (job : JobData) (arch : Arch) (l : own_stack job arch.number < 8) where
   ended b = hand (current_of arch.number b) (region b (current_of arch.number b)).entries Lost b
 
   -- the way in: the thread is inside, or it is at rest as before
-  pub gate_in_then : {A : Type 0} (Q : List Visit → State → State → A → Type 0) (past : List Visit) (before s : State) (f : Option ℕ → Script A) → Resting arch.number untouched (progress past) s.book arch.ssp → ((p : List Visit) (z n : State) → Inside arch.number gate untouched (progress p) (left_in p (token_word gate - 1)) n.book arch.ssp → Claim job arch Q p z n (f None)) → ((p : List Visit) (z n : State) (found : ℕ) → Resting arch.number untouched (progress p) n.book arch.ssp → Claim job arch Q p z n (f (Some found))) → Claim job arch Q past before s (gate_in gate >>= f)
+  pub gate_in_then : {A : Type 0} (Q : List Visit → State → State → A → Type 0) (past : List Visit) (before s : State) (f : Option ℕ → Script A) → Resting arch.number untouched (progress past) s.book arch.ssp → ((p : List Visit) (z n : State) → Inside arch.number gate untouched (progress p) (left_in p (token_word gate - 1)) n.book arch.ssp → Claim job arch Q p z n (f None)) → ((p : List Visit) (z n : State) (found : ℕ) → (found ≡ token gate + 1) × (stack_of z.book gate ≢ None) → Resting arch.number untouched (progress p) n.book arch.ssp → Claim job arch Q p z n (f (Some found))) → Claim job arch Q past before s (gate_in gate >>= f)
   unfolding gate_in compare_exchange_as store_as
   gate_in_then Q past before s f rest inside busied =
       claim_bind job arch Q past before s (gate_in gate) f
@@ -95,8 +109,9 @@ module _ (job : JobData) (arch : Arch) (l : own_stack job arch.number < 8) where
                   let within : gate < length later.book.stacks = omega arith in
                   let holds : stack_of (taken later.book) gate ≡ Some arch.number
                   = stack_of-put_stack later.book gate gate (Some arch.number) within ∙ rw same refl in
+                  let alone : (j : ℕ) → stack_of (taken later.book) j ≡ Some arch.number → j ≡ gate = λ j own. only_taken arch.number gate later.book within rest''.free j own in
                   let in_kernel : Inside arch.number gate untouched (progress past) (Some kernel_return) (taken later.book) arch.ssp
-                  = record { stacked = stacked_put arch.number gate arch.ssp (Some arch.number) later.book rest''.stacked; holds = holds; level = rest''.level; settled = refl } in
+                  = record { stacked = stacked_put arch.number gate arch.ssp (Some arch.number) later.book rest''.stacked; holds = holds; level = rest''.level; settled = refl; alone = alone } in
                   rw e.0 (
                     enters l refl e.1 rest''.free refl,
                     record later { book = taken later.book },
@@ -109,7 +124,7 @@ module _ (job : JobData) (arch : Arch) (l : own_stack job arch.number < 8) where
                           (settles l refl in_kernel'.holds refl, last, refl, inside _ last last (inside_left (rw same' refl) in_kernel')),
                     ),
                   )
-              | inr e ↦ rw e.0 (refused (token gate + 1) l refl e.1 refl, later, refl, busied _ later later found rest'')
+              | inr e ↦ rw e.0 (refused (token gate + 1) l refl e.1 refl, later, refl, busied _ later later found (busy_by (stack_of later.book gate) (token gate) found (known.gate gate (token gate) (token gate + 1) l refl) e.1) rest'')
             ],
       )))
 

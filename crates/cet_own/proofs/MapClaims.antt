@@ -158,7 +158,7 @@ module _ (job : JobData) (arch : Arch) (l : own_stack job arch.number < 8) (free
             let top' = seeded_top m ((4096 * pages_of size - size) / 8) within1.stacked.top in
             let apart : (seed_word start size == token_word gate - 1) ≡ false = (let n : seed_word start size ≢ token_word gate - 1 = omega arith in grind (arith, nat_tests)) in
             let within2 : Inside arch.number gate (counted_by true false) (progress past) (left_in past (token_word gate - 1)) (hand i (replicate ((4096 * pages_of size - size) / 8) Blank) Parked now.book) arch.ssp
-            = record { stacked = record { top = top'; low = within1.stacked.low; high = within1.stacked.high }; holds = within1.holds; level = within1.level; settled = within1.settled } in (
+            = record { stacked = record { top = top'; low = within1.stacked.low; high = within1.stacked.high }; holds = within1.holds; level = within1.level; settled = within1.settled; alone = within1.alone } in (
               seeds_region i ((4096 * pages_of size - size) / 8) (start + size - 8) start maker at_start (omega arith) (omega arith) within1.holds
                   (ap (λ n. access.Store n (restore_token (start + size))) word ∙ ap (access.Store (slot (start + size - 8))) value) refl,
               record now { book = hand i (replicate ((4096 * pages_of size - size) / 8) Blank) Parked now.book },
@@ -203,7 +203,7 @@ module _ (job : JobData) (arch : Arch) (l : own_stack job arch.number < 8) (free
 
   -- from the draw on the row has drawn
   draws_on : {now : Progress} {left : Option ℕ} {b : Book} → Inside arch.number gate untouched now left b arch.ssp → Inside arch.number gate (counted_by true false) (record { framed = now.framed; drawing = true; numbering = now.numbering }) left b arch.ssp
-  draws_on i = record { stacked = i.stacked; holds = i.holds; level = ap (λ (x : Progress). record { framed = x.framed; drawing = true; numbering = x.numbering }) i.level; settled = i.settled }
+  draws_on i = record { stacked = i.stacked; holds = i.holds; level = ap (λ (x : Progress). record { framed = x.framed; drawing = true; numbering = x.numbering }) i.level; settled = i.settled; alone = i.alone }
 
   -- by whether there is room for so many pages
   drawn_claim : (past : List Visit) (now : State) (d size : ℕ) (token : Bool) → 1 ≤ size → pages_of size ≤ most_stack_pages → (token ≡ true → (8 ≤ size) × (size % 8 ≡ 0)) → Known job.image arch.number past now.book (access.FetchAdd draw_word (pages_of size + 1)) d → Within job arch l untouched past now → (c : Bool) → can_draw (pages_of size) d ≡ c → Owed job.image arch.number gate past now.book (access.FetchAdd draw_word (pages_of size + 1)) d (if c then Claimed (drawn_start d) (pages_of size) token ∷ [] else []) × (later : State) × (state_after arch.number now (if c then Claimed (drawn_start d) (pages_of size) token ∷ [] else []) ≡ Some later) × Claim job arch (Leaves job arch l) (visit (access.FetchAdd draw_word (pages_of size + 1)) d (if c then Claimed (drawn_start d) (pages_of size) token ∷ [] else []) ∷ past) now later (if c then fill_stack arch d size (pages_of size) token else done (failed arch errno.NoMem))

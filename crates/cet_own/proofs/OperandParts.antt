@@ -1,4 +1,5 @@
 -- What a thread claims of the accesses to operands, each with what follows it. Source: own.
+use Rattle.cet_own.proofs.Standing.{free_kept}
 use Rattle.std.proofs.Common.{ℕ, ◌%◌, refl, List}
 use Rattle.std.specs.Int.{cast_unsigned}
 use Rattle.cet_words.specs.Job.{JobData}
@@ -15,7 +16,7 @@ use Rattle.cet_page.specs.declared.checks.Kind.TheVariants as kind
 use Rattle.cet_page.specs.declared.checks.Who.TheVariants.{User}
 use Rattle.cet_own.proofs.Holds.{IsOut}
 use Rattle.cet_own.proofs.Owed.{State}
-use Rattle.cet_own.proofs.Classes.{loads, stores}
+use Rattle.cet_own.proofs.Classes.{free_loads, stores}
 use Rattle.cet_own.proofs.Parts.{Claim, claim_bind, check_address_then, look_then, store_look_then}
 use Rattle.cet_own.proofs.Places.{page_word}
 use Rattle.cet_own.proofs.Progress.{progress, untouched}
@@ -32,7 +33,7 @@ module _ (job : JobData) (arch : Arch) where
       look_then job arch (λ p z n x. Claim job arch Q p z n (f (bytes_at addr count x))) past before s kind.Load User addr _ rest (λ now r page v at known a.
       let rest1 = rest_kept r rest in (
         (rest_stacked rest1),
-        λ later r' word known'. (loads (word_in page addr) refl refl, later, refl, h _ later later (rest_kept r' rest1) (bytes_at addr count word)),
+        λ later r' word known'. (free_loads (word_in page addr) refl (free_kept r' rest1.free) refl, later, refl, h _ later later (rest_kept r' rest1) (bytes_at addr count word)),
       )))))
 
   -- a write goes to a word that matters for no stack

@@ -18,7 +18,7 @@ use Rattle.cet_own.specs.Stands.{IsRestorer, IsEntry, busy}
 use Rattle.cet_page.specs.Trail.{Visit}
 use Rattle.cet_own.specs.Past.{next_word, draw_word, left_in, restorer_word, has_restorer}
 use Rattle.cet_own.specs.Stands.{OwnWord}
-use Rattle.cet_own.proofs.Still.{Still, KeepsRestorers}
+use Rattle.cet_own.proofs.Still.{Still, KeepsRestorers, TellsBelow}
 use Rattle.cet_own.proofs.Standing.{HasNone}
 use Rattle.cet_own.proofs.Counters.{CountsBy}
 use Rattle.cet_own.proofs.Fits.{Fits}
@@ -72,6 +72,8 @@ pub record Owed (image : ImageData) (t k : ℕ) (past : List Visit) (b : Book) (
   pub restorers : (words : List ℕ) → v ≡ answer words a → Holds image words b → KeepsRestorers words (after words a)
   -- counters grow once in a row, and births come with theirs alone
   pub counts : (words : List ℕ) → v ≡ answer words a → Holds image words b → CountsBy t past b a v changes
+  -- below the token of a stack of its own it reads or leaves the kernel's return address
+  pub below : (words : List ℕ) → v ≡ answer words a → Holds image words b → TellsBelow t b a v
   -- the changes are of the class of the access
   pub fits : (words : List ℕ) → v ≡ answer words a → Holds image words b → Fits t past b a v changes
 

@@ -1,6 +1,7 @@
 -- What a thread claims of the parts of its row, each with what follows it. Source: own.
+use Rattle.cet_own.proofs.Still.{not_below}
 use Rattle.std.proofs.Common.{eqb, ◌≡◌, ℕ, zero, suc, ◌+◌, ◌-◌, ◌/◌, ◌%◌, ◌<◌, ◌≤◌, Bool, true, false, cond, [], ◌∷◌, Option, Some, None, refl, sym, ◌∙◌, ap, subst, arith, List}
-use Rattle.std.specs.Prelude.{option_map, option_and_then, ◌==◌}
+use Rattle.std.specs.Prelude.{option_map, option_and_then, ◌==◌, ◌≢◌}
 use Rattle.std.proofs.lemmas.Bool.{eqb-true}
 use Rattle.std.proofs.lemmas.Bool.Decides.{nat_tests}
 use Rattle.cet_words.specs.Job.{JobData}
@@ -22,13 +23,13 @@ use Rattle.cet_page.specs.declared.checks.Who.{Who}
 use Rattle.cet_page.specs.declared.checks.Who.TheVariants.{User}
 use Rattle.cet_own.specs.Safe.{AtReturn, IsReturnFault}
 use Rattle.cet_own.proofs.Frame.{Steady, steady_bind, steady_cond}
-use Rattle.cet_own.specs.Restores.{MissesToken}
+use Rattle.cet_own.specs.ToldTokens.{MissesToken}
 use Rattle.cet_book.specs.Facts.{In}
 use Rattle.cet_own.proofs.Holds.{IsOut}
-use Rattle.cet_own.proofs.Standing.{Stacked, AtRest}
+use Rattle.cet_own.proofs.Standing.{Stacked, AtRest, free_kept}
 use Rattle.cet_own.proofs.Owed.{State, state_after, Known, rules}
 use Rattle.cet_own.specs.ExitWord.{IsEnding}
-use Rattle.cet_own.proofs.Classes.{looks, loads, stores as stored, exchanges, finishes, swaps, adds, clears as cleared}
+use Rattle.cet_own.proofs.Classes.{looks, loads, stores as stored, exchanges, finishes, swaps, adds, clears as cleared, free_loads}
 use Rattle.cet_own.proofs.Places.{store_page, entry_there, shadow_page, in_page}
 use Rattle.cet_own.specs.Past.{left_in, frame_pushed, below_frame}
 use Rattle.cet_own.proofs.Progress.{Progress, progress, untouched}
@@ -106,9 +107,25 @@ module _ (job : JobData) (arch : Arch) where
   unfolding read_entry
   read_entry_then Q past before s page f top h = claim_bind Q past before s (read_entry page) f (top, λ now r v known. (looks page refl refl, now, refl, h now r v))
 
-  pub load_then : {A : Type 0} (Q : List Visit → State → State → A → Type 0) (past : List Visit) (before s : State) (word : ℕ) (f : ℕ → Script A) → Stacked arch.number s.book (below_frame (frame_pushed past) arch.ssp) → ((now : State) → Relies arch.number s.book now.book → (v : ℕ) → Claim job arch Q (visit (access.Load word) v [] ∷ past) now now (f v)) → Claim job arch Q past before s (load word >>= f)
+  pub load_then : {A : Type 0} {d : Progress} (Q : List Visit → State → State → A → Type 0) (past : List Visit) (before s : State) (word : ℕ) (f : ℕ → Script A) → Resting arch.number d (progress past) s.book arch.ssp → ((now : State) → Relies arch.number s.book now.book → (v : ℕ) → Claim job arch Q (visit (access.Load word) v [] ∷ past) now now (f v)) → Claim job arch Q past before s (load word >>= f)
   unfolding load_as
-  load_then Q past before s word f top h = claim_bind Q past before s (load word) f (top, λ now r v known. (loads word refl refl, now, refl, h now r v))
+  load_then Q past before s word f rest h = claim_bind Q past before s (load word) f (rest_stacked rest, λ now r v known. (free_loads word refl (free_kept r rest.free) refl, now, refl, h now r v))
+
+  -- of a thread in the kernel, elsewhere than below its token
+  pub kernel_load_then : {A : Type 0} {d : Progress} (Q : List Visit → State → State → A → Type 0) (past : List Visit) (before s : State) (k word : ℕ) (f : ℕ → Script A) → word ≢ token_word k - 1 → Inside arch.number k d (progress past) (left_in past (token_word k - 1)) s.book arch.ssp → ((now : State) → Relies arch.number s.book now.book → (v : ℕ) → Inside arch.number k d (progress past) (left_in (visit (access.Load word) v [] ∷ past) (token_word k - 1)) now.book arch.ssp → Claim job arch Q (visit (access.Load word) v [] ∷ past) now now (f v)) → Claim job arch Q past before s (load word >>= f)
+  unfolding load_as
+  kernel_load_then Q past before s k word f apart inside h =
+      claim_bind Q past before s (load word) f (
+        inside_stacked inside,
+        λ now r v known.
+            let inside' = inside_kept r inside in
+            let other : (word == token_word k - 1) ≡ false = not_below word k apart in (
+              loads word refl (λ j l own q. absurd (apart (let same = inside'.alone j own in let here : word ≡ token_word j - 1 = eqb-true word (token_word j - 1) q in omega arith))) refl,
+              now,
+              refl,
+              h now r v (inside_left (rw other refl) inside'),
+            ),
+      )
 
   -- a store to a word that matters for no stack
   pub store_then : {A : Type 0} (Q : List Visit → State → State → A → Type 0) (past : List Visit) (before s : State) (word value : ℕ) (f : Unit {0} → Script A) → IsOut word → Stacked arch.number s.book (below_frame (frame_pushed past) arch.ssp) → ((now : State) → Relies arch.number s.book now.book → Claim job arch Q (visit (access.Store word value) 0 [] ∷ past) now now (f tt)) → Claim job arch Q past before s (store word value >>= f)

@@ -42,6 +42,7 @@ pub raises : {image : ImageData} {t k : ℕ} {past : List Visit} {b : Book} {a :
 raises {image = image} {t = t} {b = b} {v = v} {changes = changes} m n page current low high free e ev = record {
   fits = λ words is h ssp held stands note. of_class class.Raise (Raised n ∷ []) ev refl (ap (λ c. class_at c ssp held v) e ∙ is_look page ssp v held low high (none_held b held free note));
   counts = λ words is h. no_count_by (leaves_by e refl refl) (ap birth ev);
+  below = λ words is h j l own q. absurd (free j own);
   keeps = λ words next is h still q.
       let o = own_region t m h current in
       let r : book_after t b (Raised n) ≡ Some next = one_book t b next (Raised n) changes ev q in

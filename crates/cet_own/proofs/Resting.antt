@@ -21,6 +21,8 @@ pub record Inside (t k : ℕ) (d now : Progress) (left : Option ℕ) (b : Book) 
   pub holds : stack_of b k ≡ Some t
   pub level : now ≡ d
   pub settled : left ≡ Some kernel_return
+  -- and no other one
+  pub alone : (j : ℕ) → stack_of b j ≡ Some t → j ≡ k
 
 at_level : {t : ℕ} {d now : Progress} {b : Book} (ssp : ℕ) → now ≡ d → Stacked t b (below_frame d.framed ssp) → Stacked t b (below_frame now.framed ssp)
 at_level {t = t} {b = b} ssp e s = subst (λ (x : Progress). Stacked t b (below_frame x.framed ssp)) (sym e) s
@@ -34,7 +36,7 @@ inside_stacked {ssp = ssp} r = at_level ssp r.level r.stacked
 
 -- after an access elsewhere
 pub inside_left : {t k : ℕ} {d now : Progress} {left left' : Option ℕ} {b : Book} {ssp : ℕ} → left' ≡ left → Inside t k d now left b ssp → Inside t k d now left' b ssp
-inside_left e i = record { stacked = i.stacked; holds = i.holds; level = i.level; settled = e ∙ i.settled }
+inside_left e i = record { stacked = i.stacked; holds = i.holds; level = i.level; settled = e ∙ i.settled; alone = i.alone }
 
 -- at the end of a row without a frame
 pub rested : {t : ℕ} {drawing numbering : Bool} {now : Progress} {b : Book} {ssp : ℕ} → Resting t (record { framed = false; drawing = drawing; numbering = numbering }) now b ssp → AtRest t b ssp
@@ -49,4 +51,4 @@ module _ {t : ℕ} {b later : Book} (r : Relies t b later) where
   rest_kept a = record { stacked = stacked_kept r a.stacked; free = free_kept r a.free; level = a.level }
 
   pub inside_kept : {k : ℕ} {d now : Progress} {left : Option ℕ} {ssp : ℕ} → Inside t k d now left b ssp → Inside t k d now left later ssp
-  inside_kept {k = k} i = record { stacked = stacked_kept r i.stacked; holds = r.held k i.holds; level = i.level; settled = i.settled }
+  inside_kept {k = k} i = record { stacked = stacked_kept r i.stacked; holds = r.held k i.holds; level = i.level; settled = i.settled; alone = λ j e. i.alone j (r.free j e) }

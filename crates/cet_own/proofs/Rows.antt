@@ -36,7 +36,7 @@ use Rattle.cet_own.proofs.Owed.{State, own_stack}
 use Rattle.cet_own.proofs.Classes.{looks}
 use Rattle.cet_own.specs.ExitWord.{IsEnding}
 use Rattle.cet_own.proofs.Endings.{by_signal, by_status}
-use Rattle.cet_own.proofs.Parts.{Fails, Claim, claim_bind, claim_cond, load_then, end_then, clears_claim}
+use Rattle.cet_own.proofs.Parts.{Fails, Claim, claim_bind, claim_cond, load_then, kernel_load_then, end_then, clears_claim}
 use Rattle.cet_own.proofs.GateParts.{gate_in_then, gate_out_then, exit_out_then}
 use Rattle.cet_own.proofs.KernelParts.{Leaves as LeavesOf, Within as WithinBy, failed_claim, serve_claim}
 use Rattle.cet_own.proofs.MapClaims.{map_shadow_stack_claim}
@@ -91,9 +91,6 @@ returns_flow i r = cc
 exit_apart : (k : ℕ) → (exit_word == token_word k - 1) ≡ false
 exit_apart k = let n : exit_word ≢ token_word k - 1 = omega arith in grind (arith, nat_tests)
 
-handler_apart : (signal k : ℕ) → (action_word signal == token_word k - 1) ≡ false
-handler_apart signal k = let n : action_word signal ≢ token_word k - 1 = omega arith in grind (arith, nat_tests)
-
 module _ (job : JobData) (j : IsJob job) (arch : Arch) where
   -- an invalid opcode is at no return
   elsewhere : (d : Decoding) → decoded (instruction_bytes job arch) ≡ d → (IsNearReturn d → ⊥) → IsElsewhere job arch
@@ -145,8 +142,7 @@ module _ (job : JobData) (j : IsJob job) (arch : Arch) where
   unfolding delivery
   delivery_claim past before s signal is within =
       claim_cond job arch Leaves past before s (is_masked arch.mask signal) _ _ (λ _. kill_claim past before s signal is within)
-      (λ _. load_then job arch Leaves past before s (action_word signal) _ (inside_stacked within) (λ now r v.
-      kill_claim _ now now signal is (inside_left (rw (handler_apart signal (own_stack job arch.number)) refl) (inside_kept r within))))
+      (λ _. kernel_load_then job arch Leaves past before s (own_stack job arch.number) (action_word signal) _ (λ z. omega arith) within (λ now r v within'. kill_claim _ now now signal is within'))
 
   -- the kernel's entry round a piece of work
   entered_claim : (past : List Visit) (before s : State) (work : Work) → Resting arch.number untouched (progress past) s.book arch.ssp → ((p : List Visit) (z n : State) → Within p n → Claim job arch Leaves p z n work) → Claim job arch (Ends job arch) past before s (entered job arch work)
@@ -154,7 +150,7 @@ module _ (job : JobData) (j : IsJob job) (arch : Arch) where
   entered_claim past before s work rest h =
       gate_in_then job arch (stack_below job arch.number j) (Ends job arch) past before s (inside arch (own_stack job arch.number) work) rest
       (λ p z n within. claim_bind job arch (Ends job arch) p z n work (leave (own_stack job arch.number)) (h p z n within))
-      (λ p z n found rest'. (rested rest', λ held now. tt, tt))
+      (λ p z n found busy rest'. (rested rest', λ held now. tt, record { stack = own_stack job arch.number; few = stack_below job arch.number j; address = refl; found = busy.0; held = busy.1 }))
 
   -- ---- instructions
 
@@ -184,7 +180,7 @@ module _ (job : JobData) (j : IsJob job) (arch : Arch) where
       noted_claim past before s _ (shadow_stacks_claim job arch (elsewhere _ e (λ r. let t = returns_flow i r in cc)) past before s i (add64 arch.rip len) rest)
   family_claim past before s i len families.SystemCall f made rest e =
       entered_claim past before s (service arch) rest (λ p z n within. service_claim p z n (elsewhere _ e (λ r. let t = returns_flow i r in cc)) made within)
-  family_claim past before s i len families.Unbuilt f made rest e = no_return s _ rest e (λ r. let t = returns_flow i r in cc)
+  family_claim past before s i len families.Supervisor f made rest e = (rested rest, λ r. tt, tt)
 
   missing_claim : (past : List Visit) (before s : State) (at : Option ℕ) (addr : ℕ) → Resting arch.number untouched (progress past) s.book arch.ssp → Claim job arch (Ends job arch) past before s (missing_in at addr)
   missing_claim past before s None addr rest = (rested rest, λ r. tt, tt)
@@ -205,10 +201,10 @@ module _ (job : JobData) (j : IsJob job) (arch : Arch) where
   boundary_claim : (past : List Visit) (before s : State) → IsMade arch.made → Resting arch.number untouched (progress past) s.book arch.ssp → Claim job arch (Ends job arch) past before s (boundary job arch)
   unfolding boundary
   boundary_claim past before s made rest =
-      load_then job arch (Ends job arch) past before s exit_word _ (rest_stacked rest) (λ now r ending.
+      load_then job arch (Ends job arch) past before s exit_word _ rest (λ now r ending.
       let rest1 = rest_kept r rest in
       claim_cond job arch (Ends job arch) _ now now (ending == 0) _ _
-      (λ _. load_then job arch (Ends job arch) _ now now (pend_word arch.number) _ (rest_stacked rest1) (λ now2 r2 v. instruction_claim _ now2 now2 made (rest_kept r2 rest1)))
+      (λ _. load_then job arch (Ends job arch) _ now now (pend_word arch.number) _ rest1 (λ now2 r2 v. instruction_claim _ now2 now2 made (rest_kept r2 rest1)))
       (λ _. (rested rest1, ap (λ (x : Progress). x.drawing) rest1.level, ap (λ (x : Progress). x.numbering) rest1.level)))
 
   from_claim : (past : List Visit) (before s : State) (due : Option Fault) → IsMade arch.made → Resting arch.number untouched (progress past) s.book arch.ssp → Claim job arch (Ends job arch) past before s (row_from job arch due)

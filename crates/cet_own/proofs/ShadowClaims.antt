@@ -40,7 +40,7 @@ use Rattle.cet_page.specs.declared.checks.Who.TheVariants.{User}
 use Rattle.cet_own.specs.Safe.{IsElsewhere}
 use Rattle.cet_own.proofs.Acquired.{takes, misses}
 use Rattle.cet_own.proofs.Calls.{entries_of, EndsRow, own_kept}
-use Rattle.cet_own.proofs.Classes.{loads, looks}
+use Rattle.cet_own.proofs.Classes.{free_loads, looks}
 use Rattle.cet_own.proofs.Looks.{shadow_store_look_then, entries_at}
 use Rattle.cet_own.proofs.TokenWords.{restore_token_is, previous_token_is}
 use Rattle.cet_own.proofs.Owed.{State, state_after, HeadWord, Known, Owed, own_stack}
@@ -124,7 +124,7 @@ module _ (job : JobData) (arch : Arch) (free : IsElsewhere job arch) where
                     (let f = found_after later p there.0 there.1 o rest2 in f.1),
                     (let f = found_after later p there.0 there.1 o rest2 in (f.2, λ held now'. free, (there.0, there.1.parked, there.1.top_is))),
                   )
-              | inr e ↦ rw e.0 (misses (word_in (first_shadow_page + (p - shadow_start) / 4096) p) (restore_token_at p) (previous_token arch.ssp) refl (omega arith) (omega arith) e.1 refl, later, refl, (rested rest2, λ at'. absurd (free at'), λ z k. e.1 (known'.stands p k.0 (p + 9) (top (region later.book (current_of arch.number later.book)) + 3) (record { parked = k.1; top_is = k.2 }) is ∙ sym token)))
+              | inr e ↦ rw e.0 (misses (word_in (first_shadow_page + (p - shadow_start) / 4096) p) (restore_token_at p) (previous_token arch.ssp) refl (omega arith) (omega arith) e.1 rest2.free refl, later, refl, (rested rest2, λ at'. absurd (free at'), λ z k. e.1 (known'.stands p k.0 (p + 9) (top (region later.book (current_of arch.number later.book)) + 3) (record { parked = k.1; top_is = k.2 }) is ∙ sym token)))
             ],
       )))
 
@@ -212,7 +212,7 @@ module _ (job : JobData) (arch : Arch) (free : IsElsewhere job arch) where
             let some' : 1 ≤ length (region later.book (current_of arch.number later.book)).entries = subst (λ (r : Region). 1 ≤ length r.entries) (sym same) some in
             let word_is : word_in (first_shadow_page + (arch.ssp - shadow_start) / 4096) arch.ssp ≡ slot arch.ssp = shadow_slot arch.ssp (omega arith) (omega arith) in
             let head = known'.head has (ap access.Load (word_is ∙ ap slot rest2.stacked.top.at)) in (
-              loads (word_in (first_shadow_page + (arch.ssp - shadow_start) / 4096) arch.ssp) refl refl,
+              free_loads (word_in (first_shadow_page + (arch.ssp - shadow_start) / 4096) arch.ssp) refl rest2.free refl,
               later,
               refl,
               save_by_claim _ later later word next

@@ -1,18 +1,23 @@
 -- The facts of the ownership invariant, from what is carried from turn to turn. Source: own.
-use Rattle.std.proofs.Common.{◌≡◌, ℕ, ◌+◌, ◌-◌, ◌<◌, inl, inr, List, Option, Some, None, sym, ◌∙◌, subst, arith}
-use Rattle.std.specs.Prelude.{◌↔◌, slice_get, bit_or}
+use Rattle.cet_book.proofs.Supervisor.{stack_there}
+use Rattle.cet_own.proofs.Still.{Still}
+use Rattle.cet_own.specs.Past.{left_in}
+use Rattle.cet_page.specs.Trail.{Visit, trail_of}
+use Rattle.cet_words.specs.Layout.{token_word, kernel_return}
+use Rattle.std.proofs.Common.{◌≡◌, ℕ, ◌+◌, ◌-◌, ◌<◌, inl, inr, List, Option, Some, None, sym, ◌∙◌, subst, arith, true, refl}
+use Rattle.std.specs.Prelude.{◌↔◌, slice_get, bit_or, is_some, slice_index}
 use Rattle.std.proofs.lemmas.Bool.Decides.{eqb_tells}
 use Rattle.cet_words.specs.Job.{JobData}
 use Rattle.cet_isa.specs.declared.threads.End.{End}
 use Rattle.cet_isa.specs.declared.threads.End.TheVariants as ending
-use Rattle.cet_book.specs.Book.{Book, region, top}
+use Rattle.cet_book.specs.Book.{Book, region, top, stack_of}
 use Rattle.cet_book.specs.Facts.{Place}
 use Rattle.cet_book.specs.Stack.{slot_word}
 use Rattle.cet_book.proofs.Hand.{Made, made_empty}
 use Rattle.cet_page.specs.Machine.{Machine, Thread}
 use Rattle.cet_page.specs.Within.{CoreAt}
-use Rattle.cet_own.specs.Restores.{IsToken}
-use Rattle.cet_own.specs.Stands.{ShadowPages, AllBounds, Stands}
+use Rattle.cet_own.specs.ToldTokens.{IsToken}
+use Rattle.cet_own.specs.Stands.{ShadowPages, AllBounds, Stands, below_token}
 use Rattle.cet_own.proofs.Holds.{Marks}
 use Rattle.cet_own.proofs.TokenWords.{restore_token_is}
 use Rattle.cet_own.proofs.Owed.{State}
@@ -70,6 +75,15 @@ module _ (job : JobData) (m : Machine) (s : State) (st : Invariant job m s) wher
     fixed = st.holds.pages.fixed;
   }
 
+  -- what stands below the token of a stack that a thread holds
+  below_told : (t k : ℕ) (past : List Visit) → Still m.words t s.book past → stack_of s.book k ≡ Some t → (left : Option ℕ) → left_in past (token_word k - 1) ≡ left → is_some left ≡ true → slice_index m.words (token_word k - 1) ≡ kernel_return
+  below_told t k past still own None e q = cc
+  below_told t k past still own (Some x) e q =
+      let eight = st.holds.sound.book.stacks.eight in
+      let there = stack_there t k s.book own in
+      let few : k < 8 = omega arith in
+      still.word (token_word k - 1) x (below_token k few own refl) e ∙ still.below k x few own e
+
   pub stands_at : Stands job m s.book
   stands_at = record {
     safe = safe_at job m s st;
@@ -78,6 +92,7 @@ module _ (job : JobData) (m : Machine) (s : State) (st : Invariant job m s) wher
     tokens = tokens;
     previous_left = st.holds.sound.book.shape.chain;
     supervisor_tokens = st.holds.gates;
+    below_tokens = λ t thread e k own q. below_told t k (trail_of job thread.core) (st.still t thread e) own (left_in (trail_of job thread.core) (token_word k - 1)) refl q;
     restorers = st.holds.restorers;
     row_steady = λ t thread e. (st.still t thread e).word;
     row_claimed = λ t thread e. (st.still t thread e).claimed;

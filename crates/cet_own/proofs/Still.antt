@@ -1,15 +1,15 @@
 -- What a row has seen of words of its thread's own is still there, whatever the others did since. Source: own.
-use Rattle.std.proofs.Common.{◌⊎◌, ◌≡◌, ◌≢◌, ℕ, ◌+◌, ◌%◌, ◌^◌, ◌<◌, inl, inr, Bool, true, false, List, [], ◌∷◌, length, Some, None, refl, sym, ◌∙◌, ap, subst, arith, get_or-set_other, get_or-set_same}
+use Rattle.std.proofs.Common.{◌⊎◌, ◌≡◌, ◌≢◌, ℕ, ◌+◌, ◌%◌, ◌^◌, ◌<◌, inl, inr, Bool, true, false, List, [], ◌∷◌, length, Some, None, refl, sym, ◌∙◌, ap, subst, arith, get_or-set_other, get_or-set_same, ◌-◌, Option}
 use Rattle.std.specs.Prelude.{◌||◌, nat_lt, slice_index, slice_set, bit_or, bit_and, ◌==◌, if◌then◌else◌}
 use Rattle.std.proofs.lemmas.Bool.Decides.{eqb_tells, nat_tests}
 use Rattle.std.proofs.lemmas.Bool.{false≢true, eqb-true}
-use Rattle.cet_words.specs.Layout.{action_word, word_count}
+use Rattle.cet_words.specs.Layout.{action_word, word_count, token_word, kernel_return}
 use Rattle.cet_words.specs.Access.{answer, after}
 use Rattle.cet_words.specs.Job.{ImageData}
 use Rattle.cet_words.specs.Change.{Change, Acquired, Busied}
 use Rattle.cet_words.specs.declared.accesses.Access.{Access}
 use Rattle.cet_words.specs.declared.accesses.Access.TheVariants as access
-use Rattle.cet_book.specs.Book.{Book, books_after}
+use Rattle.cet_book.specs.Book.{Book, books_after, stack_of}
 use Rattle.cet_book.specs.Shape.{IsBook}
 use Rattle.cet_book.proofs.Kept.{NoneBorn}
 use Rattle.cet_own.proofs.Writes.{in_there}
@@ -25,6 +25,19 @@ pub record Still (words : List ℕ) (t : ℕ) (b : Book) (past : List Visit) : T
   pub restorer : (s : ℕ) → s < 64 → has_restorer past s ≡ true → slice_index words (restorer_word s) ≢ 0
   -- and the stack that it has claimed
   pub claimed : HasClaimed t (claimed_in past) b
+  -- what it read or left below the token of a stack that it holds, since it took it, is the kernel's return address
+  pub below : (k x : ℕ) → k < 8 → stack_of b k ≡ Some t → left_in past (token_word k - 1) ≡ Some x → x ≡ kernel_return
+
+-- an access of thread t reads or leaves the kernel's return address there
+abbrev pub TellsBelow : (t : ℕ) → Book → Access → (v : ℕ) → Type 0
+TellsBelow t b a v = (k : ℕ) → k < 8 → stack_of b k ≡ Some t → touches a (token_word k - 1) ≡ true → leaves_word a v ≡ kernel_return
+
+-- one that goes elsewhere does
+pub tells_below : (t : ℕ) (b : Book) (v : ℕ) {a c : Access} → a ≡ c → ((k : ℕ) → k < 8 → touches c (token_word k - 1) ≡ false) → TellsBelow t b a v
+tells_below t b v e n k l h q = absurd (false≢true (sym (n k l) ∙ sym (ap (λ x. touches x (token_word k - 1)) e) ∙ q))
+
+pub not_below : (word k : ℕ) → word ≢ token_word k - 1 → (word == token_word k - 1) ≡ false
+not_below word k n = grind (arith, nat_tests)
 
 pub word_there : (t : ℕ) (b : Book) (w : ℕ) → OwnWord t b w → w < word_count
 word_there t b w (own_slot addr p o e) = let low = p.low in let high = p.high in omega arith
@@ -32,7 +45,7 @@ word_there t b w (below_token k l h e) = omega arith
 
 -- a row without accesses
 pub still_none : (words : List ℕ) (t : ℕ) (b : Book) → Still words t b []
-still_none words t b = record { word = λ w x o e. cc; restorer = λ s l e. absurd (false≢true e); claimed = tt }
+still_none words t b = record { word = λ w x o e. cc; restorer = λ s l e. absurd (false≢true e); claimed = tt; below = λ k x l h e. cc }
 
 -- ---- what is a thread's own was so before
 
@@ -136,8 +149,18 @@ own_word words t b past a w x false size own h e =
     known_by past w x (leaves_word a (answer words a)) (slice_index (after words a) w) (slice_index words w) (touches a w)
     (left_word a words w (omega arith)) (λ k. h.word w x (own refl) k) e
 
-pub still_own : {image : ImageData} (words : List ℕ) (t : ℕ) (b next : Book) (past : List Visit) (a : Access) (cs : List Change) → length words ≡ word_count → Restorers image words → KeepsRestorers words (after words a) → IsBook b → NoneBorn cs t → books_after t b cs ≡ Some next → Still words t b past → Still (after words a) t next (visit a (answer words a) cs ∷ past)
-still_own words t b next past a cs size signals restorers book none q h = record {
+-- what an access leaves there, by whether it takes a stack and touches the word
+below_by : (left : Option ℕ) (x leaves : ℕ) (taking touching : Bool) → (taking ≡ false → touching ≡ true → leaves ≡ kernel_return) → (taking ≡ false → left ≡ Some x → x ≡ kernel_return) → (if taking then None else (if touching then Some leaves else left)) ≡ Some x → x ≡ kernel_return
+below_by left x leaves true touching own old e = cc
+below_by left x leaves false true own old e = let same : leaves ≡ x = cc in sym same ∙ own refl refl
+below_by left x leaves false false own old e = old refl e
+
+pub still_own : {image : ImageData} (words : List ℕ) (t : ℕ) (b next : Book) (past : List Visit) (a : Access) (cs : List Change) → length words ≡ word_count → Restorers image words → KeepsRestorers words (after words a) → TellsBelow t b a (answer words a) → IsBook b → NoneBorn cs t → books_after t b cs ≡ Some next → Still words t b past → Still (after words a) t next (visit a (answer words a) cs ∷ past)
+still_own words t b next past a cs size signals restorers tells book none q h = record {
+  below = λ k x l own e.
+      let held : takes_any cs ≡ false → stack_of b k ≡ Some t = λ f. (changes_come t t cs b next book q none (nothing_taken t cs f)).holds k own in
+      below_by (left_in past (token_word k - 1)) x (leaves_word a (answer words a)) (takes_any cs) (touches a (token_word k - 1))
+      (λ f g. tells k l (held f) g) (λ f g. h.below k x l (held f) g) e;
   restorer = λ s l e. elim (or_true (shows_restorer a (answer words a) s) (has_restorer past s) e) [
     | inl u ↦ restorer_shown a words s size signals l u
     | inr u ↦ restorers s l (h.restorer s l u)
@@ -152,6 +175,7 @@ still_own words t b next past a cs size signals restorers book none q h = record
 
 pub still_kept : (words : List ℕ) (y : ℕ) (b next : Book) (past : List Visit) (a : Access) → Comes y b next → ((w : ℕ) → OwnWord y b w → slice_index (after words a) w ≡ slice_index words w) → KeepsRestorers words (after words a) → (HasClaimed y (claimed_in past) b → HasClaimed y (claimed_in past) next) → Still words y b past → Still (after words a) y next past
 still_kept words y b next past a c spares restorers claims h = record {
+  below = λ k x l own e. h.below k x l (c.holds k own) e;
   claimed = claims h.claimed;
   restorer = λ s l e. restorers s l (h.restorer s l e);
   word = λ w x own e.

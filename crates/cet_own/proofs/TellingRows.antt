@@ -293,7 +293,7 @@ tells_family job arch i next families.Arithmetic = record { tells = noted_tellin
 tells_family job arch i next families.Flow = record { tells = noted_telling nothing_drawn _ (tells_flow arch i next).tells }
 tells_family job arch i next families.ShadowStacks = record { tells = noted_telling nothing_drawn _ (tells_shadow_stacks arch i next).tells }
 tells_family job arch i next families.SystemCall = tells_syscall job arch
-tells_family job arch i next families.Unbuilt = tells_fault refl
+tells_family job arch i next families.Supervisor = tells_fault refl
 
 tells_missing : (at : Option ℕ) (addr : ℕ) → Tells EndTells nothing_drawn (missing_in at addr)
 tells_missing None addr = tells_fault refl

@@ -16,7 +16,7 @@ use Rattle.cet_page.specs.Machine.{Thread}
 use Rattle.cet_page.specs.declared.finishes.Finish.{Finish}
 use Rattle.cet_page.specs.declared.finishes.Finish.TheVariants.{Noted, Posted, Exited, Stopped}
 use Rattle.cet_own.specs.Safe.{NotedReturns}
-use Rattle.cet_own.specs.Restores.{NotedRestores}
+use Rattle.cet_own.specs.ToldTokens.{NotedTokens}
 use Rattle.cet_page.specs.Trail.{Visit, trail, trail_of}
 use Rattle.cet_own.proofs.Still.{Still, still_none}
 use Rattle.cet_own.proofs.Frame.{SteadyAt, others_at, OnCame}
@@ -89,7 +89,7 @@ recorded_stands job next s false j rest w = record { waits = w; number = refl; b
 abbrev pub left_by : JobData → Arch → Option ℕ → ValsData → Played Finish → Option Core → After
 left_by job arch held seen c child = record { core = core_by job arch held seen c; noted = noted_by arch c; child = child }
 
-pub came_stands : (job : JobData) (core : Core) (held : Option ℕ) (seen : ValsData) (past : List Visit) (before s : State) (child : Option Core) (c : Played Finish) → IsJob job → Left job (unheld core.arch) before s seen → OnCame (rules job core.arch.number) (During (unheld core.arch)) (Ends job (unheld core.arch)) (λ p. Fails job (unheld core.arch)) past before s c → IsCore job (core_by job core.arch held seen c) → CoreStands job core.arch.number s (core_by job core.arch held seen c) (core_by job core.arch held seen c).over × NotedReturns job (entries_of core.arch.number before.book) core (left_by job core.arch held seen c child) (noted_by core.arch c) × NotedRestores before.book s.book (noted_by core.arch c)
+pub came_stands : (job : JobData) (core : Core) (held : Option ℕ) (seen : ValsData) (past : List Visit) (before s : State) (child : Option Core) (c : Played Finish) → IsJob job → Left job (unheld core.arch) before s seen → OnCame (rules job core.arch.number) (During (unheld core.arch)) (Ends job (unheld core.arch)) (λ p. Fails job (unheld core.arch)) past before s c → IsCore job (core_by job core.arch held seen c) → CoreStands job core.arch.number s (core_by job core.arch held seen c) (core_by job core.arch held seen c).over × NotedReturns job (entries_of core.arch.number before.book) core (left_by job core.arch held seen c child) (noted_by core.arch c) × NotedTokens before.book s.book (noted_by core.arch c)
 came_stands job core held seen past before s child (Wants a changes) j l o w = (record { waits = w; number = refl; before = before; left = l }, tt, tt)
 came_stands job core held seen past before s child (Faulted e) j l o w =
     (recorded_stands job (kept_by core.arch held (faulted core.arch e)) s (core.arch.count + 1 == job.limit) j o.0 w, λ r. (o.1 r, refl, refl), o.2)

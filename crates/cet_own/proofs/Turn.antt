@@ -24,7 +24,7 @@ use Rattle.cet_page.proofs.Walk.{over_play}
 use Rattle.cet_page.specs.Within.{IsCore}
 use Rattle.cet_page.proofs.WithinLaws.{taken_is}
 use Rattle.cet_own.specs.Safe.{NotedReturns}
-use Rattle.cet_own.specs.Restores.{NotedRestores}
+use Rattle.cet_own.specs.ToldTokens.{NotedTokens}
 use Rattle.cet_page.specs.Trail.{Visit, visit, row_trail, trail_of}
 use Rattle.cet_own.specs.Past.{claimed_in, draw_word, next_word, drew, is_draw, numbered, is_number}
 use Rattle.cet_own.proofs.ClaimStays.{claim_stays}
@@ -57,7 +57,7 @@ pub record Led (job : JobData) (words : List ℕ) (t : ℕ) (s : State) (core : 
   pub count : (taken job core (answer words a)).core.arch.count ≤ core.arch.count + 1
   pub stands : CoreStands job t next (taken job core (answer words a)).core (taken job core (answer words a)).core.over
   pub returns : NotedReturns job (entries_of t s.book) core (taken job core (answer words a)) (taken job core (answer words a)).noted
-  pub restores : NotedRestores s.book next.book (taken job core (answer words a)).noted
+  pub restores : NotedTokens s.book next.book (taken job core (answer words a)).noted
 
 -- the same where the thread's next access and its changes are known
 pub record LedBy (job : JobData) (words : List ℕ) (s : State) (core : Core) (a : Access) (changes : List Change) (left : After) : Type 0 where
@@ -75,7 +75,7 @@ pub record LedBy (job : JobData) (words : List ℕ) (s : State) (core : Core) (a
   pub count : left.core.arch.count ≤ core.arch.count + 1
   pub stands : CoreStands job core.arch.number next left.core left.core.over
   pub returns : NotedReturns job (entries_of core.arch.number s.book) core left left.noted
-  pub restores : NotedRestores s.book next.book left.noted
+  pub restores : NotedTokens s.book next.book left.noted
 
 -- a thread holds what its access left it
 held_by : (job : JobData) (arch : Arch) (held : Option ℕ) (seen : ValsData) (c : Played Finish) → (core_by job arch held seen c).arch.held ≡ held
@@ -138,7 +138,7 @@ led_wants job j words s core a own few h still held r w is_core =
       others = λ y n none. others_rely core.arch.number y changes s.book g.next.book h.sound.book is n none;
       still = came_still job core.arch holding (vals_by core words a) (come_to job core words a) (after words a) core.arch.number g.next.book
           (subst (Still (after words a) core.arch.number g.next.book) (sym grown)
-          (still_own words core.arch.number s.book g.next.book (trail_of job core) a changes h.size h.restorers (g.owed.restorers words refl h) h.sound.book (own_unborn words refl few counts) is still));
+          (still_own words core.arch.number s.book g.next.book (trail_of job core) a changes h.size h.restorers (g.owed.restorers words refl h) (g.owed.below words refl h) h.sound.book (own_unborn words refl few counts) is still));
       spared = λ y n none past old.
           still_kept words y s.book g.next.book past a
           (changes_come core.arch.number y changes s.book g.next.book h.sound.book is none (other_apart core.arch.number y changes n))

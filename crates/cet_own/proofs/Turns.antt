@@ -1,13 +1,14 @@
 -- One turn keeps the invariant: of the thread that acts, of one that it bears, and of all others. Source: own.
-use Rattle.std.proofs.Common.{[], ◌∷◌, ◌++◌, ◌⊎◌, length-append, ◌≡◌, ◌≢◌, ℕ, ◌<◌, ◌≤◌, inl, inr, List, length, Option, Some, None, refl, sym, ◌∙◌, ap, subst, arith, length-set, get_or-set_same, get_or-set_other}
-use Rattle.std.specs.Prelude.{slice_get, slice_set, slice_index, sum_by, min, ◌+◌, ◌%◌, ◌^◌}
+use Rattle.cet_own.specs.Gates.{ThreadGates}
+use Rattle.std.proofs.Common.{[], ◌∷◌, ◌++◌, ◌⊎◌, length-append, ◌≡◌, ◌≢◌, ℕ, ◌<◌, ◌≤◌, inl, inr, List, length, Option, Some, None, refl, sym, ◌∙◌, ap, subst, arith, length-set, get_or-set_same, get_or-set_other, true}
+use Rattle.std.specs.Prelude.{slice_get, slice_set, slice_index, sum_by, min, ◌+◌, ◌%◌, ◌^◌, ◌-◌, ◌==◌}
 use Rattle.std.proofs.lemmas.List.{get_or_append_left}
 use Rattle.std.proofs.lemmas.List.Sums.{sum_by-append}
 use Rattle.std.proofs.Math.Seq.{get_or-append_seam}
 use Rattle.std.proofs.lemmas.Bool.{cases_lt}
-use Rattle.std.proofs.lemmas.Bool.Decides.{eqb_tells}
+use Rattle.std.proofs.lemmas.Bool.Decides.{eqb_tells, nat_tests}
 use Rattle.std.proofs.lemmas.Option.{slice_get_past, slice_get_within, slice_get-get_or}
-use Rattle.cet_words.specs.Layout.{word_count}
+use Rattle.cet_words.specs.Layout.{word_count, token_word, kernel_return}
 use Rattle.cet_words.specs.Access.{answer, after}
 use Rattle.cet_words.specs.Job.{JobData, IsJob}
 use Rattle.cet_words.specs.declared.accesses.Access.{Access}
@@ -32,9 +33,9 @@ use Rattle.cet_page.specs.Within.{Waits}
 use Rattle.cet_page.proofs.ChildLaws.{ChildAt, child_at, child_taken}
 use Rattle.cet_own.specs.Event.{access_changes, thread_changes}
 use Rattle.cet_own.specs.Safe.{AccessReturns, ThreadReturns, KeepsStack, HasStack, IsSafeAt}
-use Rattle.cet_own.specs.Restores.{AccessRestores, ThreadRestores}
+use Rattle.cet_own.specs.ToldTokens.{AccessTokens, ThreadTokens}
 use Rattle.cet_page.specs.Trail.{trail_of, Visit}
-use Rattle.cet_own.specs.Past.{below_frame, frame_pushed, draw_word, next_word, in_force}
+use Rattle.cet_own.specs.Past.{below_frame, frame_pushed, draw_word, next_word, in_force, touches, leaves_word}
 use Rattle.cet_own.proofs.Still.{Still, still_none}
 use Rattle.cet_own.proofs.Frame.{during_at}
 use Rattle.cet_own.proofs.Holds.{Holds}
@@ -124,13 +125,19 @@ safe_at job m s st =
 
 -- ---- one turn
 
+-- the load of the word below the token of a stack that thread t holds finds the kernel's return address
+abbrev pub ReadsBelow : (t : ℕ) → Book → List ℕ → Option Access → Type 0
+ReadsBelow t b words None = Unit {0}
+ReadsBelow t b words (Some a) = (k : ℕ) → k < 8 → stack_of b k ≡ Some t → a ≡ access.Load (token_word k - 1) → answer words a ≡ kernel_return
+
 -- what a turn of thread t leads to, by whether it is born
 pub record Turned (job : JobData) (m : Machine) (t : ℕ) (s : State) (o : Option Thread) : Type 0 where
   pub next : State
   pub is : books_after t s.book (thread_changes job m o) ≡ Some next.book
   pub stands : Invariant job (step_by job m t o) next
   pub returns : ThreadReturns job m s.book t o
-  pub restores : ThreadRestores job m s.book next.book o
+  pub restores : ThreadTokens job m s.book next.book o
+  pub gates : ThreadGates job m s.book o
 
 -- and by its next access
 pub record TurnedBy (job : JobData) (m : Machine) (t : ℕ) (s : State) (thread : Thread) (a : Option Access) : Type 0 where
@@ -138,10 +145,11 @@ pub record TurnedBy (job : JobData) (m : Machine) (t : ℕ) (s : State) (thread 
   pub is : books_after t s.book (access_changes job m thread a) ≡ Some next.book
   pub stands : Invariant job (act job m t thread a) next
   pub returns : AccessReturns job m thread (entries_of t s.book) a
-  pub restores : AccessRestores job m thread s.book next.book a
+  pub restores : AccessTokens job m thread s.book next.book a
+  pub reads : ReadsBelow t s.book m.words a
 
 pub stays : (job : JobData) (m : Machine) (t : ℕ) (s : State) (thread : Thread) → Invariant job m s → TurnedBy job m t s thread None
-stays job m t s thread st = record { next = s; is = refl; stands = st; returns = tt; restores = tt }
+stays job m t s thread st = record { next = s; is = refl; stands = st; returns = tt; restores = tt; reads = tt }
 
 get_other : (threads : List Thread) (t y : ℕ) (x : Thread) → y ≢ t → slice_get (slice_set threads t x) y ≡ slice_get threads y
 get_other threads t y x n = elim (cases_lt y (length threads)) [
@@ -346,4 +354,7 @@ module _ (job : JobData) (j : IsJob job) (m : Machine) (t : ℕ) (s : State) (th
         stands = subst (λ o. Invariant job (machine (after m.words a) (with_child (slice_set m.threads t moved) o)) d.next) (sym bore) (stands_after (with_child (slice_set m.threads t moved) (child_of thread.core.arch changes_now)) d r.waits.count p);
         returns = d.returns;
         restores = d.restores;
+        reads = λ k l own e'.
+            let touching : touches a (token_word k - 1) ≡ true = (let same : (token_word k - 1 == token_word k - 1) ≡ true = grind (arith, nat_tests) in ap (λ c. touches c (token_word k - 1)) e' ∙ same) in
+            sym (ap (λ c. leaves_word c (answer m.words a)) e') ∙ d.owed.below m.words refl st.holds k l own touching;
       }

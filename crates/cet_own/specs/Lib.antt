@@ -3,7 +3,8 @@ pub mod Event
 pub mod Along
 pub mod ExitWord
 pub mod Safe
-pub mod Restores
+pub mod ToldTokens
+pub mod Gates
 pub mod Stands
 pub mod Told
 pub mod Class

@@ -1,10 +1,10 @@
 -- The ownership invariant: what holds of words, threads and book at each moment of each run. It is the only definition that
 -- has both words and lists. Source: own.
-use Rattle.std.specs.Prelude.{◌≡◌, ◌≢◌, ℕ, ◌+◌, ◌-◌, ◌*◌, ◌<◌, ◌≤◌, ◌⊎◌, ◌↔◌, true, List, [], length, slice_index, slice_get, sum_by, min, bit_or, if◌then◌else◌, Option, Some, None}
+use Rattle.std.specs.Prelude.{◌≡◌, ◌≢◌, ℕ, ◌+◌, ◌-◌, ◌*◌, ◌<◌, ◌≤◌, ◌⊎◌, ◌↔◌, true, List, [], length, slice_index, slice_get, sum_by, min, bit_or, if◌then◌else◌, Option, Some, None, is_some}
 use Rattle.cet_words.specs.Entries.{entry_of}
 use Rattle.cet_words.specs.Bytes.{code_byte}
 use Rattle.cet_words.specs.Job.{JobData, ImageData}
-use Rattle.cet_words.specs.Layout.{entry_word, token, token_word, action_word, first_kernel_page, first_mmap_page, first_shadow_page, page_count, shadow_start, thread_limit, thread_region_size}
+use Rattle.cet_words.specs.Layout.{entry_word, token, token_word, action_word, first_kernel_page, first_mmap_page, first_shadow_page, page_count, shadow_start, thread_limit, thread_region_size, kernel_return}
 use Rattle.cet_book.specs.declared.entries.Holder.TheVariants.{Lost, Maker}
 use Rattle.cet_book.specs.Book.{Book, region, top, stack_of}
 use Rattle.cet_book.specs.Facts.{Bounds, In, Place, LiesIn, Owns, Stack, is_left, one, links, Returns}
@@ -14,7 +14,7 @@ use Rattle.cet_page.specs.Machine.{Machine, Thread}
 use Rattle.cet_page.specs.Trail.{trail_of}
 use Rattle.cet_page.specs.Within.{IsCore}
 use Rattle.cet_own.specs.Past.{left_in, restorer_word, has_restorer, draw_word, next_word, drew, numbered, NewStack, claimed_in}
-use Rattle.cet_own.specs.Restores.{IsToken}
+use Rattle.cet_own.specs.ToldTokens.{IsToken}
 use Rattle.cet_own.specs.Safe.{IsSafeAt}
 
 -- ---- pages and tokens
@@ -134,6 +134,8 @@ pub record Stands (job : JobData) (m : Machine) (b : Book) : Type 0 where
   pub previous_left : (q s : ℕ) → links s (region b q).entries ≡ one (is_left q (region b s).holder)
   -- a supervisor stack's token is busy where the stack has a holder
   pub supervisor_tokens : (k : ℕ) → k < 8 → slice_index m.words (token_word k) ≡ token k + busy (stack_of b k)
+  -- and below the token of a stack that a thread holds stands the kernel's return address, from its store there on
+  pub below_tokens : (t : ℕ) (thread : Thread) → slice_get m.threads t ≡ Some thread → (k : ℕ) → stack_of b k ≡ Some t → is_some (left_in (trail_of job thread.core) (token_word k - 1)) ≡ true → slice_index m.words (token_word k - 1) ≡ kernel_return
   pub restorers : Restorers job.image m.words
   -- what a row has read or written in a word of its thread's own is still there
   pub row_steady : (t : ℕ) (thread : Thread) → slice_get m.threads t ≡ Some thread → (word x : ℕ) → OwnWord t b word → left_in (trail_of job thread.core) word ≡ Some x → slice_index m.words word ≡ x

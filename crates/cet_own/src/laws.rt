@@ -6,7 +6,7 @@ ghost use Rattle.cet_book.specs.Book.{first_book};
 ghost use Rattle.cet_page.specs.Machine.{Machine, Starts, run};
 ghost use Rattle.cet_own.specs.Along.{Along};
 ghost use Rattle.cet_own.specs.ExitWord.{EndsRight};
-ghost use Rattle.cet_own.specs.Restores.{TurnRestores};
+ghost use Rattle.cet_own.specs.Gates.{TurnTells};
 ghost use Rattle.cet_own.specs.Safe.{Safe};
 ghost use Rattle.cet_own.specs.Stands.{Stands};
 
@@ -21,7 +21,7 @@ pub fn every_run_is_safe()
 /// At each moment of every run of every job the ownership invariant holds of the words, the threads
 /// and the book; and no record tells of a restore token that didn't stand, or of one missed that did.
 pub fn every_run_stands()
-    ensures { (job : JobData) (start : Machine) (turns : List ℕ) → IsJob job → Starts job start → Along (Stands job) (TurnRestores job) job start first_book turns }
+    ensures { (job : JobData) (start : Machine) (turns : List ℕ) → IsJob job → Starts job start → Along (Stands job) (TurnTells job) job start first_book turns }
 {}
 
 /// After every run of every job, whatever thread had which turn, the word EXIT is 0, 256 and an exit

@@ -12,7 +12,7 @@ use Rattle.cet_book.specs.declared.regions.StackReport.{StackReport}
 use Rattle.cet_page.specs.Machine.{Machine, Thread, Starts, machine, run}
 use Rattle.cet_own.specs.Along.{Along}
 use Rattle.cet_own.specs.ExitWord.{EndsRight, IsExitWord}
-use Rattle.cet_own.specs.Restores.{TurnRestores}
+use Rattle.cet_own.specs.Gates.{TurnTells}
 use Rattle.cet_own.specs.Safe.{Safe}
 use Rattle.cet_own.specs.Stands.{Stands}
 use Rattle.cet_own.specs.Told.{told_spans}
@@ -57,7 +57,7 @@ pub record Laws (job : JobData) (start : Machine) : Type 0 where
   pub starts : Starts job start
   pub last : (turns : List ℕ) → AllEnded (run job start turns).threads → LastCovered job start turns
   pub safe : (turns : List ℕ) → Safe job start first_book turns
-  pub stands : (turns : List ℕ) → Along (Stands job) (TurnRestores job) job start first_book turns
+  pub stands : (turns : List ℕ) → Along (Stands job) (TurnTells job) job start first_book turns
   pub exit : (turns : List ℕ) → EndsRight (run job start turns)
 
 module _ {job : JobData} {start : Machine} (words : List ℕ) (threads : List Thread) (laws : Laws job start) (r : Robined job start (machine words threads)) where

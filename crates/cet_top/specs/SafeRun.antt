@@ -7,7 +7,7 @@ use Rattle.cet_page.specs.Machine.{Machine, Starts, run}
 use Rattle.cet_own.specs.Along.{Along}
 use Rattle.cet_own.specs.Event.{book_of}
 use Rattle.cet_own.specs.ExitWord.{EndsRight}
-use Rattle.cet_own.specs.Restores.{TurnRestores}
+use Rattle.cet_own.specs.Gates.{TurnTells}
 use Rattle.cet_own.specs.Safe.{Safe}
 use Rattle.cet_own.specs.Stands.{Stands}
 use Rattle.cet_top.specs.Outcome.{thread_out, process_end}
@@ -37,5 +37,5 @@ pub record SafeRun (job : JobData) (Schedule : Machine → List ℕ → Type 0) 
   pub legal : book_of job start turns ≡ Some book
   pub is : outcome ≡ outcome_of (run job start turns) book
   pub safe : Safe job start first_book turns
-  pub stands : Along (Stands job) (TurnRestores job) job start first_book turns
+  pub stands : Along (Stands job) (TurnTells job) job start first_book turns
   pub exit : EndsRight (run job start turns)
