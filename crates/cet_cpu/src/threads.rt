@@ -186,7 +186,7 @@ impl Cpu {
     }
 
     /// Takes the answer to the thread's next access.
-    #[tactic(auto, using(cet_page::proofs::WithinLaws::room, cet_page::proofs::WithinLaws::taken_at, cet_page::proofs::FaultLaws::faults_of, cet_page::proofs::RestoreLaws::restores_of, cet_page::proofs::EnterLaws::enters_of))]
+    #[tactic(auto, using(cet_page::proofs::WithinLaws::room, cet_page::proofs::WithinLaws::taken_at, cet_page::proofs::FaultLaws::faults_of, cet_page::proofs::RestoreLaws::restores_of))]
     pub fn take(&mut self, job: &Job, answer: u64) -> Taken
         requires state { IsCpu job.now self.old }
         requires going { self.old.core.over ≡ None }
