@@ -1,6 +1,6 @@
 //! Instructions by their bytes, as GNU as assembles them or as the manual has them.
 
-use super::maps::PREFIXED;
+use super::maps::{PREFIXED, PREFIXED_TWO_BYTE};
 use super::{Decoded, decode};
 use cet_isa::{Base, Instr, Mem, Operand, Reg, Size};
 
@@ -118,8 +118,9 @@ fn addressing(rt: HostRuntime) {
 }
 
 #[test]
-fn prefixes_have_one_list_each(rt: HostRuntime) {
+fn opcodes_have_one_list_each(rt: HostRuntime) {
     assert!(rt; PREFIXED.disjoint());
+    assert!(rt; PREFIXED_TWO_BYTE.disjoint());
 }
 
 fn is_sent<T: Send>() {}
