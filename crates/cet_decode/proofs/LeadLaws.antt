@@ -215,11 +215,11 @@ abbrev from_opcode : table.Form → (rex : ℕ) → ℕ × List ℕ → Result (
 from_opcode f rex x = byte_at f.modrm x.1 >>= from_modrm f rex x.0
 
 same_fields : (f : table.Form) (first rex cell second : ℕ) (opcode : Result (ℕ × List ℕ) Miss) → (all_cells first rex cell second f.modrm opcode >>= from_cells f) ≡ (opcode >>= from_opcode f rex)
+unfolding operand_at
 same_fields f first rex cell second (Err m) = refl
 same_fields f first rex cell second (Ok x) = at_modrm (byte_at f.modrm x.1)
   where
     at_modrm : (modrm : Result (ℕ × List ℕ) Miss) → (after_cell first (after_cell 0 (after_cell 0 (after_cell rex (after_cell cell (after_cell second (after_cell x.0 (modrm >>= (λ y. pair (y.0 ∷ []) y.1)))))))) >>= from_cells f) ≡ (modrm >>= from_modrm f rex x.0)
-    unfolding operand_at
     at_modrm (Ok y) = refl
     at_modrm (Err m) = refl
 
