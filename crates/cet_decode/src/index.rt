@@ -105,14 +105,14 @@ fn key_of(prefix: u8, opcode: u8) -> u16
 
 /// The row that takes what stands behind a prefix, REX and 0f, by the prefix and the opcode.
 #[inline(never)]
-fn row_prefixed<'r>(rows: &'r [Form], prefix: u8, lead: &Lead<'_>) -> Option<&'r Form>
-    ensures { option_copied result ≡ chosen rows.now (prefixed_by lead.now.escaped PREFIXED.rows PREFIXED_TWO_BYTE.rows PICKS (key_of prefix lead.now.opcode)) lead.now.rex lead.now.rest.now }
+fn row_prefixed<'r>(rows: &'r [Form], prefix: u8, lead: Lead<'_>) -> Option<&'r Form>
+    ensures { option_copied result ≡ chosen rows.now (prefixed_by lead.entry.escaped PREFIXED.rows PREFIXED_TWO_BYTE.rows PICKS (key_of prefix lead.entry.opcode)) lead.entry.rex lead.entry.rest.now }
 {
     let key = key_of(prefix, lead.opcode);
     if lead.escaped {
-        row_valued(rows, PREFIXED_TWO_BYTE.find(key), &PICKS, lead)
+        row_valued(rows, PREFIXED_TWO_BYTE.find(key), &PICKS, &lead)
     } else {
-        row_valued(rows, PREFIXED.find(key), &PICKS, lead)
+        row_valued(rows, PREFIXED.find(key), &PICKS, &lead)
     }
 }
 
@@ -122,7 +122,7 @@ pub fn row_of<'r>(rows: &'r [Form], lead: &Lead<'_>) -> Option<&'r Form>
     ensures { option_copied result ≡ chosen rows.now (numbers_by lead.now.prefix lead.now.escaped lead.now.opcode) lead.now.rex lead.now.rest.now }
 {
     match lead.prefix {
-        Some(prefix) => row_prefixed(rows, prefix, lead),
+        Some(prefix) => row_prefixed(rows, prefix, *lead),
         None => row_plain(rows, lead),
     }
 }

@@ -8,7 +8,7 @@ ghost use Rattle.cet_isa.specs.Reading.{byte_at, cells_at, bytes_at, operand_at,
 ghost use Rattle.cet_decode.specs.Views.{pattern_view, place_view, wide_view, rex_view, imm_view, kind_view, form_view, fields_view, Gives};
 ghost use Rattle.cet_decode.specs.Lead.{rex_at, operand_behind, opcode_from, row_behind, next_of, takes_next, takes};
 
-use crate::addressing::{disp_count, operand, sib_count};
+use crate::addressing::{disp_count, operand, operand_at_zero, sib_count};
 use crate::fields::{Parts, byte, signed};
 use crate::forms::{FORMS, Form, Imm, Pattern, Rex, Wide};
 use crate::meaning::instr;
@@ -98,9 +98,9 @@ fn bytes_of(count: usize, bytes: &[u8]) -> Result<(&[u8], &[u8]), Miss>
 fn operand_behind(rex: u8, modrm: u8, bytes: &[u8]) -> Result<(Operand, &[u8]), Miss>
     ensures { Gives (λ x. (x.0, x.1.now)) result (operand_behind rex modrm bytes.now) }
 {
-    // Neither SIB nor displacement follows. A row without ModRM counts as one with ModRM 0.
+    // Neither SIB nor displacement follows.
     if modrm == 0 {
-        return Ok((operand(rex, 0, 0, 0), bytes));
+        return Ok((operand_at_zero(rex), bytes));
     }
     let (sib, rest) = bytes_of(sib_count(modrm), bytes)?;
     let sib = byte(sib, 0);
