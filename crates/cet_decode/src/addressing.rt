@@ -82,8 +82,9 @@ fn mem(rex: u8, modrm: u8, sib: u8, disp: i32) -> Mem
 pub fn operand_at_zero(rex: u8) -> Operand
     ensures { result ≡ operand_of rex 0 0 (pos 0) }
 {
+    let base = if rex % 2 == 1 { Reg::R8 } else { Reg::Rax };
     Operand::Mem(Mem {
-        base: Base::Reg(Reg::of(8 * (rex % 2))),
+        base: Base::Reg(base),
         index: None,
         scale: 1,
         disp: 0,
