@@ -3,7 +3,7 @@
 //! The way of most instructions ends at the row, which is small: an instruction that is handed on is copied each time,
 //! which would cost more than the decoding itself.
 
-ghost use Rattle.std.specs.Prelude.{◌≡◌, slice_get};
+ghost use Rattle.std.specs.Prelude.{◌≡◌, Some, slice_get};
 ghost use Rattle.std.specs.Option.{option_copied};
 ghost use Rattle.cet_isa.specs.Forms.{forms};
 ghost use Rattle.cet_isa.specs.Reading.{any_at};
@@ -49,6 +49,22 @@ fn choose<'r>(rows: &'r [Form], numbers: &[u8], rex: u8, bytes: &[u8]) -> Option
     None
 }
 
+/// The row by the list with this number.
+#[inline(always)]
+fn row_listed<'r>(
+    rows: &'r [Form],
+    picks: &[[u8; 5]],
+    list: usize,
+    lead: &Lead<'_>,
+) -> Option<&'r Form>
+    ensures { option_copied result ≡ chosen rows.now (picks_by (Some list) picks.now) lead.now.rex lead.now.rest.now }
+{
+    match picks.get(list) {
+        Some(numbers) => choose(rows, numbers, lead.rex, lead.rest),
+        None => choose(rows, &[], lead.rex, lead.rest),
+    }
+}
+
 #[inline(always)]
 fn row_mapped<'r>(
     rows: &'r [Form],
@@ -58,11 +74,8 @@ fn row_mapped<'r>(
 ) -> Option<&'r Form>
     ensures { option_copied result ≡ chosen rows.now (mapped map.now picks.now lead.now.opcode) lead.now.rex lead.now.rest.now }
 {
-    let Some(value) = map.get(usize::from(lead.opcode)) else {
-        return choose(rows, &[], lead.rex, lead.rest);
-    };
-    match picks.get(usize::from(*value)) {
-        Some(numbers) => choose(rows, numbers, lead.rex, lead.rest),
+    match map.get(usize::from(lead.opcode)) {
+        Some(list) => row_listed(rows, picks, usize::from(*list), lead),
         None => choose(rows, &[], lead.rex, lead.rest),
     }
 }
@@ -79,19 +92,16 @@ fn row_plain<'r>(rows: &'r [Form], lead: &Lead<'_>) -> Option<&'r Form>
     }
 }
 
-fn row_valued<'r>(
+fn row_found<'r>(
     rows: &'r [Form],
-    value: Option<u16>,
     picks: &[[u8; 5]],
+    list: Option<u16>,
     lead: &Lead<'_>,
 ) -> Option<&'r Form>
-    ensures { option_copied result ≡ chosen rows.now (picks_by value picks.now) lead.now.rex lead.now.rest.now }
+    ensures { option_copied result ≡ chosen rows.now (picks_by list picks.now) lead.now.rex lead.now.rest.now }
 {
-    let Some(value) = value else {
-        return choose(rows, &[], lead.rex, lead.rest);
-    };
-    match picks.get(usize::from(value)) {
-        Some(numbers) => choose(rows, numbers, lead.rex, lead.rest),
+    match list {
+        Some(list) => row_listed(rows, picks, usize::from(list), lead),
         None => choose(rows, &[], lead.rex, lead.rest),
     }
 }
@@ -103,16 +113,17 @@ fn key_of(prefix: u8, opcode: u8) -> u16
     u16::from(prefix) * 0x100 + u16::from(opcode)
 }
 
-/// The row that takes what stands behind a prefix, REX and 0f, by the prefix and the opcode.
+/// The row that takes what stands behind a prefix, REX and 0f, by the prefix and the opcode. It stands apart in the
+/// program, since few instructions have a prefix.
 #[inline(never)]
 fn row_prefixed<'r>(rows: &'r [Form], prefix: u8, lead: Lead<'_>) -> Option<&'r Form>
     ensures { option_copied result ≡ chosen rows.now (prefixed_by lead.entry.escaped PREFIXED.rows PREFIXED_TWO_BYTE.rows PICKS (key_of prefix lead.entry.opcode)) lead.entry.rex lead.entry.rest.now }
 {
     let key = key_of(prefix, lead.opcode);
     if lead.escaped {
-        row_valued(rows, PREFIXED_TWO_BYTE.find(key), &PICKS, &lead)
+        row_found(rows, &PICKS, PREFIXED_TWO_BYTE.find(key), &lead)
     } else {
-        row_valued(rows, PREFIXED.find(key), &PICKS, &lead)
+        row_found(rows, &PICKS, PREFIXED.find(key), &lead)
     }
 }
 

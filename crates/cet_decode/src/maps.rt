@@ -109,7 +109,11 @@ macro_rules! at {
 /// The opcodes of one byte behind a prefix: for the prefix and the opcode, as 0xf390 for F3 90, the number
 /// of their list in `PICKS`. Those that no row has are missing.
 pub const PREFIXED: Rows<3> = Rows {
-    rows: [at!(0x3eff => 0x2b), at!(0x6690 => 0x2c), at!(0xf390 => 0x31)],
+    rows: [
+        at!(0x3eff => 0x2b),
+        at!(0x6690 => 0x2c),
+        at!(0xf390 => 0x31),
+    ],
 };
 
 /// The opcodes behind a prefix and 0f, in the same way, as 0xf3ae for F3 0F AE.
