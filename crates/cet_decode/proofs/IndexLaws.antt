@@ -1,7 +1,7 @@
 -- The maps and tables name for each opcode, behind a prefix or none, the rows that may begin so.
 use Rattle.std.proofs.Common.{◌≡◌, ℕ, ◌/◌, ◌<◌, Bool, true, false, ◌&&◌, ◌||◌, cond, eqb, List, [], ◌∷◌, Option, Some, None, Ok, Err, refl, sym, ap, subst, ◌∙◌, arith, inl, inr}
 use Rattle.std.proofs.lemmas.Bool.{agree_below, agree_below_at, and_parts, or_cases, eq-eqb, eqb-true}
-use Rattle.cet_isa.specs.Form.{Pattern, Rex, NoRex, ClearRex, SetRex, byte}
+use Rattle.cet_isa.specs.Form.{Pattern, NoRex, ClearRex, SetRex, byte}
 use Rattle.cet_isa.specs.Forms.{forms}
 use Rattle.cet_isa.specs.Spells.{has}
 use Rattle.cet_isa.specs.Reader.{Differs, IsBytes}
