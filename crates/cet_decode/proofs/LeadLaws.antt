@@ -14,7 +14,7 @@ use Rattle.cet_isa.proofs.Apart.{run, clash, clash_apart, or_else-assoc}
 use Rattle.cet_decode.specs.declared.forms.Form.{Form}
 use Rattle.cet_decode.specs.Views.{form_view}
 use Rattle.cet_decode.specs.Index.{maybe_row_at, some_at}
-use Rattle.cet_decode.specs.Lead.{rex_at, operand_behind, fields_of, row_behind, takes_modrm, takes, form_if, taker, or_later, chosen}
+use Rattle.cet_decode.specs.Lead.{rex_at, operand_behind, fields_of, opcode_from, row_behind, next_of, takes_next, takes, form_if, taker, or_later, chosen}
 use Rattle.cet_decode.proofs.Narrowing.{blocked_by, form_blocked, or_differs}
 
 -- ---- what the laws speak of
@@ -69,6 +69,15 @@ abbrev pub escaped_by : Bool → List ℕ → List ℕ
 escaped_by false bytes = bytes
 escaped_by true bytes = 0x0f ∷ bytes
 
+-- a prefix before the bytes, or none
+abbrev pub prefixed : Option ℕ → List ℕ → List ℕ
+prefixed None bytes = bytes
+prefixed (Some prefix) bytes = prefix ∷ bytes
+
+-- the bytes of an opcode with all that stands before it
+abbrev pub opened : Option ℕ → Rex → Bool → (rex opcode : ℕ) → List ℕ → List ℕ
+opened prefix kind escaped rex opcode bytes = prefixed prefix (rexed kind rex (escaped_by escaped (opcode ∷ bytes)))
+
 -- the byte is a REX of this kind; 0 stands for none
 abbrev pub RexIs : Rex → ℕ → Type 0
 RexIs NoRex rex = rex ≡ 0
@@ -111,6 +120,11 @@ is_escape false o = is_empty o
 is_escape true None = false
 is_escape true (Some p) = has p 0x0f
 
+abbrev is_first : Option ℕ → Option Pattern → Bool
+is_first None o = is_empty o
+is_first (Some prefix) None = false
+is_first (Some prefix) (Some p) = has p prefix
+
 empty_byte : (o : Option Pattern) (bytes : List ℕ) → is_empty o ≡ true → byte_at o bytes ≡ pair 0 bytes
 unfolding byte_at
 empty_byte None bytes e = refl
@@ -130,6 +144,11 @@ escape_byte false o bytes e = (0, empty_byte o bytes e)
 escape_byte true None bytes e = absurd cc
 escape_byte true (Some p) bytes e = (0x0f, full_byte p 0x0f bytes e)
 
+first_byte : (prefix : Option ℕ) (o : Option Pattern) (bytes : List ℕ) → is_first prefix o ≡ true → (cell : ℕ) × (byte_at o (prefixed prefix bytes) ≡ pair cell bytes)
+first_byte None o bytes e = (0, empty_byte o bytes e)
+first_byte (Some prefix) None bytes e = absurd cc
+first_byte (Some prefix) (Some p) bytes e = (prefix, full_byte p prefix bytes e)
+
 -- a cell before the cells that were read
 abbrev after_cell : ℕ → Result (List ℕ × List ℕ) Miss → Result (List ℕ × List ℕ) Miss
 after_cell cell r = r >>= (λ x. pair (cell ∷ x.0) x.1)
@@ -138,29 +157,47 @@ cells_step : (o : Option Pattern) (os : List (Option Pattern)) (cell : ℕ) (byt
 unfolding cells_at
 cells_step o os cell bytes rest e = ap (λ (r : Result (ℕ × List ℕ) Miss). r >>= (λ x. cells_at os x.1 >>= (λ y. pair (x.0 ∷ y.0) y.1))) e
 
-last_cell : (o : Option Pattern) (bytes : List ℕ) → cells_at (o ∷ []) bytes ≡ (byte_at o bytes >>= (λ x. pair (x.0 ∷ []) x.1))
+-- the cells of the opcode and of ModRM, once the opcode was read
+abbrev last_cells : Option Pattern → Result (ℕ × List ℕ) Miss → Result (List ℕ × List ℕ) Miss
+last_cells m opcode = opcode >>= (λ x. after_cell x.0 (byte_at m x.1 >>= (λ y. pair (y.0 ∷ []) y.1)))
+
+last_places : (op : Pattern) (m : Option Pattern) (bytes : List ℕ) → cells_at (Some op ∷ m ∷ []) bytes ≡ last_cells m (byte_at (Some op) bytes)
 unfolding cells_at
-last_cell o bytes = refl
+last_places op m bytes = refl
 
-abbrev all_cells : (rex escape opcode : ℕ) → Result (ℕ × List ℕ) Miss → Result (List ℕ × List ℕ) Miss
-all_cells rex escape opcode modrm =
-    after_cell 0 (after_cell 0 (after_cell 0 (after_cell rex (after_cell escape (after_cell 0 (after_cell opcode (modrm >>= (λ x. pair (x.0 ∷ []) x.1))))))))
+-- the byte by which a row is found is its opcode, or the second byte before it
+abbrev pub opens : (escape2 : Option Pattern) → Pattern → ℕ → Bool
+opens None opcode found = has opcode found
+opens (Some p) opcode found = has p found
 
-cells_behind : (a b d rx e g : Option Pattern) (op : Pattern) (m : Option Pattern) (rex cell opcode : ℕ) (whole behind bytes : List ℕ) → is_empty a ≡ true → is_empty b ≡ true → is_empty d ≡ true → byte_at rx whole ≡ pair rex behind → byte_at e behind ≡ pair cell (opcode ∷ bytes) → is_empty g ≡ true → has op opcode ≡ true → cells_at (a ∷ b ∷ d ∷ rx ∷ e ∷ g ∷ Some op ∷ m ∷ []) whole ≡ all_cells rex cell opcode (byte_at m bytes)
-cells_behind a b d rx e g op m rex cell opcode whole behind bytes ha hb hd hr he hg ho =
-    let at_opcode = cells_step (Some op) (m ∷ []) opcode (opcode ∷ bytes) bytes (full_byte op opcode bytes ho) ∙ ap (after_cell opcode) (last_cell m bytes) in
-    let at_second = cells_step g (Some op ∷ m ∷ []) 0 (opcode ∷ bytes) (opcode ∷ bytes) (empty_byte g (opcode ∷ bytes) hg) ∙ ap (after_cell 0) at_opcode in
-    let at_escape = cells_step e (g ∷ Some op ∷ m ∷ []) cell behind (opcode ∷ bytes) he ∙ ap (after_cell cell) at_second in
-    let at_rex = cells_step rx (e ∷ g ∷ Some op ∷ m ∷ []) rex whole behind hr ∙ ap (after_cell rex) at_escape in
-    let at_third = cells_step d (rx ∷ e ∷ g ∷ Some op ∷ m ∷ []) 0 whole whole (empty_byte d whole hd) ∙ ap (after_cell 0) at_rex in
-    let at_next = cells_step b (d ∷ rx ∷ e ∷ g ∷ Some op ∷ m ∷ []) 0 whole whole (empty_byte b whole hb) ∙ ap (after_cell 0) at_third in
-    cells_step a (b ∷ d ∷ rx ∷ e ∷ g ∷ Some op ∷ m ∷ []) 0 whole whole (empty_byte a whole ha) ∙ ap (after_cell 0) at_next
+abbrev second_cell : Option Pattern → ℕ → ℕ
+second_cell None found = 0
+second_cell (Some p) found = found
+
+cells_found : (g : Option Pattern) (op : Pattern) (m : Option Pattern) (found : ℕ) (bytes : List ℕ) → opens g op found ≡ true → cells_at (g ∷ Some op ∷ m ∷ []) (found ∷ bytes) ≡ after_cell (second_cell g found) (last_cells m (opcode_from g op found bytes))
+cells_found None op m found bytes h =
+    cells_step None (Some op ∷ m ∷ []) 0 (found ∷ bytes) (found ∷ bytes) (empty_byte None (found ∷ bytes) refl)
+    ∙ ap (after_cell 0) (last_places op m (found ∷ bytes) ∙ ap (last_cells m) (full_byte op found bytes h))
+cells_found (Some p) op m found bytes h =
+    cells_step (Some p) (Some op ∷ m ∷ []) found (found ∷ bytes) bytes (full_byte p found bytes h)
+    ∙ ap (after_cell found) (last_places op m bytes)
+
+abbrev all_cells : (first rex escape second : ℕ) → Option Pattern → Result (ℕ × List ℕ) Miss → Result (List ℕ × List ℕ) Miss
+all_cells first rex escape second m opcode = after_cell first (after_cell 0 (after_cell 0 (after_cell rex (after_cell escape (after_cell second (last_cells m opcode))))))
+
+cells_behind : (a b d rx e g : Option Pattern) (op : Pattern) (m : Option Pattern) (first rex cell found : ℕ) (whole behind escape bytes : List ℕ) → byte_at a whole ≡ pair first behind → is_empty b ≡ true → is_empty d ≡ true → byte_at rx behind ≡ pair rex escape → byte_at e escape ≡ pair cell (found ∷ bytes) → opens g op found ≡ true → cells_at (a ∷ b ∷ d ∷ rx ∷ e ∷ g ∷ Some op ∷ m ∷ []) whole ≡ all_cells first rex cell (second_cell g found) m (opcode_from g op found bytes)
+cells_behind a b d rx e g op m first rex cell found whole behind escape bytes ha hb hd hr he ho =
+    let at_escape = cells_step e (g ∷ Some op ∷ m ∷ []) cell escape (found ∷ bytes) he ∙ ap (after_cell cell) (cells_found g op m found bytes ho) in
+    let at_rex = cells_step rx (e ∷ g ∷ Some op ∷ m ∷ []) rex behind escape hr ∙ ap (after_cell rex) at_escape in
+    let at_third = cells_step d (rx ∷ e ∷ g ∷ Some op ∷ m ∷ []) 0 behind behind (empty_byte d behind hd) ∙ ap (after_cell 0) at_rex in
+    let at_next = cells_step b (d ∷ rx ∷ e ∷ g ∷ Some op ∷ m ∷ []) 0 behind behind (empty_byte b behind hb) ∙ ap (after_cell 0) at_third in
+    cells_step a (b ∷ d ∷ rx ∷ e ∷ g ∷ Some op ∷ m ∷ []) first whole behind ha ∙ ap (after_cell first) at_next
 
 -- ---- a row
 
--- the row has no prefix, 0f where it stands, no other byte before the opcode, and this opcode
-abbrev pub begins_so : Bool → ℕ → table.Form → Bool
-begins_so escaped opcode f = is_empty f.first && (is_empty f.second && (is_empty f.third && (is_escape escaped f.escape && (is_empty f.escape2 && has f.opcode opcode))))
+-- the row has this prefix alone, 0f where it stands, and this byte as its opcode or as the second byte before it
+abbrev pub begins_so : Option ℕ → Bool → ℕ → table.Form → Bool
+begins_so prefix escaped found f = is_first prefix f.first && (is_empty f.second && (is_empty f.third && (is_escape escaped f.escape && opens f.escape2 f.opcode found)))
 
 abbrev from_cells : table.Form → List ℕ × List ℕ → Result (Instr × List ℕ) Miss
 from_cells f x = do
@@ -174,31 +211,39 @@ from_modrm f rex opcode x = do
   imm ← bytes_at (imm_len f.imm) rm.1
   pair (instr_of f.kind (fields_of rex opcode x.0 rm.0 imm.0)) imm.1
 
-same_fields : (f : table.Form) (rex cell opcode : ℕ) (modrm : Result (ℕ × List ℕ) Miss) → (all_cells rex cell opcode modrm >>= from_cells f) ≡ (modrm >>= from_modrm f rex opcode)
+abbrev from_opcode : table.Form → (rex : ℕ) → ℕ × List ℕ → Result (Instr × List ℕ) Miss
+from_opcode f rex x = byte_at f.modrm x.1 >>= from_modrm f rex x.0
+
+same_fields : (f : table.Form) (first rex cell second : ℕ) (opcode : Result (ℕ × List ℕ) Miss) → (all_cells first rex cell second f.modrm opcode >>= from_cells f) ≡ (opcode >>= from_opcode f rex)
 unfolding operand_at
-same_fields f rex cell opcode (Ok x) = refl
-same_fields f rex cell opcode (Err m) = refl
+same_fields f first rex cell second (Err m) = refl
+same_fields f first rex cell second (Ok x) = at_modrm (byte_at f.modrm x.1)
+  where
+    at_modrm : (modrm : Result (ℕ × List ℕ) Miss) → (after_cell first (after_cell 0 (after_cell 0 (after_cell rex (after_cell cell (after_cell second (after_cell x.0 (modrm >>= (λ y. pair (y.0 ∷ []) y.1)))))))) >>= from_cells f) ≡ (modrm >>= from_modrm f rex x.0)
+    at_modrm (Ok y) = refl
+    at_modrm (Err m) = refl
 
 read_as_cells : (f : table.Form) (kind : Rex) (bytes : List ℕ) → read_at f kind bytes ≡ (cells_at (places f kind) bytes >>= from_cells f)
 unfolding read_at
 read_as_cells f kind bytes = refl
 
-behind_as_modrm : (f : table.Form) (rex opcode : ℕ) (bytes : List ℕ) → row_behind f rex opcode bytes ≡ (byte_at f.modrm bytes >>= from_modrm f rex opcode)
+behind_as_opcode : (f : table.Form) (rex found : ℕ) (bytes : List ℕ) → row_behind f rex found bytes ≡ (opcode_from f.escape2 f.opcode found bytes >>= from_opcode f rex)
 unfolding row_behind
-behind_as_modrm f rex opcode bytes = refl
+behind_as_opcode f rex found bytes = refl
 
-read_behind : (f : table.Form) (kind : Rex) (escaped : Bool) (rex opcode : ℕ) (bytes : List ℕ) → RexIs kind rex → begins_so escaped opcode f ≡ true → read_at f kind (rexed kind rex (escaped_by escaped (opcode ∷ bytes))) ≡ row_behind f rex opcode bytes
-read_behind f kind escaped rex opcode bytes h t =
-    let a = and_parts (is_empty f.first) _ t in
+read_behind : (f : table.Form) (prefix : Option ℕ) (kind : Rex) (escaped : Bool) (rex found : ℕ) (bytes : List ℕ) → RexIs kind rex → begins_so prefix escaped found f ≡ true → read_at f kind (opened prefix kind escaped rex found bytes) ≡ row_behind f rex found bytes
+read_behind f prefix kind escaped rex found bytes h t =
+    let a = and_parts (is_first prefix f.first) _ t in
     let b = and_parts (is_empty f.second) _ a.1 in
     let d = and_parts (is_empty f.third) _ b.1 in
-    let e = and_parts (is_escape escaped f.escape) _ d.1 in
-    let g = and_parts (is_empty f.escape2) (has f.opcode opcode) e.1 in
-    let behind = escaped_by escaped (opcode ∷ bytes) in
-    let whole = rexed kind rex behind in
-    let s = escape_byte escaped f.escape (opcode ∷ bytes) e.0 in
-    let cells = cells_behind f.first f.second f.third (rex_pattern kind) f.escape f.escape2 f.opcode f.modrm rex s.0 opcode whole behind bytes a.0 b.0 d.0 (rex_byte kind rex behind h) s.1 g.0 g.1 in
-    read_as_cells f kind whole ∙ ap (λ (r : Result (List ℕ × List ℕ) Miss). r >>= from_cells f) cells ∙ same_fields f rex s.0 opcode (byte_at f.modrm bytes) ∙ sym (behind_as_modrm f rex opcode bytes)
+    let e = and_parts (is_escape escaped f.escape) (opens f.escape2 f.opcode found) d.1 in
+    let escape = escaped_by escaped (found ∷ bytes) in
+    let behind = rexed kind rex escape in
+    let whole = prefixed prefix behind in
+    let r = first_byte prefix f.first behind a.0 in
+    let s = escape_byte escaped f.escape (found ∷ bytes) e.0 in
+    let cells = cells_behind f.first f.second f.third (rex_pattern kind) f.escape f.escape2 f.opcode f.modrm r.0 rex s.0 found whole behind escape bytes r.1 b.0 d.0 (rex_byte kind rex escape h) s.1 e.1 in
+    read_as_cells f kind whole ∙ ap (λ (r : Result (List ℕ × List ℕ) Miss). r >>= from_cells f) cells ∙ same_fields f r.0 rex s.0 (second_cell f.escape2 found) (opcode_from f.escape2 f.opcode found bytes) ∙ sym (behind_as_opcode f rex found bytes)
 
 -- ---- one REX alone
 
@@ -229,40 +274,40 @@ row_one chain SetRex f bytes rest t e =
     let a = and_parts (blocked_by chain f NoRex) (blocked_by chain f ClearRex) t in
     rw (form_blocked chain f NoRex bytes rest a.0 e, form_blocked chain f ClearRex bytes rest a.1 e) (or_differs (form_at f SetRex bytes))
 
-form_led : (f : table.Form) (kind : Rex) (escaped : Bool) (rex opcode : ℕ) (bytes : List ℕ) → rex < 256 → RexIs kind rex → begins_so escaped opcode f ≡ true → form_at f kind (rexed kind rex (escaped_by escaped (opcode ∷ bytes))) ≡ row_led f rex opcode bytes
+form_led : (f : table.Form) (prefix : Option ℕ) (kind : Rex) (escaped : Bool) (rex opcode : ℕ) (bytes : List ℕ) → rex < 256 → RexIs kind rex → begins_so prefix escaped opcode f ≡ true → form_at f kind (opened prefix kind escaped rex opcode bytes) ≡ row_led f rex opcode bytes
 unfolding form_at
-form_led f kind escaped rex opcode bytes l h t =
-    ap (λ (r : Result (Instr × List ℕ) Miss). cond (allows f.wide kind) r (Err Differs)) (read_behind f kind escaped rex opcode bytes h t)
+form_led f prefix kind escaped rex opcode bytes l h t =
+    ap (λ (r : Result (Instr × List ℕ) Miss). cond (allows f.wide kind) r (Err Differs)) (read_behind f prefix kind escaped rex opcode bytes h t)
     ∙ ap (λ (k : Rex). cond (allows f.wide k) (row_behind f rex opcode bytes) (Err Differs)) (sym (rex_kind kind rex l h))
 
 -- ---- rows by their numbers
 
-abbrev fits_one : List Pattern → Rex → Bool → ℕ → Option Form → Bool
-fits_one chain kind escaped opcode None = true
-fits_one chain kind escaped opcode (Some f) = begins_so escaped opcode (form_view f) && others_blocked chain kind (form_view f)
+abbrev fits_one : List Pattern → Option ℕ → Rex → Bool → ℕ → Option Form → Bool
+fits_one chain prefix kind escaped opcode None = true
+fits_one chain prefix kind escaped opcode (Some f) = begins_so prefix escaped opcode (form_view f) && others_blocked chain kind (form_view f)
 
 -- each row with one of these numbers begins so, and no other REX stands there
-abbrev pub fits_all : List Pattern → Rex → Bool → ℕ → List Form → List ℕ → Bool
-fits_all chain kind escaped opcode rows [] = true
-fits_all chain kind escaped opcode rows (k ∷ ks) = fits_one chain kind escaped opcode (slice_get rows k) && fits_all chain kind escaped opcode rows ks
+abbrev pub fits_all : List Pattern → Option ℕ → Rex → Bool → ℕ → List Form → List ℕ → Bool
+fits_all chain prefix kind escaped opcode rows [] = true
+fits_all chain prefix kind escaped opcode rows (k ∷ ks) = fits_one chain prefix kind escaped opcode (slice_get rows k) && fits_all chain prefix kind escaped opcode rows ks
 
 -- so they read what they read behind the opcode
-pub led_is : (chain : List Pattern) (kind : Rex) (escaped : Bool) (rex opcode : ℕ) (bytes rest : List ℕ) (rows : List Form) (ks : List ℕ) → rex < 256 → RexIs kind rex → run chain (rexed kind rex (escaped_by escaped (opcode ∷ bytes))) ≡ Ok rest → fits_all chain kind escaped opcode rows ks ≡ true → some_at rows ks (rexed kind rex (escaped_by escaped (opcode ∷ bytes))) ≡ led_at rows ks rex opcode bytes
+pub led_is : (chain : List Pattern) (prefix : Option ℕ) (kind : Rex) (escaped : Bool) (rex opcode : ℕ) (bytes rest : List ℕ) (rows : List Form) (ks : List ℕ) → rex < 256 → RexIs kind rex → run chain (opened prefix kind escaped rex opcode bytes) ≡ Ok rest → fits_all chain prefix kind escaped opcode rows ks ≡ true → some_at rows ks (opened prefix kind escaped rex opcode bytes) ≡ led_at rows ks rex opcode bytes
 unfolding some_at led_at
-led_is chain kind escaped rex opcode bytes rest rows [] l h e t = refl
-led_is chain kind escaped rex opcode bytes rest rows (k ∷ ks) l h e t =
-    let a = and_parts (fits_one chain kind escaped opcode (slice_get rows k)) (fits_all chain kind escaped opcode rows ks) t in
+led_is chain prefix kind escaped rex opcode bytes rest rows [] l h e t = refl
+led_is chain prefix kind escaped rex opcode bytes rest rows (k ∷ ks) l h e t =
+    let a = and_parts (fits_one chain prefix kind escaped opcode (slice_get rows k)) (fits_all chain prefix kind escaped opcode rows ks) t in
     ap (λ (r : Result (Instr × List ℕ) Miss). or_else r (some_at rows ks whole)) (one (slice_get rows k) a.0)
-    ∙ ap (or_else (maybe_led (slice_get rows k) rex opcode bytes)) (led_is chain kind escaped rex opcode bytes rest rows ks l h e a.1)
+    ∙ ap (or_else (maybe_led (slice_get rows k) rex opcode bytes)) (led_is chain prefix kind escaped rex opcode bytes rest rows ks l h e a.1)
   where
     whole : List ℕ
-    whole = rexed kind rex (escaped_by escaped (opcode ∷ bytes))
+    whole = opened prefix kind escaped rex opcode bytes
 
-    one : (o : Option Form) → fits_one chain kind escaped opcode o ≡ true → maybe_row_at o whole ≡ maybe_led o rex opcode bytes
+    one : (o : Option Form) → fits_one chain prefix kind escaped opcode o ≡ true → maybe_row_at o whole ≡ maybe_led o rex opcode bytes
     one None t = refl
     one (Some f) t =
-        let a = and_parts (begins_so escaped opcode (form_view f)) (others_blocked chain kind (form_view f)) t in
-        row_one chain kind (form_view f) whole rest a.1 e ∙ form_led (form_view f) kind escaped rex opcode bytes l h a.0
+        let a = and_parts (begins_so prefix escaped opcode (form_view f)) (others_blocked chain kind (form_view f)) t in
+        row_one chain kind (form_view f) whole rest a.1 e ∙ form_led (form_view f) prefix kind escaped rex opcode bytes l h a.0
 
 -- ---- one row alone
 
@@ -273,14 +318,17 @@ wide_apart f g kind = not (allows f.wide kind) || not (allows g.wide kind)
 abbrev wides_apart : table.Form → table.Form → Bool
 wides_apart f g = wide_apart f g NoRex && (wide_apart f g ClearRex && wide_apart f g SetRex)
 
-abbrev modrm_apart : Option Pattern → Option Pattern → Bool
-modrm_apart None o = false
-modrm_apart (Some p) None = false
-modrm_apart (Some p) (Some q) = clash p q
+abbrev next_apart : Option Pattern → Option Pattern → Bool
+next_apart None o = false
+next_apart (Some p) None = false
+next_apart (Some p) (Some q) = clash p q
+
+abbrev next_in : table.Form → Option Pattern
+next_in f = next_of f.escape2 f.opcode f.modrm
 
 abbrev rows_apart : table.Form → Option Form → Bool
 rows_apart f None = true
-rows_apart f (Some g) = wides_apart f (form_view g) || modrm_apart f.modrm (form_view g).modrm
+rows_apart f (Some g) = wides_apart f (form_view g) || next_apart (next_in f) (next_in (form_view g))
 
 abbrev apart_from_all : table.Form → List Form → List ℕ → Bool
 apart_from_all f rows [] = true
@@ -300,23 +348,28 @@ differs_last (Ok x) = refl
 differs_last (Err Ends) = refl
 differs_last (Err Differs) = refl
 
-other_byte : (o : Option Pattern) (bytes : List ℕ) → takes_modrm o bytes ≡ false → byte_at o bytes ≡ Err Differs
+other_byte : (o : Option Pattern) (bytes : List ℕ) → takes_next o bytes ≡ false → byte_at o bytes ≡ Err Differs
 unfolding byte_at
 other_byte None bytes e = absurd cc
 other_byte (Some p) [] e = absurd cc
 other_byte (Some p) (b ∷ bytes) e = ap (λ (t : Bool). cond t (pair b bytes) (Err Differs)) e
 
+-- where the next byte isn't read, nothing is
+missed_next : (g : Option Pattern) (op : Pattern) (m : Option Pattern) (found : ℕ) (bytes : List ℕ) (k : ℕ → ℕ × List ℕ → Result (Instr × List ℕ) Miss) (miss : Miss) → byte_at (next_of g op m) bytes ≡ Err miss → (opcode_from g op found bytes >>= (λ x. byte_at m x.1 >>= k x.0)) ≡ Err miss
+missed_next None op m found bytes k miss e = ap (λ (r : Result (ℕ × List ℕ) Miss). r >>= k found) e
+missed_next (Some p) op m found bytes k miss e = ap (λ (r : Result (ℕ × List ℕ) Miss). r >>= (λ x. byte_at m x.1 >>= k x.0)) e
+
+missed : (f : table.Form) (rex found : ℕ) (bytes : List ℕ) (miss : Miss) → byte_at (next_in f) bytes ≡ Err miss → row_behind f rex found bytes ≡ Err miss
+missed f rex found bytes miss e = behind_as_opcode f rex found bytes ∙ missed_next f.escape2 f.opcode f.modrm found bytes (from_modrm f rex) miss e
+
 -- a row that doesn't take the bytes reads nothing
 not_taken : (f : table.Form) (rex opcode : ℕ) (bytes : List ℕ) → takes f rex bytes ≡ false → row_led f rex opcode bytes ≡ Err Differs
 not_taken f rex opcode bytes e =
-    elim (and_cases (allows f.wide (rex_at rex)) (takes_modrm f.modrm bytes) e) [
+    elim (and_cases (allows f.wide (rex_at rex)) (takes_next (next_in f) bytes) e) [
       | inl h ↦ ap (λ (t : Bool). cond t (row_behind f rex opcode bytes) (Err Differs)) h
-      | inr h ↦ ap (λ (r : Result (Instr × List ℕ) Miss). cond (allows f.wide (rex_at rex)) r (Err Differs)) (misses h) ∙ same (allows f.wide (rex_at rex))
+      | inr h ↦ ap (λ (r : Result (Instr × List ℕ) Miss). cond (allows f.wide (rex_at rex)) r (Err Differs)) (missed f rex opcode bytes Differs (other_byte (next_in f) bytes h)) ∙ same (allows f.wide (rex_at rex))
     ]
   where
-    misses : takes_modrm f.modrm bytes ≡ false → row_behind f rex opcode bytes ≡ Err Differs
-    misses h = behind_as_modrm f rex opcode bytes ∙ ap (λ (r : Result (ℕ × List ℕ) Miss). r >>= from_modrm f rex opcode) (other_byte f.modrm bytes h)
-
     nothing : Result (Instr × List ℕ) Miss
     nothing = Err Differs
 
@@ -327,12 +380,12 @@ not_taken f rex opcode bytes e =
 abbrev BothEnd : Option Pattern → Option Pattern → List ℕ → Type 0
 BothEnd o q bytes = (byte_at o bytes ≡ Err Ends) × (byte_at q bytes ≡ Err Ends)
 
-modrm_alone : (o q : Option Pattern) (bytes : List ℕ) → modrm_apart o q ≡ true → takes_modrm o bytes ≡ true → BothEnd o q bytes ⊎ (takes_modrm q bytes ≡ false)
+next_alone : (o q : Option Pattern) (bytes : List ℕ) → next_apart o q ≡ true → takes_next o bytes ≡ true → BothEnd o q bytes ⊎ (takes_next q bytes ≡ false)
 unfolding byte_at
-modrm_alone None q bytes c e = absurd cc
-modrm_alone (Some p) None bytes c e = absurd cc
-modrm_alone (Some p) (Some q) [] c e = inl (refl, refl)
-modrm_alone (Some p) (Some q) (b ∷ bytes) c e = go (has q b) refl
+next_alone None q bytes c e = absurd cc
+next_alone (Some p) None bytes c e = absurd cc
+next_alone (Some p) (Some q) [] c e = inl (refl, refl)
+next_alone (Some p) (Some q) (b ∷ bytes) c e = go (has q b) refl
   where
     go : (t : Bool) → has q b ≡ t → BothEnd (Some p) (Some q) (b ∷ bytes) ⊎ (has q b ≡ false)
     go true h = absurd (clash_apart p q b c e h)
@@ -351,14 +404,13 @@ wide_at f g SetRex t = (and_parts (wide_apart f g ClearRex) _ (and_parts (wide_a
 not_allowed : (g : table.Form) (rex opcode : ℕ) (bytes : List ℕ) → allows g.wide (rex_at rex) ≡ false → row_led g rex opcode bytes ≡ Err Differs
 not_allowed g rex opcode bytes e = ap (λ (t : Bool). cond t (row_behind g rex opcode bytes) (Err Differs)) e
 
-both_end : (f g : table.Form) (rex opcode : ℕ) (bytes : List ℕ) → BothEnd f.modrm g.modrm bytes → or_else (row_behind f rex opcode bytes) (row_led g rex opcode bytes) ≡ row_behind f rex opcode bytes
+both_end : (f g : table.Form) (rex opcode : ℕ) (bytes : List ℕ) → BothEnd (next_in f) (next_in g) bytes → or_else (row_behind f rex opcode bytes) (row_led g rex opcode bytes) ≡ row_behind f rex opcode bytes
 both_end f g rex opcode bytes h =
-    let at : (k : table.Form) → byte_at k.modrm bytes ≡ Err Ends → row_behind k rex opcode bytes ≡ Err Ends =
-    λ k e. behind_as_modrm k rex opcode bytes ∙ ap (λ (r : Result (ℕ × List ℕ) Miss). r >>= from_modrm k rex opcode) e in
-    ap (λ (r : Result (Instr × List ℕ) Miss). or_else r (row_led g rex opcode bytes)) (at f h.0)
-    ∙ ap (λ (r : Result (Instr × List ℕ) Miss). or_else ends (cond (allows g.wide (rex_at rex)) r (Err Differs))) (at g h.1)
+    let here = missed f rex opcode bytes Ends h.0 in
+    ap (λ (r : Result (Instr × List ℕ) Miss). or_else r (row_led g rex opcode bytes)) here
+    ∙ ap (λ (r : Result (Instr × List ℕ) Miss). or_else ends (cond (allows g.wide (rex_at rex)) r (Err Differs))) (missed g rex opcode bytes Ends h.1)
     ∙ same (allows g.wide (rex_at rex))
-    ∙ sym (at f h.0)
+    ∙ sym here
   where
     ends : Result (Instr × List ℕ) Miss
     ends = Err Ends
@@ -371,21 +423,21 @@ both_end f g rex opcode bytes h =
 beside : (f : table.Form) (o : Option Form) (rex opcode : ℕ) (bytes : List ℕ) → takes f rex bytes ≡ true → rows_apart f o ≡ true → or_else (row_behind f rex opcode bytes) (maybe_led o rex opcode bytes) ≡ row_behind f rex opcode bytes
 beside f None rex opcode bytes e t = differs_last (row_behind f rex opcode bytes)
 beside f (Some x) rex opcode bytes e t =
-    elim (or_cases (wides_apart f (form_view x)) (modrm_apart f.modrm (form_view x).modrm) t) [
+    elim (or_cases (wides_apart f (form_view x)) (next_apart (next_in f) (next_in (form_view x))) t) [
       | inl h ↦ without (not_allowed (form_view x) rex opcode bytes (past_no _ _ (wide_at f (form_view x) (rex_at rex) h) took.0))
-      | inr h ↦ elim (modrm_alone f.modrm (form_view x).modrm bytes h took.1) [
+      | inr h ↦ elim (next_alone (next_in f) (next_in (form_view x)) bytes h took.1) [
         | inl both ↦ both_end f (form_view x) rex opcode bytes both
         | inr other ↦ without (not_taken (form_view x) rex opcode bytes (lost (allows (form_view x).wide (rex_at rex)) other))
       ]
     ]
   where
-    took : (allows f.wide (rex_at rex) ≡ true) × (takes_modrm f.modrm bytes ≡ true)
-    took = and_parts (allows f.wide (rex_at rex)) (takes_modrm f.modrm bytes) e
+    took : (allows f.wide (rex_at rex) ≡ true) × (takes_next (next_in f) bytes ≡ true)
+    took = and_parts (allows f.wide (rex_at rex)) (takes_next (next_in f) bytes) e
 
     without : row_led (form_view x) rex opcode bytes ≡ Err Differs → or_else (row_behind f rex opcode bytes) (row_led (form_view x) rex opcode bytes) ≡ row_behind f rex opcode bytes
     without h = ap (or_else (row_behind f rex opcode bytes)) h ∙ differs_last (row_behind f rex opcode bytes)
 
-    lost : (t : Bool) → takes_modrm (form_view x).modrm bytes ≡ false → (t && takes_modrm (form_view x).modrm bytes) ≡ false
+    lost : (t : Bool) → takes_next (next_in (form_view x)) bytes ≡ false → (t && takes_next (next_in (form_view x)) bytes) ≡ false
     lost true other = other
     lost false other = refl
 
@@ -412,7 +464,7 @@ chosen_is rows (k ∷ ks) rex opcode bytes t =
       where
         step : (u : Bool) → takes (form_view x) rex bytes ≡ u → or_else (row_led (form_view x) rex opcode bytes) (led_at rows ks rex opcode bytes) ≡ read_chosen (or_later (form_if u x) (chosen rows ks rex bytes)) rex opcode bytes
         step true e =
-            ap (λ (u : Bool). or_else (cond u (row_behind (form_view x) rex opcode bytes) (Err Differs)) (led_at rows ks rex opcode bytes)) (and_parts (allows (form_view x).wide (rex_at rex)) (takes_modrm (form_view x).modrm bytes) e).0
+            ap (λ (u : Bool). or_else (cond u (row_behind (form_view x) rex opcode bytes) (Err Differs)) (led_at rows ks rex opcode bytes)) (and_parts (allows (form_view x).wide (rex_at rex)) (takes_next (next_in (form_view x)) bytes) e).0
             ∙ beside_all (form_view x) rows ks rex opcode bytes e t
         step false e =
             ap (λ (r : Result (Instr × List ℕ) Miss). or_else r (led_at rows ks rex opcode bytes)) (not_taken (form_view x) rex opcode bytes e)

@@ -5,12 +5,11 @@ use Rattle.cet_isa.specs.Reader.{IsBytes}
 use Rattle.cet_isa.specs.Reading.{any_at}
 use Rattle.cet_decode.specs.declared.forms.Form.{Form}
 use Rattle.cet_decode.specs.declared.forms.TheConstants.{FORMS}
-use Rattle.cet_decode.specs.declared.maps.TheConstants.{ONE_BYTE, TWO_BYTE, PICKS}
-use Rattle.cet_decode.specs.Lead.{LeadData, lead_at, chosen, mapped_by}
+use Rattle.cet_decode.specs.Lead.{LeadData, lead_at, chosen, numbers_by}
 use Rattle.cet_decode.proofs.IndexLaws.{lead_is}
 use Rattle.cet_decode.proofs.LeadLaws.{read_chosen}
 
 pub row_reads : (bytes : List ℕ) (x : LeadData) (row : Option Form) → IsBytes bytes → Some x ≡ lead_at bytes
-    → row ≡ chosen FORMS (mapped_by x.escaped ONE_BYTE TWO_BYTE PICKS x.opcode) x.rex x.rest
+    → row ≡ chosen FORMS (numbers_by x.prefix x.escaped x.opcode) x.rex x.rest
     → read_chosen row x.rex x.opcode x.rest ≡ any_at forms bytes
 row_reads bytes x row fits leads e = ap (λ (o : Option Form). read_chosen o x.rex x.opcode x.rest) e ∙ lead_is bytes x fits (sym leads)

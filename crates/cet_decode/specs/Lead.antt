@@ -1,5 +1,5 @@
 -- How an encoding begins, and what a row reads behind its opcode. Source: Intel SDM volume 2, chapter 2, instruction format.
-use Rattle.std.specs.Prelude.{ℕ, ◌/◌, ◌%◌, Bool, true, false, ◌==◌, ◌&&◌, ◌||◌, if◌then◌else◌, List, [], ◌∷◌, Option, Some, None, Result, Ok, slice_get, slice_index}
+use Rattle.std.specs.Prelude.{ℕ, ◌+◌, ◌*◌, ◌/◌, ◌%◌, Bool, true, false, ◌==◌, ◌&&◌, ◌||◌, if◌then◌else◌, List, [], ◌∷◌, Option, Some, None, Result, Ok, slice_get, slice_index}
 use Rattle.cet_isa.specs.declared.instructions.Instr.{Instr}
 use Rattle.cet_isa.specs.declared.instructions.Operand.{Operand}
 use Rattle.cet_isa.specs.Form.{Pattern, Rex, NoRex, ClearRex, SetRex}
@@ -10,47 +10,59 @@ use Rattle.cet_isa.specs.Reader.{Miss, ◌>>=◌}
 use Rattle.cet_isa.specs.Reading.{byte_at, bytes_at}
 use Rattle.cet_decode.specs.declared.forms.Form.{Form}
 use Rattle.cet_decode.specs.Views.{form_view}
-use Rattle.cet_decode.specs.Index.{picks_by}
+use Rattle.cet_rows.specs.declared.Row.{Row}
+use Rattle.cet_decode.specs.declared.maps.TheConstants.{ONE_BYTE, TWO_BYTE, PICKS, PREFIXED, PREFIXED_TWO_BYTE}
+use Rattle.cet_decode.specs.Index.{picks_by, picks_at}
 
 -- ---- what stands before the opcode
 
--- REX (0 where there is none), whether 0f stands before the opcode, the opcode, the bytes behind it
+-- the prefix, REX (0 where there is none), whether 0f stands before the opcode, the opcode (or the byte behind 0f, where
+-- that is another before the opcode), the bytes behind it
 pub record LeadData : Type 0 where
+  pub prefix : Option ℕ
   pub rex : ℕ
   pub escaped : Bool
   pub opcode : ℕ
   pub rest : List ℕ
 
-abbrev pub lead : ℕ → Bool → ℕ → List ℕ → LeadData
-lead rex escaped opcode rest = record { rex = rex; escaped = escaped; opcode = opcode; rest = rest }
+abbrev pub lead : Option ℕ → ℕ → Bool → ℕ → List ℕ → LeadData
+lead prefix rex escaped opcode rest = record { prefix = prefix; rex = rex; escaped = escaped; opcode = opcode; rest = rest }
 
 -- a prefix other than REX that a row of the table begins by
 abbrev pub is_prefix : ℕ → Bool
 is_prefix b = (b == 0x3e) || ((b == 0x66) || ((b == 0xf0) || (b == 0xf3)))
 
--- 0f 38 leads to opcodes of its own
-abbrev pub behind_escape : (rex : ℕ) → List ℕ → Option LeadData
-behind_escape rex [] = None
-behind_escape rex (b ∷ bytes) = if b == 0x38 then None else Some (lead rex true b bytes)
+-- a byte that is a row's second prefix
+abbrev pub is_longer : ℕ → Bool
+is_longer b = (b == 0x66) || (b == 0x2e)
 
-abbrev pub behind_rex : (rex : ℕ) → List ℕ → Option LeadData
-behind_rex rex [] = None
-behind_rex rex (b ∷ bytes) = if b == 0x0f then behind_escape rex bytes else (if is_prefix b then None else Some (lead rex false b bytes))
+abbrev pub behind_escape : Option ℕ → (rex : ℕ) → List ℕ → Option LeadData
+behind_escape prefix rex [] = None
+behind_escape prefix rex (b ∷ bytes) = Some (lead prefix rex true b bytes)
 
--- an opcode behind REX (40 to 4f) and 0f at most
+abbrev pub behind_rex : Option ℕ → (rex : ℕ) → List ℕ → Option LeadData
+behind_rex prefix rex [] = None
+behind_rex prefix rex (b ∷ bytes) = if b == 0x0f then behind_escape prefix rex bytes else Some (lead prefix rex false b bytes)
+
+-- REX is 40 to 4f
+abbrev pub behind_prefix : Option ℕ → List ℕ → Option LeadData
+behind_prefix prefix [] = None
+behind_prefix prefix (b ∷ bytes) = if b / 16 == 4 then behind_rex prefix b bytes else behind_rex prefix 0 (b ∷ bytes)
+
+abbrev pub behind_one : (prefix : ℕ) → List ℕ → Option LeadData
+behind_one prefix [] = None
+behind_one prefix (b ∷ bytes) = if is_longer b then None else behind_prefix (Some prefix) (b ∷ bytes)
+
+-- an opcode behind one prefix, REX and 0f at most
 abbrev pub lead_at : List ℕ → Option LeadData
 lead_at [] = None
-lead_at (b ∷ bytes) = if b / 16 == 4 then behind_rex b bytes else behind_rex 0 (b ∷ bytes)
+lead_at (b ∷ bytes) = if is_prefix b then behind_one b bytes else behind_prefix None (b ∷ bytes)
 
-abbrev pub long_key : List ℕ → Option ℕ
-long_key [] = None
-long_key (b ∷ []) = None
-long_key (b ∷ c ∷ bytes) = if (b == 0x0f) && (c == 0x38) then Some 0x0f38 else None
-
--- other bytes before the opcode: a prefix, or 0f 38
-abbrev pub key_at : List ℕ → Option ℕ
-key_at [] = None
-key_at (b ∷ bytes) = if is_prefix b then Some b else (if b / 16 == 4 then long_key bytes else long_key (b ∷ bytes))
+-- more than one prefix of one row
+abbrev pub has_long_prefix : List ℕ → Bool
+has_long_prefix [] = false
+has_long_prefix (b ∷ []) = false
+has_long_prefix (b ∷ c ∷ bytes) = (b == 0x66) && is_longer c
 
 -- ---- a row behind its opcode
 
@@ -67,24 +79,35 @@ operand_behind rex modrm bytes = do
 abbrev pub fields_of : (rex opcode modrm : ℕ) → Operand → List ℕ → Fields
 fields_of rex opcode modrm rm imm = record { rex = rex; opcode = opcode; modrm = modrm; rm = rm; imm = imm }
 
--- an instruction by a row, from the byte behind its opcode on
-unfoldable pub row_behind : table.Form → (rex opcode : ℕ) → List ℕ → Result (Instr × List ℕ) Miss
-row_behind f rex opcode bytes = do
-  modrm ← byte_at f.modrm bytes
+-- The opcode of a row that was found by a byte: this byte, or the next one where this is the second before the opcode.
+abbrev pub opcode_from : (escape2 : Option Pattern) → Pattern → (found : ℕ) → List ℕ → Result (ℕ × List ℕ) Miss
+opcode_from None opcode found bytes = Ok (found, bytes)
+opcode_from (Some p) opcode found bytes = byte_at (Some opcode) bytes
+
+-- an instruction by a row, from behind the byte by which it was found on
+unfoldable pub row_behind : table.Form → (rex found : ℕ) → List ℕ → Result (Instr × List ℕ) Miss
+row_behind f rex found bytes = do
+  opcode ← opcode_from f.escape2 f.opcode found bytes
+  modrm ← byte_at f.modrm opcode.1
   rm ← operand_behind rex modrm.0 modrm.1
   imm ← bytes_at (imm_len f.imm) rm.1
-  Ok (instr_of f.kind (fields_of rex opcode modrm.0 rm.0 imm.0), imm.1)
+  Ok (instr_of f.kind (fields_of rex opcode.0 modrm.0 rm.0 imm.0), imm.1)
 
 -- ---- the row that takes these bytes
 
--- the first of the bytes may be the row's ModRM
-abbrev pub takes_modrm : Option Pattern → List ℕ → Bool
-takes_modrm None bytes = true
-takes_modrm (Some p) [] = true
-takes_modrm (Some p) (b ∷ bytes) = has p b
+-- what a row has behind the byte by which it is found: ModRM, or its opcode
+abbrev pub next_of : (escape2 : Option Pattern) → Pattern → (modrm : Option Pattern) → Option Pattern
+next_of None opcode modrm = modrm
+next_of (Some p) opcode modrm = Some opcode
+
+-- the first of the bytes may stand there
+abbrev pub takes_next : Option Pattern → List ℕ → Bool
+takes_next None bytes = true
+takes_next (Some p) [] = true
+takes_next (Some p) (b ∷ bytes) = has p b
 
 abbrev pub takes : table.Form → (rex : ℕ) → List ℕ → Bool
-takes f rex bytes = allows f.wide (rex_at rex) && takes_modrm f.modrm bytes
+takes f rex bytes = allows f.wide (rex_at rex) && takes_next (next_of f.escape2 f.opcode f.modrm) bytes
 
 abbrev pub form_if : Bool → Form → Option Form
 form_if true f = Some f
@@ -111,3 +134,17 @@ mapped map picks opcode = picks_by (slice_get map opcode) picks
 abbrev pub mapped_by : (escaped : Bool) → (one two : List ℕ) → List (List ℕ) → (opcode : ℕ) → List ℕ
 mapped_by false one two picks opcode = mapped one picks opcode
 mapped_by true one two picks opcode = mapped two picks opcode
+
+-- a prefix and the opcode behind it, as one key
+abbrev pub key_of : (prefix opcode : ℕ) → ℕ
+key_of prefix opcode = 256 * prefix + opcode
+
+-- the numbers that a table has for a key, the second table for an opcode behind 0f
+abbrev pub prefixed_by : (escaped : Bool) → (one two : List Row) → List (List ℕ) → (key : ℕ) → List ℕ
+prefixed_by false one two picks key = picks_at one picks key
+prefixed_by true one two picks key = picks_at two picks key
+
+-- the numbers of the rows for an opcode: by the maps where no prefix stands there, else by the tables
+abbrev pub numbers_by : Option ℕ → (escaped : Bool) → (opcode : ℕ) → List ℕ
+numbers_by None escaped opcode = mapped_by escaped ONE_BYTE TWO_BYTE PICKS opcode
+numbers_by (Some prefix) escaped opcode = prefixed_by escaped PREFIXED.rows PREFIXED_TWO_BYTE.rows PICKS (key_of prefix opcode)

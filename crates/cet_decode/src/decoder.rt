@@ -8,7 +8,7 @@ ghost use Rattle.cet_decode.specs.Decoded.{decoding, LenAtMost};
 ghost use Rattle.cet_decode.specs.Views.{miss_view};
 
 use crate::forms::FORMS;
-use crate::index::{read_prefixed, row_of};
+use crate::index::{read_apart, row_of};
 use crate::leads::lead_of;
 use crate::meaning::instr;
 use crate::reading::{Miss, fields_behind};
@@ -35,14 +35,14 @@ fn missed(miss: Miss) -> Decoded
     }
 }
 
-/// What begins by other bytes than REX and 0f.
+/// What has more than one prefix, or ends before its opcode.
 #[inline(never)]
 #[tactic(auto, unfolding(cet_isa::specs::Reading::decoded))]
-fn answer_prefixed(bytes: &[u8]) -> Decoded
+fn answer_apart(bytes: &[u8]) -> Decoded
     ensures reads { decoding result ≡ decoded bytes.now }
     ensures len { LenAtMost 12 result }
 {
-    match read_prefixed(bytes) {
+    match read_apart(bytes) {
         Ok((instr, rest)) => Decoded::Ok {
             instr,
             len: (bytes.len() - rest.len()) as u8,
@@ -60,7 +60,7 @@ fn answer(bytes: &[u8]) -> Decoded
     ensures len { LenAtMost 12 result }
 {
     let Some(lead) = lead_of(bytes) else {
-        return answer_prefixed(bytes);
+        return answer_apart(bytes);
     };
     let Some(form) = row_of(&FORMS, &lead) else {
         return Decoded::Unknown;

@@ -3,20 +3,19 @@
 //! The way of most instructions ends at the row, which is small: an instruction that is handed on is copied each time,
 //! which would cost more than the decoding itself.
 
-ghost use Rattle.std.specs.Prelude.{◌≡◌, slice_get};
+ghost use Rattle.std.specs.Prelude.{◌≡◌, Some, slice_get};
 ghost use Rattle.std.specs.Option.{option_copied};
 ghost use Rattle.cet_isa.specs.Forms.{forms};
 ghost use Rattle.cet_isa.specs.Reading.{any_at};
 ghost use Rattle.cet_decode.specs.Views.{Gives};
-ghost use Rattle.cet_decode.specs.Index.{maybe_row_at, some_at, picks_at};
-ghost use Rattle.cet_decode.specs.Lead.{taker, chosen, mapped, mapped_by};
+ghost use Rattle.cet_decode.specs.Index.{maybe_row_at, some_at, picks_by};
+ghost use Rattle.cet_decode.specs.Lead.{taker, chosen, key_of, mapped, mapped_by, prefixed_by, numbers_by};
 
 use crate::forms::{FORMS, Form};
-use crate::leads::{Lead, key_of};
-use crate::maps::{ONE_BYTE, PICKS, PREFIXED, PREFIXED_PICKS, TWO_BYTE};
+use crate::leads::{Lead, has_long_prefix};
+use crate::maps::{LONG_PREFIXED, ONE_BYTE, PICKS, PREFIXED, PREFIXED_TWO_BYTE, TWO_BYTE};
 use crate::reading::{Miss, read_listed, read_row, takes};
 use cet_isa::Instr;
-use cet_rows::Rows;
 
 /// The row with this number, where it takes REX and the bytes behind the opcode.
 #[inline(always)]
@@ -50,6 +49,22 @@ fn choose<'r>(rows: &'r [Form], numbers: &[u8], rex: u8, bytes: &[u8]) -> Option
     None
 }
 
+/// The row by the list with this number.
+#[inline(always)]
+fn row_listed<'r>(
+    rows: &'r [Form],
+    picks: &[[u8; 5]],
+    list: usize,
+    lead: &Lead<'_>,
+) -> Option<&'r Form>
+    ensures { option_copied result ≡ chosen rows.now (picks_by (Some list) picks.now) lead.now.rex lead.now.rest.now }
+{
+    match picks.get(list) {
+        Some(numbers) => choose(rows, numbers, lead.rex, lead.rest),
+        None => choose(rows, &[], lead.rex, lead.rest),
+    }
+}
+
 #[inline(always)]
 fn row_mapped<'r>(
     rows: &'r [Form],
@@ -59,24 +74,67 @@ fn row_mapped<'r>(
 ) -> Option<&'r Form>
     ensures { option_copied result ≡ chosen rows.now (mapped map.now picks.now lead.now.opcode) lead.now.rex lead.now.rest.now }
 {
-    let Some(value) = map.get(usize::from(lead.opcode)) else {
-        return choose(rows, &[], lead.rex, lead.rest);
-    };
-    match picks.get(usize::from(*value)) {
-        Some(numbers) => choose(rows, numbers, lead.rex, lead.rest),
+    match map.get(usize::from(lead.opcode)) {
+        Some(list) => row_listed(rows, picks, usize::from(*list), lead),
         None => choose(rows, &[], lead.rex, lead.rest),
     }
 }
 
 /// The row that takes what stands behind REX and 0f, by the map of its opcode.
 #[inline(always)]
-pub fn row_of<'r>(rows: &'r [Form], lead: &Lead<'_>) -> Option<&'r Form>
+fn row_plain<'r>(rows: &'r [Form], lead: &Lead<'_>) -> Option<&'r Form>
     ensures { option_copied result ≡ chosen rows.now (mapped_by lead.now.escaped ONE_BYTE TWO_BYTE PICKS lead.now.opcode) lead.now.rex lead.now.rest.now }
 {
     if lead.escaped {
         row_mapped(rows, &TWO_BYTE, &PICKS, lead)
     } else {
         row_mapped(rows, &ONE_BYTE, &PICKS, lead)
+    }
+}
+
+fn row_found<'r>(
+    rows: &'r [Form],
+    picks: &[[u8; 5]],
+    list: Option<u16>,
+    lead: &Lead<'_>,
+) -> Option<&'r Form>
+    ensures { option_copied result ≡ chosen rows.now (picks_by list picks.now) lead.now.rex lead.now.rest.now }
+{
+    match list {
+        Some(list) => row_listed(rows, picks, usize::from(list), lead),
+        None => choose(rows, &[], lead.rex, lead.rest),
+    }
+}
+
+/// A prefix and the opcode behind it as one number, as the tables of opcodes behind prefixes have them.
+fn key_of(prefix: u8, opcode: u8) -> u16
+    ensures { result ≡ key_of prefix opcode }
+{
+    u16::from(prefix) * 0x100 + u16::from(opcode)
+}
+
+/// The row that takes what stands behind a prefix, REX and 0f, by the prefix and the opcode. It stands apart in the
+/// program, since few instructions have a prefix.
+#[inline(never)]
+fn row_prefixed<'r>(rows: &'r [Form], prefix: u8, lead: Lead<'_>) -> Option<&'r Form>
+    ensures { option_copied result ≡ chosen rows.now (prefixed_by lead.entry.escaped PREFIXED.rows PREFIXED_TWO_BYTE.rows PICKS (key_of prefix lead.entry.opcode)) lead.entry.rex lead.entry.rest.now }
+{
+    let key = key_of(prefix, lead.opcode);
+    if lead.escaped {
+        row_found(rows, &PICKS, PREFIXED_TWO_BYTE.find(key), &lead)
+    } else {
+        row_found(rows, &PICKS, PREFIXED.find(key), &lead)
+    }
+}
+
+/// The row that takes what stands there, by what stands before the opcode.
+#[inline(always)]
+pub fn row_of<'r>(rows: &'r [Form], lead: &Lead<'_>) -> Option<&'r Form>
+    ensures { option_copied result ≡ chosen rows.now (numbers_by lead.now.prefix lead.now.escaped lead.now.opcode) lead.now.rex lead.now.rest.now }
+{
+    match lead.prefix {
+        Some(prefix) => row_prefixed(rows, prefix, *lead),
+        None => row_plain(rows, lead),
     }
 }
 
@@ -104,36 +162,13 @@ fn read_some<'a>(rows: &[Form], numbers: &[u8], bytes: &'a [u8]) -> Result<(Inst
     Err(miss)
 }
 
-fn read_picked<'a>(
-    rows: &[Form],
-    index: &Rows<5>,
-    picks: &[[u8; 8]],
-    key: u16,
-    bytes: &'a [u8],
-) -> Result<(Instr, &'a [u8]), Miss>
-    ensures { Gives (λ x. (x.0, x.1.now)) result (some_at rows.now (picks_at index.now.rows picks.now key) bytes.now) }
-{
-    let Some(value) = index.find(key) else {
-        return read_some(rows, &[], bytes);
-    };
-    match picks.get(usize::from(value)) {
-        Some(numbers) => read_some(rows, numbers, bytes),
-        None => read_some(rows, &[], bytes),
-    }
-}
-
-fn read_by_key(key: u16, bytes: &[u8]) -> Result<(Instr, &[u8]), Miss>
-    ensures { Gives (λ x. (x.0, x.1.now)) result (some_at FORMS (picks_at PREFIXED.rows PREFIXED_PICKS key) bytes.now) }
-{
-    read_picked(&FORMS, &PREFIXED, &PREFIXED_PICKS, key, bytes)
-}
-
-/// An instruction by the table, where other bytes than REX and 0f may stand before the opcode.
-pub fn read_prefixed(bytes: &[u8]) -> Result<(Instr, &[u8]), Miss>
+/// An instruction by the table, where more than one prefix stands before the opcode, or the bytes end before it.
+pub fn read_apart(bytes: &[u8]) -> Result<(Instr, &[u8]), Miss>
     ensures { Gives (λ x. (x.0, x.1.now)) result (any_at forms bytes.now) }
 {
-    match key_of(bytes) {
-        Some(key) => read_by_key(key, bytes),
-        None => read_listed(bytes),
+    if has_long_prefix(bytes) {
+        read_some(&FORMS, &LONG_PREFIXED, bytes)
+    } else {
+        read_listed(bytes)
     }
 }

@@ -23,12 +23,12 @@ pub const ONE_BYTE: [u8; 256] = [
     0x00, 0x00, 0x00, 0x00, 0x00, 0x00, 0x00, 0x1f, 0x20, 0x21, 0x00, 0x00, 0x00, 0x00, 0x00, 0x22,
 ];
 
-/// The map of opcodes behind 0f, in the same way.
+/// The map of opcodes behind 0f, in the same way. 38 is no opcode, but the second of two bytes before one.
 pub const TWO_BYTE: [u8; 256] = [
     0x00, 0x00, 0x00, 0x00, 0x00, 0x23, 0x00, 0x00, 0x00, 0x00, 0x00, 0x24, 0x00, 0x00, 0x00, 0x00,
     0x00, 0x00, 0x00, 0x00, 0x00, 0x00, 0x00, 0x00, 0x00, 0x00, 0x00, 0x00, 0x00, 0x00, 0x00, 0x25,
     0x00, 0x00, 0x00, 0x00, 0x00, 0x00, 0x00, 0x00, 0x00, 0x00, 0x00, 0x00, 0x00, 0x00, 0x00, 0x00,
-    0x00, 0x00, 0x00, 0x00, 0x00, 0x00, 0x00, 0x00, 0x00, 0x00, 0x00, 0x00, 0x00, 0x00, 0x00, 0x00,
+    0x00, 0x00, 0x00, 0x00, 0x00, 0x00, 0x00, 0x00, 0x2a, 0x00, 0x00, 0x00, 0x00, 0x00, 0x00, 0x00,
     0x26, 0x26, 0x26, 0x26, 0x26, 0x26, 0x26, 0x26, 0x26, 0x26, 0x26, 0x26, 0x26, 0x26, 0x26, 0x26,
     0x00, 0x00, 0x00, 0x00, 0x00, 0x00, 0x00, 0x00, 0x00, 0x00, 0x00, 0x00, 0x00, 0x00, 0x00, 0x00,
     0x00, 0x00, 0x00, 0x00, 0x00, 0x00, 0x00, 0x00, 0x00, 0x00, 0x00, 0x00, 0x00, 0x00, 0x00, 0x00,
@@ -44,7 +44,7 @@ pub const TWO_BYTE: [u8; 256] = [
 ];
 
 /// The numbers of the rows that an opcode may stand in, from the lowest on, filled up with 255.
-pub const PICKS: [[u8; 5]; 42] = [
+pub const PICKS: [[u8; 5]; 53] = [
     [255, 255, 255, 255, 255],
     [0, 255, 255, 255, 255],
     [2, 255, 255, 255, 255],
@@ -87,6 +87,17 @@ pub const PICKS: [[u8; 5]; 42] = [
     [52, 255, 255, 255, 255],
     [28, 255, 255, 255, 255],
     [18, 255, 255, 255, 255],
+    [74, 255, 255, 255, 255],
+    [47, 51, 255, 255, 255],
+    [57, 255, 255, 255, 255],
+    [59, 255, 255, 255, 255],
+    [75, 255, 255, 255, 255],
+    [23, 255, 255, 255, 255],
+    [22, 255, 255, 255, 255],
+    [62, 255, 255, 255, 255],
+    [70, 71, 72, 255, 255],
+    [63, 69, 255, 255, 255],
+    [68, 73, 255, 255, 255],
 ];
 
 macro_rules! at {
@@ -95,23 +106,28 @@ macro_rules! at {
     };
 }
 
-/// Where other bytes than REX and 0f stand before the opcode: by the prefix, and by 0x0f38 for 0f 38, the
-/// number of a list in `PREFIXED_PICKS`.
-pub const PREFIXED: Rows<5> = Rows {
+/// The opcodes of one byte behind a prefix: for the prefix and the opcode, as 0xf390 for F3 90, the number
+/// of their list in `PICKS`. Those that no row has are missing.
+pub const PREFIXED: Rows<3> = Rows {
     rows: [
-        at!(0x3e => 0),
-        at!(0x66 => 1),
-        at!(0xf0 => 2),
-        at!(0xf3 => 3),
-        at!(0x0f38 => 4),
+        at!(0x3eff => 0x2b),
+        at!(0x6690 => 0x2c),
+        at!(0xf390 => 0x31),
     ],
 };
 
-/// The numbers of the rows with these bytes before the opcode, in the same way.
-pub const PREFIXED_PICKS: [[u8; 8]; 5] = [
-    [47, 51, 255, 255, 255, 255, 255, 255],
-    [57, 59, 60, 61, 75, 255, 255, 255],
-    [22, 23, 255, 255, 255, 255, 255, 255],
-    [62, 63, 68, 69, 70, 71, 72, 73],
-    [74, 255, 255, 255, 255, 255, 255, 255],
-];
+/// The opcodes behind a prefix and 0f, in the same way, as 0xf3ae for F3 0F AE.
+pub const PREFIXED_TWO_BYTE: Rows<7> = Rows {
+    rows: [
+        at!(0x661f => 0x2d),
+        at!(0x6638 => 0x2e),
+        at!(0xf0b1 => 0x2f),
+        at!(0xf0c1 => 0x30),
+        at!(0xf301 => 0x32),
+        at!(0xf31e => 0x33),
+        at!(0xf3ae => 0x34),
+    ],
+};
+
+/// The numbers of the rows with more than one prefix, which all begin by 66 66 or 66 2e.
+pub const LONG_PREFIXED: [u8; 2] = [60, 61];

@@ -6,9 +6,9 @@ ghost use Rattle.cet_isa.specs.Meaning.{instr_of};
 ghost use Rattle.cet_isa.specs.Spells.{has, allows, rex_pattern, places, imm_len};
 ghost use Rattle.cet_isa.specs.Reading.{byte_at, cells_at, bytes_at, operand_at, read_at, form_at, row_at, any_at};
 ghost use Rattle.cet_decode.specs.Views.{pattern_view, place_view, wide_view, rex_view, imm_view, kind_view, form_view, fields_view, Gives};
-ghost use Rattle.cet_decode.specs.Lead.{rex_at, operand_behind, row_behind, takes_modrm, takes};
+ghost use Rattle.cet_decode.specs.Lead.{rex_at, operand_behind, opcode_from, row_behind, next_of, takes_next, takes};
 
-use crate::addressing::{disp_count, operand, sib_count};
+use crate::addressing::{disp_count, operand, operand_at_zero, sib_count};
 use crate::fields::{Parts, byte, signed};
 use crate::forms::{FORMS, Form, Imm, Pattern, Rex, Wide};
 use crate::meaning::instr;
@@ -98,9 +98,9 @@ fn bytes_of(count: usize, bytes: &[u8]) -> Result<(&[u8], &[u8]), Miss>
 fn operand_behind(rex: u8, modrm: u8, bytes: &[u8]) -> Result<(Operand, &[u8]), Miss>
     ensures { Gives (λ x. (x.0, x.1.now)) result (operand_behind rex modrm bytes.now) }
 {
-    // Neither SIB nor displacement follows. A row without ModRM counts as one with ModRM 0.
+    // Neither SIB nor displacement follows.
     if modrm == 0 {
-        return Ok((operand(rex, 0, 0, 0), bytes));
+        return Ok((operand_at_zero(rex), bytes));
     }
     let (sib, rest) = bytes_of(sib_count(modrm), bytes)?;
     let sib = byte(sib, 0);
@@ -170,19 +170,31 @@ fn read_allowed<'a>(form: &Form, rex: Rex, bytes: &'a [u8]) -> Result<(Instr, &'
     }
 }
 
-/// The fields and the immediate by a row, from the byte behind its opcode on, and the bytes behind them; REX is 0
-/// where there is none.
+/// The opcode: the byte by which the row was found, or the one behind it where that is the second before the opcode.
+#[inline(always)]
+fn opcode_of<'a>(form: &Form, found: u8, bytes: &'a [u8]) -> Result<(u8, &'a [u8]), Miss>
+    ensures { Gives (λ x. (x.0, x.1.now)) result (opcode_from (place_view form.now.escape2) (pattern_view form.now.opcode) found bytes.now) }
+{
+    match form.escape2 {
+        None => Ok((found, bytes)),
+        Some(_) => byte_of(Some(form.opcode), bytes),
+    }
+}
+
+/// The fields and the immediate by a row, from behind the byte by which it was found, and the bytes behind them;
+/// REX is 0 where there is none.
 #[inline(always)]
 #[tactic(auto, unfolding(crate::specs::Lead::row_behind))]
 pub fn fields_behind<'a>(
     form: &Form,
     rex: u8,
-    opcode: u8,
+    found: u8,
     bytes: &'a [u8],
 ) -> Result<(Parts, &'a [u8], &'a [u8]), Miss>
-    ensures { Gives (λ x. (instr_of (kind_view form.now.kind) (fields_view x.0 x.1.now), x.2.now)) result (row_behind (form_view form.now) rex opcode bytes.now) }
+    ensures { Gives (λ x. (instr_of (kind_view form.now.kind) (fields_view x.0 x.1.now), x.2.now)) result (row_behind (form_view form.now) rex found bytes.now) }
 {
-    let (modrm, rest) = byte_of(form.modrm, bytes)?;
+    let (opcode, rest) = opcode_of(form, found, bytes)?;
+    let (modrm, rest) = byte_of(form.modrm, rest)?;
     let (rm, rest) = operand_behind(rex, modrm, rest)?;
     let (imm, rest) = bytes_of(imm_count(form.imm), rest)?;
     let parts = Parts {
@@ -206,8 +218,19 @@ fn rex_of(rex: u8) -> Rex
     }
 }
 
-fn takes_modrm(place: Option<Pattern>, bytes: &[u8]) -> bool
-    ensures { result ≡ takes_modrm (place_view place) bytes.now }
+/// What the row has behind the byte by which it is found: ModRM, or its opcode.
+#[inline(always)]
+fn next_of(form: &Form) -> Option<Pattern>
+    ensures { place_view result ≡ next_of (place_view form.now.escape2) (pattern_view form.now.opcode) (place_view form.now.modrm) }
+{
+    match form.escape2 {
+        None => form.modrm,
+        Some(_) => Some(form.opcode),
+    }
+}
+
+fn takes_next(place: Option<Pattern>, bytes: &[u8]) -> bool
+    ensures { result ≡ takes_next (place_view place) bytes.now }
 {
     let Some(pattern) = place else {
         return true;
@@ -218,11 +241,11 @@ fn takes_modrm(place: Option<Pattern>, bytes: &[u8]) -> bool
     }
 }
 
-/// Whether a row takes this REX (0 for none), and the first of the bytes behind the opcode as its ModRM.
+/// Whether a row takes this REX (0 for none), and the first of the bytes behind that by which it was found.
 pub fn takes(form: &Form, rex: u8, bytes: &[u8]) -> bool
     ensures { result ≡ takes (form_view form.now) rex bytes.now }
 {
-    is_allowed(form.wide, rex_of(rex)) && takes_modrm(form.modrm, bytes)
+    is_allowed(form.wide, rex_of(rex)) && takes_next(next_of(form), bytes)
 }
 
 /// An instruction by this row, from its first byte on.

@@ -1,6 +1,6 @@
 //! Instructions by their bytes, as GNU as assembles them or as the manual has them.
 
-use super::maps::PREFIXED;
+use super::maps::{PREFIXED, PREFIXED_TWO_BYTE};
 use super::{Decoded, decode};
 use cet_isa::{Base, Instr, Mem, Operand, Reg, Size};
 
@@ -27,12 +27,23 @@ fn load(dst: Reg, src: Mem) -> Instr {
 
 #[test]
 fn no_instruction(rt: HostRuntime) {
-    let short: [&[u8]; 4] = [&[], &[0x48], &[0xf3, 0x0f, 0x01], &[0x66, 0x66, 0x2e]];
+    let short: [&[u8]; 9] = [
+        &[],
+        &[0x48],
+        &[0xf3, 0x0f, 0x01],
+        &[0x66, 0x66, 0x2e],
+        &[0xf0, 0x48],
+        &[0xf3, 0x0f, 0x1e],
+        &[0x48, 0x0f, 0x38],
+        &[0x66, 0x48, 0x0f, 0x38, 0xf5],
+        &[0x66, 0x66],
+    ];
     for bytes in short {
         assert_eq!(rt; decode(bytes), Decoded::Short, "at {bytes:?}");
     }
-    // A register for RSTORSSP and no REX for INCSSPQ; REX before a prefix, RET, NOP and a jump.
-    let unknown: [&[u8]; 9] = [
+    // A register for RSTORSSP and no REX for INCSSPQ; REX before a prefix, RET, NOP and a jump; a prefix before
+    // 0f, before an opcode without it, and before another prefix.
+    let unknown: [&[u8]; 13] = [
         &[0xf3, 0x0f, 0x01, 0xeb],
         &[0xf3, 0x0f, 0xae, 0xe8],
         &[0x00],
@@ -42,6 +53,10 @@ fn no_instruction(rt: HostRuntime) {
         &[0x48, 0xe8, 0, 0, 0, 0],
         &[0xf3, 0xc3],
         &[0x2e, 0x66, 0x90],
+        &[0x3e, 0x0f],
+        &[0xf3, 0x01, 0x2b],
+        &[0xf0, 0x66, 0x90],
+        &[0xf3, 0x66, 0x90],
     ];
     for bytes in unknown {
         assert_eq!(rt; decode(bytes), Decoded::Unknown, "at {bytes:?}");
@@ -118,8 +133,74 @@ fn addressing(rt: HostRuntime) {
 }
 
 #[test]
-fn prefixes_have_one_list_each(rt: HostRuntime) {
+fn opcodes_have_one_list_each(rt: HostRuntime) {
     assert!(rt; PREFIXED.disjoint());
+    assert!(rt; PREFIXED_TWO_BYTE.disjoint());
+}
+
+#[test]
+fn behind_prefixes(rt: HostRuntime) {
+    let rbx = mem(Base::Reg(Reg::Rbx), None, 1, 0);
+    let rows: [(&[u8], Decoded); 10] = [
+        (
+            &[0x3e, 0x41, 0xff, 0xe3],
+            ok(
+                Instr::JmpInd {
+                    target: Operand::Reg(Reg::R11),
+                    notrack: true,
+                },
+                4,
+            ),
+        ),
+        (
+            &[0xf0, 0x48, 0x0f, 0xc1, 0x03],
+            ok(
+                Instr::LockXadd {
+                    mem: rbx,
+                    reg: Reg::Rax,
+                },
+                5,
+            ),
+        ),
+        (
+            &[0xf0, 0x48, 0x0f, 0xb1, 0x0b],
+            ok(
+                Instr::LockCmpxchg {
+                    mem: rbx,
+                    reg: Reg::Rcx,
+                },
+                5,
+            ),
+        ),
+        (
+            &[0x48, 0x0f, 0x38, 0xf6, 0x03],
+            ok(
+                Instr::Wrssq {
+                    mem: rbx,
+                    reg: Reg::Rax,
+                },
+                5,
+            ),
+        ),
+        (
+            &[0x66, 0x48, 0x0f, 0x38, 0xf5, 0x03],
+            ok(
+                Instr::Wrussq {
+                    mem: rbx,
+                    reg: Reg::Rax,
+                },
+                6,
+            ),
+        ),
+        (&[0xf3, 0x90], ok(Instr::Pause, 2)),
+        (&[0xf3, 0x0f, 0x1e, 0xfa], ok(Instr::Endbr64, 4)),
+        (&[0x66, 0x0f, 0x1f, 0x03], ok(Instr::Nop, 4)),
+        (&[0x66, 0x2e, 0x0f, 0x1f, 0x03], ok(Instr::Nop, 5)),
+        (&[0x66, 0x66, 0x2e, 0x0f, 0x1f, 0x03], ok(Instr::Nop, 6)),
+    ];
+    for (bytes, want) in rows {
+        assert_eq!(rt; decode(bytes), want, "at {bytes:?}");
+    }
 }
 
 fn is_sent<T: Send>() {}

@@ -1,6 +1,6 @@
 use Rattle.std.proofs.Common.{arith}
 use Rattle.cet_isa.proofs.ReadingLaws.{forms_length}
-use Rattle.cet_decode.proofs.decoder.answer_prefixed.Goals as goal
+use Rattle.cet_decode.proofs.decoder.answer_apart.Goals as goal
 
 pub overflow_sub-result : goal.overflow_sub-result
 overflow_sub-result c = let l = forms_length _ _ c.in-Ok.ensures in omega (arith, l.some)

@@ -1,4 +1,4 @@
-use Rattle.cet_decode.proofs.index.row_of.Goals as goal
+use Rattle.cet_decode.proofs.index.row_plain.Goals as goal
 
 pub returns-then-lead : goal.returns-then-lead
 returns-then-lead c = rw c.if-lead.true c.row_mapped.ensures
