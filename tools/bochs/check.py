@@ -18,8 +18,8 @@ from guest import compare_cetvm
 from sequences import sequences
 from services import services
 
-# The instructions that cetvm runs; programs with others are for Bochs alone. `syscall` is map_shadow_stack, and in
-# examples and cases also exit and exit_group.
+# The instructions that cetvm runs; programs with others are for Bochs alone. `syscall` is map_shadow_stack, mmap or
+# munmap, and in examples and cases also exit and exit_group.
 BUILT = {
     "call", "call_register", "call_memory", "ret", "ret_number", "push_register", "push_number", "push_memory", "pop",
     "mov_number", "mov_number_32", "mov_register", "mov_load", "mov_store", "add_number", "stc", "clc", "nop", "jmp",

@@ -3,7 +3,7 @@ from collections import namedtuple
 
 REGISTERS = "rax rcx rdx rbx rsp rbp rsi rdi r8 r9 r10 r11 r12 r13 r14 r15".split()
 RAX, RCX, RDX, RBX, RSP, RBP, RSI, RDI = range(8)
-R11 = 11
+R10, R11 = 10, 11
 MASK = (1 << 64) - 1
 
 Memory = namedtuple("Memory", "base displacement")

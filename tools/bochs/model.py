@@ -1,20 +1,21 @@
 """The machine once more: one thread of cetvm, and, with the differences of differences.py, of Bochs. It is written from
 docs/ and from Intel's manual, without a look at the crates, so that it agrees with them only where both are right."""
-from instructions import MASK, R11, RAX, RBP, RCX, RDI, RDX, RSI, RSP, encode
+from instructions import MASK, R10, R11, RAX, RBP, RCX, RDI, RDX, RSI, RSP, encode
 
 CF, PF, AF, ZF, SF, OF = 1, 4, 16, 64, 128, 2048
 STATUS = CF | PF | AF | ZF | SF | OF
 TEXT = 0x401000
 STACK = (0x7FFC0000, 0x80000000)
 STACK_TOP = 0x7FFFFFC0
+MMAP = (0x100000000, 0x100400000)
 SHADOW = 0x200000000
 SHADOW_END = 0x200400000
 KERNEL = 0xFFFF800000000000
 FIRST_REGION = (0x200001000, 0x200009000)
-EXIT, EXIT_GROUP, MAP_SHADOW_STACK = 60, 231, 453
+MAP, UNMAP, EXIT, EXIT_GROUP, MAP_SHADOW_STACK = 9, 11, 60, 231, 453
 ENOMEM, EEXIST, EINVAL, ENOSPC, ERANGE, ENOSYS, EOVERFLOW = 12, 17, 22, 28, 34, 38, 75
 # Place of each range: its first page number, its first address, the address past its end.
-RANGES = ((0, 0x400000, 0x800000), (1024, *STACK), (1088, 0x100000000, 0x100400000), (2112, SHADOW, SHADOW_END),
+RANGES = ((0, 0x400000, 0x800000), (1024, *STACK), (1088, *MMAP), (2112, SHADOW, SHADOW_END),
           (3136, KERNEL, KERNEL + 0x12000))
 PRESENT, WRITABLE, USER, ACCESSED, DIRTY, NO_EXECUTE = 1, 2, 4, 32, 64, 1 << 63
 LOAD, STORE, FETCH, SHADOW_LOAD, SHADOW_STORE = range(5)
@@ -43,7 +44,9 @@ class Machine:
         self.rip, self.flags, self.ssp = TEXT, 2, FIRST_REGION[1]
         self.words = {}
         self.regions = [FIRST_REGION]
-        self.drawn = 9
+        # Pages of the mmap area and the shadow area that are present, by their addresses.
+        self.pages = set(range(*FIRST_REGION, 4096))
+        self.mapped, self.drawn = 0, 9
         self.ended = None
         self.met = set()
 
@@ -51,7 +54,8 @@ class Machine:
         other = Machine(self.text, self.instructions, bochs)
         other.registers, other.words = list(self.registers), dict(self.words)
         other.rip, other.flags, other.ssp = self.rip, self.flags, self.ssp
-        other.regions, other.drawn = list(self.regions), self.drawn
+        other.regions, other.pages = list(self.regions), set(self.pages)
+        other.mapped, other.drawn = self.mapped, self.drawn
         return other
 
     # Memory
@@ -62,8 +66,8 @@ class Machine:
             return PRESENT | USER | ACCESSED
         if STACK[0] <= address < STACK[1]:
             return PRESENT | WRITABLE | USER | ACCESSED | DIRTY | NO_EXECUTE
-        if any(start <= address < end for start, end in self.regions):
-            return PRESENT | USER | ACCESSED | DIRTY | NO_EXECUTE
+        if address & ~4095 in self.pages:
+            return PRESENT | USER | ACCESSED | DIRTY | NO_EXECUTE | (WRITABLE if address < MMAP[1] else 0)
         if KERNEL <= address < KERNEL + 4096:
             return PRESENT | WRITABLE | ACCESSED | DIRTY | NO_EXECUTE
         if KERNEL + 0x2000 <= address < KERNEL + 0x11000 and not address >> 12 & 1:
@@ -194,16 +198,46 @@ class Machine:
         return self.set_register(i.register, result)
 
     def syscall(self, _):
-        """exit, exit_group and map_shadow_stack; every other number answers ENOSYS."""
+        """exit, exit_group, mmap, munmap and map_shadow_stack; every other number answers ENOSYS."""
         registers, number = self.registers, self.registers[RAX]
         if number in (EXIT, EXIT_GROUP):
             status = registers[RDI] & 255
             self.ended = ("exit" if number == EXIT else "group", status)
             return ("sys", 0, number, status)
         size = registers[RSI]
-        start = self.map_shadow_stack(registers[RDI], size, registers[RDX]) if number == MAP_SHADOW_STACK else -ENOSYS
-        registers[RAX], registers[RCX], registers[R11] = start & MASK, self.after, self.flags & ~AF
-        return ("claim", 0, start, size) if start > 0 else ("sys", 0, number, start & MASK)
+        result = -ENOSYS
+        if number == MAP:
+            result = self.map(registers[RDI], size, registers[RDX], registers[R10])
+        elif number == UNMAP:
+            result = self.unmap(registers[RDI], size)
+        elif number == MAP_SHADOW_STACK:
+            result = self.map_shadow_stack(registers[RDI], size, registers[RDX])
+        registers[RAX], registers[RCX], registers[R11] = result & MASK, self.after, self.flags & ~AF
+        made = number == MAP_SHADOW_STACK and result > 0
+        return ("claim", 0, result, size) if made else ("sys", 0, number, result & MASK)
+
+    def map(self, address, length, rights, flags):
+        """The address of the new pages, or minus an error."""
+        pages = length + 4095 >> 12
+        if address or not length or rights != 3 or flags not in (0x22, 0x20022):
+            return -EINVAL
+        if pages > 1024:
+            return -ENOMEM
+        drawn, self.mapped = self.mapped, self.mapped + pages
+        if drawn + pages > 1024:
+            return -ENOMEM
+        start = MMAP[0] + 4096 * drawn
+        self.pages |= set(range(start, start + 4096 * pages, 4096))
+        return start
+
+    def unmap(self, address, length):
+        """0, or minus an error."""
+        end = address + (length + 4095 & ~4095)
+        within = any(low <= address and end <= high for low, high in (MMAP, (SHADOW, SHADOW_END)))
+        if address & 4095 or not length or not within:
+            return -EINVAL
+        self.pages -= set(range(address, end, 4096))
+        return 0
 
     def map_shadow_stack(self, address, size, flags):
         """The start of the new stack, or minus an error."""
@@ -221,6 +255,7 @@ class Machine:
             return -ENOMEM
         start = SHADOW + 4096 * (drawn + 1)
         self.regions.append((start, start + 4096 * pages))
+        self.pages |= set(range(start, start + 4096 * pages, 4096))
         if token:
             self.words[start + size - 8] = start + size | 1
         return start

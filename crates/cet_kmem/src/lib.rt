@@ -1,9 +1,10 @@
-//! Services of the kernel that make memory: map_shadow_stack.
+//! Services of the kernel on memory: mmap, munmap and map_shadow_stack.
 //!
 //! Each is a script of accesses in the `specs/` of cet_page, without the kernel's entry round it. The
 //! functions here run such a script over the answers that a thread has kept.
 #![tactic(auto)]
 
+mod mappings;
 mod services;
 mod shadow_stacks;
 #[cfg(test)]

@@ -3,12 +3,19 @@
 ghost use Rattle.std.specs.Prelude.{◌≡◌, ◌-◌, ◌^◌, ◌<◌};
 ghost use Rattle.cet_page.specs.Script.{play};
 ghost use Rattle.cet_page.specs.Plays.{Refines, NextInRange, next_by, with_leaving};
-ghost use Rattle.cet_page.specs.MapShadowStack.{memory_service};
+ghost use Rattle.cet_page.specs.MemoryServices.{memory_service};
 
+use crate::mappings::{mmap, munmap};
 use crate::shadow_stacks::map_shadow_stack;
 use cet_isa::{Arch, RAX, Record};
 use cet_page::{Cursor, Errno, Leaving, Next, Suspended, Vals, failed};
 use cet_words::Job;
+
+/// The number of mmap.
+const MMAP: u64 = 9;
+
+/// The number of munmap.
+const MUNMAP: u64 = 11;
 
 /// The number of map_shadow_stack.
 const MAP_SHADOW_STACK: u64 = 453;
@@ -20,6 +27,8 @@ pub fn follow(arch: &Arch, at: &mut Cursor) -> Result<(Arch, Record, Leaving), S
     ensures { Refines (play (memory_service arch.now) at.old.left at.old.rest.now) result at.new.left at.new.rest.now }
 {
     match arch.regs[RAX] {
+        MMAP => mmap(arch, at),
+        MUNMAP => munmap(arch, at),
         MAP_SHADOW_STACK => map_shadow_stack(arch, at),
         _ => Ok(failed(arch, Errno::NoSys)),
     }

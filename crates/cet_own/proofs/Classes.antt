@@ -4,7 +4,7 @@ use Rattle.std.specs.Prelude.{slice_index, slice_set, ◌==◌, if◌then◌else
 use Rattle.cet_words.specs.Access.{answer, after}
 use Rattle.cet_words.specs.Entries.{entry_of}
 use Rattle.cet_words.specs.Job.{ImageData}
-use Rattle.cet_words.specs.Layout.{exit_word, entry_word, token, token_word, kernel_return, first_entry_word, first_kernel_page, first_shadow_page}
+use Rattle.cet_words.specs.Layout.{exit_word, entry_word, token, token_word, kernel_return, first_entry_word, first_kernel_page, first_mmap_page, first_shadow_page}
 use Rattle.cet_words.specs.Change.{Change, Called, Returned, Ended, Busied, Freed}
 use Rattle.cet_words.specs.declared.accesses.Access.{Access}
 use Rattle.cet_words.specs.declared.accesses.Access.TheVariants as access
@@ -231,8 +231,9 @@ module _ {image : ImageData} {t k : ℕ} {past : List Visit} {b : Book} {a : Acc
         },
       ))
 
-  -- the entry of a page of the shadow area is stored: 0, or where the page lies in a region its present one
-  pub sets_page : (page x : ℕ) → a ≡ access.Store (entry_word page) x → first_shadow_page ≤ page → page < first_kernel_page → IsEntry image page x → (x ≢ 0 → (i : ℕ) × LiesIn (region b i) page) → changes ≡ [] → Owed image t k past b a v changes
+  -- The entry of a page of the mmap area or the shadow area is stored: 0, or its present one; in the shadow area that of a page
+  -- in a region.
+  pub sets_page : (page x : ℕ) → a ≡ access.Store (entry_word page) x → first_mmap_page ≤ page → page < first_kernel_page → IsEntry image page x → (x ≢ 0 → first_shadow_page ≤ page → (i : ℕ) × LiesIn (region b i) page) → changes ≡ [] → Owed image t k past b a v changes
   sets_page page x e lo hi entry lies ev = quiet ev (leaves_by e (other_word (entry_word page) (omega arith)) (next_other (entry_word page) (omega arith))) (tells_below t b v e (λ j l. not_below (entry_word page) j (λ z. omega arith))) (λ words is h. subst (λ c. Holds image (after words c) b × Spared b words (after words c)) (sym e) (
     holds_entry image words b page x lo hi entry lies h,
     record {
@@ -241,11 +242,11 @@ module _ {image : ImageData} {t k : ℕ} {past : List Visit} {b : Book} {a : Acc
     },
   ))
 
-  pub clears : (page : ℕ) → a ≡ access.Store (entry_word page) 0 → first_shadow_page ≤ page → page < first_kernel_page → changes ≡ [] → Owed image t k past b a v changes
-  clears page e lo hi ev = sets_page page 0 e lo hi (inl refl) (λ n. absurd (n refl)) ev
+  pub clears : (page : ℕ) → a ≡ access.Store (entry_word page) 0 → first_mmap_page ≤ page → page < first_kernel_page → changes ≡ [] → Owed image t k past b a v changes
+  clears page e lo hi ev = sets_page page 0 e lo hi (inl refl) (λ n _. absurd (n refl)) ev
 
   pub makes_page : (page i : ℕ) → a ≡ access.Store (entry_word page) (entry_of image page) → first_shadow_page ≤ page → page < first_kernel_page → LiesIn (region b i) page → changes ≡ [] → Owed image t k past b a v changes
-  makes_page page i e lo hi lies ev = sets_page page (entry_of image page) e lo hi (inr refl) (λ _. (i, lies)) ev
+  makes_page page i e lo hi lies ev = sets_page page (entry_of image page) e (omega arith) hi (inr refl) (λ _ _. (i, lies)) ev
 
   -- the way in finds the supervisor stack busy
   pub refused : (value : ℕ) → k < 8 → a ≡ access.CompareExchange (token_word k) (token k) value → v ≢ token k → changes ≡ [] → Owed image t k past b a v changes

@@ -4,7 +4,7 @@ use Rattle.std.proofs.Common.{◌-◌, ◌≡◌, ◌≢◌, ℕ, ◌+◌, ◌<�
 use Rattle.std.specs.Prelude.{slice_index, slice_set}
 use Rattle.std.proofs.lemmas.Bool.Decides.{eqb_tells}
 use Rattle.cet_words.specs.Job.{ImageData}
-use Rattle.cet_words.specs.Layout.{exit_word, entry_word, token, token_word, action_word, first_entry_word, first_kernel_page, first_kernel_word, first_shadow_page, first_shadow_word, word_count}
+use Rattle.cet_words.specs.Layout.{exit_word, entry_word, token, token_word, action_word, first_entry_word, first_kernel_page, first_kernel_word, first_mmap_page, first_shadow_page, first_shadow_word, word_count}
 use Rattle.cet_book.specs.Book.{Book, region, top, stack_of, put_stack}
 use Rattle.cet_book.specs.Shape.{Shape}
 use Rattle.cet_book.proofs.Edits.{SameBounds}
@@ -139,8 +139,9 @@ holds_below_token image words b k x l h = record {
   ending = ending_out words (token_word k - 1) x (omega arith) h.ending;
 }
 
--- a word that a page's entry may be is stored as that of a page of the shadow area, where it isn't 0 one of a region
-pages_entry : (image : ImageData) (words : List ℕ) (b : Book) (page x : ℕ) → length words ≡ word_count → first_shadow_page ≤ page → page < first_kernel_page → IsEntry image page x → (x ≢ 0 → (i : ℕ) × LiesIn (region b i) page) → Pages image words b → Pages image (slice_set words (entry_word page) x) b
+-- a word that a page's entry may be is stored as that of a page of the mmap area or the shadow area, in the latter, where it
+-- isn't 0, of a page of a region
+pages_entry : (image : ImageData) (words : List ℕ) (b : Book) (page x : ℕ) → length words ≡ word_count → first_mmap_page ≤ page → page < first_kernel_page → IsEntry image page x → (x ≢ 0 → first_shadow_page ≤ page → (i : ℕ) × LiesIn (region b i) page) → Pages image words b → Pages image (slice_set words (entry_word page) x) b
 pages_entry image words b page x size lo hi is lies h =
     let inside : entry_word page < length words = omega arith in
     let same : (p : ℕ) → p ≢ page → slice_index (slice_set words (entry_word page) x) (entry_word p) ≡ slice_index words (entry_word p) = λ p n. (let other : entry_word p ≢ entry_word page = omega arith in get_or-set_other words (entry_word page) (entry_word p) x 0 other) in
@@ -155,13 +156,14 @@ pages_entry image words b page x size lo hi is lies h =
           same p n ∙ h.fixed p f;
       shadow = λ p lo' hi' n. elim (eqb_tells p page) [
         | inl u ↦
-            let l = lies (λ z. n (subst (λ q. slice_index (slice_set words (entry_word page) x) (entry_word q) ≡ 0) (sym u.1) (here ∙ z))) in
+            let e = u.1 in
+            let l = lies (λ z. n (subst (λ q. slice_index (slice_set words (entry_word page) x) (entry_word q) ≡ 0) (sym u.1) (here ∙ z))) (omega arith) in
             (l.0, subst (LiesIn (region b l.0)) (sym u.1) l.1)
         | inr u ↦ h.shadow p lo' hi' (λ z. n (same p u.1 ∙ z))
       ];
     }
 
-pub holds_entry : (image : ImageData) (words : List ℕ) (b : Book) (page x : ℕ) → first_shadow_page ≤ page → page < first_kernel_page → IsEntry image page x → (x ≢ 0 → (i : ℕ) × LiesIn (region b i) page) → Holds image words b → Holds image (slice_set words (entry_word page) x) b
+pub holds_entry : (image : ImageData) (words : List ℕ) (b : Book) (page x : ℕ) → first_mmap_page ≤ page → page < first_kernel_page → IsEntry image page x → (x ≢ 0 → first_shadow_page ≤ page → (i : ℕ) × LiesIn (region b i) page) → Holds image words b → Holds image (slice_set words (entry_word page) x) b
 holds_entry image words b page x lo hi is lies h = record {
   size = size_kept words (entry_word page) x h.size;
   sound = h.sound;

@@ -42,6 +42,7 @@ pub mod Looks
 pub mod ShadowClaims
 pub mod KernelParts
 pub mod MapClaims
+pub mod MmapClaims
 pub mod Steps
 pub mod Rows
 pub mod Threads

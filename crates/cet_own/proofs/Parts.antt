@@ -5,7 +5,7 @@ use Rattle.std.specs.Prelude.{option_map, option_and_then, ◌==◌, ◌≢◌}
 use Rattle.std.proofs.lemmas.Bool.{eqb-true}
 use Rattle.std.proofs.lemmas.Bool.Decides.{nat_tests}
 use Rattle.cet_words.specs.Job.{JobData}
-use Rattle.cet_words.specs.Layout.{exit_word, page_at, entry_word, token_word, first_kernel_page, first_shadow_page, shadow_end, shadow_start}
+use Rattle.cet_words.specs.Layout.{exit_word, page_at, entry_word, token_word, first_kernel_page, first_mmap_page, first_shadow_page, shadow_end, shadow_start}
 use Rattle.cet_words.specs.Change.{Change}
 use Rattle.cet_words.specs.declared.accesses.Access.TheVariants as access
 use Rattle.cet_isa.specs.Address.{canonical}
@@ -154,8 +154,8 @@ module _ (job : JobData) (arch : Arch) where
   fetch_add_then Q past before s word value f out top h =
       claim_bind Q past before s (fetch_add word value) f (top, λ now r v known. (adds word value refl out refl, now, refl, h now r v))
 
-  -- a thread in the kernel stores 0 to entries of pages of the shadow area
-  stores_claim : {d : Progress} (k : ℕ) (lk : k < 8) (Q : List Visit → State → State → Unit {0} → Type 0) (past : List Visit) (before s : State) (count page word value : ℕ) → word ≡ entry_word page → value ≡ 0 → first_shadow_page ≤ page → page + count ≤ first_kernel_page → Inside arch.number k d (progress past) (left_in past (token_word k - 1)) s.book arch.ssp → ((p : List Visit) (z n : State) → Inside arch.number k d (progress p) (left_in p (token_word k - 1)) n.book arch.ssp → Q p z n tt) → Claim job arch Q past before s (stores count word value 0)
+  -- a thread in the kernel stores 0 to entries of pages of the mmap area or the shadow area
+  stores_claim : {d : Progress} (k : ℕ) (lk : k < 8) (Q : List Visit → State → State → Unit {0} → Type 0) (past : List Visit) (before s : State) (count page word value : ℕ) → word ≡ entry_word page → value ≡ 0 → first_mmap_page ≤ page → page + count ≤ first_kernel_page → Inside arch.number k d (progress past) (left_in past (token_word k - 1)) s.book arch.ssp → ((p : List Visit) (z n : State) → Inside arch.number k d (progress p) (left_in p (token_word k - 1)) n.book arch.ssp → Q p z n tt) → Claim job arch Q past before s (stores count word value 0)
   unfolding stores
   stores_claim k lk Q past before s zero page word value e z lo hi inside h = h past before s inside
   stores_claim k lk Q past before s (suc count) page word value e z lo hi inside h = (
@@ -169,5 +169,5 @@ module _ (job : JobData) (arch : Arch) where
   )
 
   -- so it clears these entries
-  pub clears_claim : {d : Progress} (k : ℕ) (lk : k < 8) (Q : List Visit → State → State → Unit {0} → Type 0) (past : List Visit) (before s : State) (count page : ℕ) → first_shadow_page ≤ page → page + count ≤ first_kernel_page → Inside arch.number k d (progress past) (left_in past (token_word k - 1)) s.book arch.ssp → ((p : List Visit) (z n : State) → Inside arch.number k d (progress p) (left_in p (token_word k - 1)) n.book arch.ssp → Q p z n tt) → Claim job arch Q past before s (clears count page)
+  pub clears_claim : {d : Progress} (k : ℕ) (lk : k < 8) (Q : List Visit → State → State → Unit {0} → Type 0) (past : List Visit) (before s : State) (count page : ℕ) → first_mmap_page ≤ page → page + count ≤ first_kernel_page → Inside arch.number k d (progress past) (left_in past (token_word k - 1)) s.book arch.ssp → ((p : List Visit) (z n : State) → Inside arch.number k d (progress p) (left_in p (token_word k - 1)) n.book arch.ssp → Q p z n tt) → Claim job arch Q past before s (clears count page)
   clears_claim k lk Q past before s count page lo hi inside h = stores_claim k lk Q past before s count page (entry_word page) 0 refl refl lo hi inside h

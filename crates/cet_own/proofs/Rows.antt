@@ -40,6 +40,7 @@ use Rattle.cet_own.proofs.Parts.{Fails, Claim, claim_bind, claim_cond, load_then
 use Rattle.cet_own.proofs.GateParts.{gate_in_then, gate_out_then, exit_out_then}
 use Rattle.cet_own.proofs.KernelParts.{Leaves as LeavesOf, Within as WithinBy, failed_claim, serve_claim}
 use Rattle.cet_own.proofs.MapClaims.{map_shadow_stack_claim}
+use Rattle.cet_own.proofs.MmapClaims.{mmap_claim, munmap_claim}
 use Rattle.cet_own.proofs.ShadowClaims.{shadow_stacks_claim}
 use Rattle.cet_own.proofs.Calls.{Ends, EndsRow, call_relative_claim, call_indirect_claim}
 use Rattle.cet_own.proofs.Returns.{ret_claim}
@@ -129,8 +130,10 @@ module _ (job : JobData) (j : IsJob job) (arch : Arch) where
   service_claim past before s free made within =
       claim_cond job arch Leaves past before s (rax arch == 60) _ _ (λ _. exit_claim past before s free made within)
       (λ _. claim_cond job arch Leaves past before s (rax arch == 231) _ _ (λ _. exit_group_claim past before s free within)
+      (λ _. claim_cond job arch Leaves past before s (rax arch == 9) _ _ (λ _. mmap_claim job arch below_eight free past before s within)
+      (λ _. claim_cond job arch Leaves past before s (rax arch == 11) _ _ (λ _. munmap_claim job arch below_eight free past before s within)
       (λ _. claim_cond job arch Leaves past before s (rax arch == 453) _ _ (λ _. map_shadow_stack_claim job arch below_eight free past before s within)
-      (λ _. failed_claim job arch below_eight {drawing = false} {numbering = false} past before s errno.NoSys free within)))
+      (λ _. failed_claim job arch below_eight {drawing = false} {numbering = false} past before s errno.NoSys free within)))))
 
   kill_claim : (past : List Visit) (before s : State) (signal : ℕ) → IsEnding (0x200 + signal) → Within past s → Claim job arch Leaves past before s (kill arch signal)
   unfolding kill

@@ -23,7 +23,7 @@ use Rattle.cet_page.specs.Script.{Script, done, fault, ask, tell, ◌>>=◌}
 use Rattle.cet_page.specs.Page.{allows, page_fault}
 use Rattle.cet_page.specs.Parts.{check_address_as, look_in_as, look_as, probe_in, probe, read_entry, load_as, store_as, compare_exchange_as, swap, fetch_add_as, stores, general_protection}
 use Rattle.cet_page.specs.Values.{limit, width}
-use Rattle.cet_page.specs.Finish.{Row, noted, rdi, rdx, rsi}
+use Rattle.cet_page.specs.Finish.{Row, noted, r10, rdi, rdx, rsi}
 use Rattle.cet_page.specs.Word64.{add64}
 use Rattle.cet_page.specs.Family.{family_of}
 use Rattle.cet_page.specs.Operands.{register, load_word, load_at, write_place, store_at, read_operand}
@@ -31,6 +31,7 @@ use Rattle.cet_page.specs.Arithmetic.{operated, alu, test, imul, move, movzx, mo
 use Rattle.cet_page.specs.Flow.{call, call_next, call_indirect, ret, push, pop, leave as leave_frame, jump_indirect, flow}
 use Rattle.cet_page.specs.Gate.{failed, gate_in, gate_out, freed, leave, entered, exit, exit_group, kill, delivery, deliver}
 use Rattle.cet_page.specs.MapShadowStack.{can_draw, claimed, drawn_start, fill_stack, draw_stack, map_by, map_shadow_stack, refused, seed_if}
+use Rattle.cet_page.specs.Mmap.{draw_pages, map_pages, map_refused, mmap, mmap_by, munmap, munmap_by, unmap_pages, unmapped_page}
 use Rattle.cet_page.specs.Services.{syscall}
 use Rattle.cet_page.specs.ShadowStacks.{rstorssp, save, saveprevssp, incsspq, shadow_stacks}
 use Rattle.cet_page.specs.Fetch.{missing, missing_in}
@@ -273,9 +274,27 @@ tells_map_by arch size flags k None = tells_draw arch size k (flags == 1)
 tells_map : (arch : Arch) (k : ℕ) → Tells EndTells nothing_drawn (map_shadow_stack arch >>= leave k)
 tells_map arch k = tells_map_by arch (rsi arch) (rdx arch) k (refused (rdi arch) (rsi arch) (rdx arch))
 
+-- ---- mmap and munmap: theirs tells of no stack
+
+tells_mmap_by : (arch : Arch) (length k : ℕ) (o : Option Errno) → Tells EndTells nothing_drawn (mmap_by arch length o >>= leave k)
+unfolding draw_pages map_pages
+tells_mmap_by arch length k (Some error) = tells_failed arch error k
+tells_mmap_by arch length k None = search rules depth 99 fits 9000
+
+tells_mmap : (arch : Arch) (k : ℕ) → Tells EndTells nothing_drawn (mmap arch >>= leave k)
+tells_mmap arch k = tells_mmap_by arch (rsi arch) k (map_refused (rdi arch) (rsi arch) (rdx arch) (r10 arch))
+
+tells_munmap_by : (arch : Arch) (length k : ℕ) (o : Option ℕ) → Tells EndTells nothing_drawn (munmap_by arch length o >>= leave k)
+unfolding unmap_pages
+tells_munmap_by arch length k (Some page) = search rules depth 99 fits 9000
+tells_munmap_by arch length k None = tells_failed arch errno.Inval k
+
+tells_munmap : (arch : Arch) (k : ℕ) → Tells EndTells nothing_drawn (munmap arch >>= leave k)
+tells_munmap arch k = tells_munmap_by arch (rsi arch) k (unmapped_page (rdi arch) (rsi arch))
+
 tells_syscall : (job : JobData) (arch : Arch) → Tells EndTells nothing_drawn (syscall job arch)
 unfolding entered exit exit_group
-tells_syscall job arch = search (rules, tells_map) depth 99 fits 9000
+tells_syscall job arch = search (rules, tells_map, tells_mmap, tells_munmap) depth 99 fits 9000
 
 tells_deliver : (job : JobData) (arch : Arch) (e : Fault) → Tells EndTells nothing_drawn (deliver job arch e)
 unfolding entered delivery kill

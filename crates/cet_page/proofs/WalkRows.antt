@@ -4,7 +4,7 @@ use Rattle.std.specs.Prelude.{◌≡◌, ℕ, ◌+◌, Bool, List, [], length, n
 use Rattle.std.proofs.Common.{arith}
 use Rattle.std.proofs.lemmas.Bool.Decides.{nat_tests}
 use Rattle.cet_words.specs.Job.{JobData}
-use Rattle.cet_words.specs.Layout.{page_at, most_stack_pages, pages_of}
+use Rattle.cet_words.specs.Layout.{area_pages, most_stack_pages, page_at, pages_of}
 use Rattle.cet_words.specs.Change.{Change}
 use Rattle.cet_words.specs.declared.accesses.Access.{Access}
 use Rattle.cet_isa.specs.Reading.{Decoding, Read, Short, Unknown}
@@ -36,7 +36,8 @@ use Rattle.cet_page.specs.Flow.{call, call_next, call_indirect, ret, push, pop, 
 use Rattle.cet_page.specs.Gate.{gate_in, entered, exit, exit_group, kill, delivery, deliver}
 use Rattle.cet_page.specs.Gate.{leave as leave_kernel}
 use Rattle.cet_page.specs.MapShadowStack.{fill_stack, draw_stack, map_by, map_shadow_stack, refused}
-use Rattle.cet_page.specs.Finish.{rdi, rdx, rsi}
+use Rattle.cet_page.specs.Mmap.{draw_pages, map_pages, map_refused, mmap, mmap_by, munmap, munmap_by, unmap_pages, unmapped_page}
+use Rattle.cet_page.specs.Finish.{r10, rdi, rdx, rsi}
 use Rattle.cet_page.specs.declared.services.Errno.{Errno}
 use Rattle.cet_page.specs.Services.{syscall}
 use Rattle.cet_page.specs.Fetch.{missing, missing_in}
@@ -122,9 +123,33 @@ walk_map_by arch k w size flags None few = let fits : nat_le (pages_of size) mos
 walk_map : (arch : Arch) (k : ℕ) (w : Bool) → Walk 5 4 w (Ends arch) (map_shadow_stack arch >>= leave_kernel k)
 walk_map arch k w = walk_map_by arch k w (rsi arch) (rdx arch) (refused (rdi arch) (rsi arch) (rdx arch)) (few_pages (rdi arch) (rsi arch) (rdx arch))
 
+-- an area has 1,024 pages: as many may be drawn
+few_mapped : (address length rights flags : ℕ) → map_refused address length rights flags ≡ None → nat_le (pages_of length) area_pages ≡ true
+few_mapped address length rights flags e = grind (arith, nat_tests)
+
+walk_mmap_by : (arch : Arch) (k : ℕ) (w : Bool) (length : ℕ) (o : Option Errno) → (o ≡ None → nat_le (pages_of length) area_pages ≡ true) → Walk 5 4 w (Ends arch) (mmap_by arch length o >>= leave_kernel k)
+unfolding map_pages draw_pages
+walk_mmap_by arch k w length (Some error) few = search rules depth 99 fits 9000
+walk_mmap_by arch k w length None few = let fits : nat_le (pages_of length) area_pages ≡ true = few refl in search rules depth 99 fits 9000
+
+walk_mmap : (arch : Arch) (k : ℕ) (w : Bool) → Walk 5 4 w (Ends arch) (mmap arch >>= leave_kernel k)
+walk_mmap arch k w = walk_mmap_by arch k w (rsi arch) (map_refused (rdi arch) (rsi arch) (rdx arch) (r10 arch)) (few_mapped (rdi arch) (rsi arch) (rdx arch) (r10 arch))
+
+-- and as many lie in an area
+few_unmapped : (address length page : ℕ) → unmapped_page address length ≡ Some page → nat_le (pages_of length) area_pages ≡ true
+few_unmapped address length page e = grind (arith, nat_tests)
+
+walk_munmap_by : (arch : Arch) (k : ℕ) (w : Bool) (length : ℕ) (o : Option ℕ) → ((page : ℕ) → o ≡ Some page → nat_le (pages_of length) area_pages ≡ true) → Walk 5 4 w (Ends arch) (munmap_by arch length o >>= leave_kernel k)
+unfolding unmap_pages
+walk_munmap_by arch k w length None few = search rules depth 99 fits 9000
+walk_munmap_by arch k w length (Some page) few = let fits : nat_le (pages_of length) area_pages ≡ true = few page refl in search rules depth 99 fits 9000
+
+walk_munmap : (arch : Arch) (k : ℕ) (w : Bool) → Walk 5 4 w (Ends arch) (munmap arch >>= leave_kernel k)
+walk_munmap arch k w = walk_munmap_by arch k w (rsi arch) (unmapped_page (rdi arch) (rsi arch)) (few_unmapped (rdi arch) (rsi arch))
+
 pub walk_syscall : (job : JobData) (arch : Arch) → Walk 2 2 false (Ends arch) (syscall job arch)
 unfolding entered exit exit_group
-walk_syscall job arch = search (rules, walk_map) depth 99 fits 9000
+walk_syscall job arch = search (rules, walk_map, walk_mmap, walk_munmap) depth 99 fits 9000
 
 pub walk_deliver : (job : JobData) (arch : Arch) (e : Fault) → Walk 0 0 false (Ends arch) (deliver job arch e)
 unfolding entered delivery kill

@@ -14,6 +14,8 @@ pub mod Flow
 pub mod ShadowStacks
 pub mod Gate
 pub mod MapShadowStack
+pub mod Mmap
+pub mod MemoryServices
 pub mod Services
 pub mod Fetch
 pub mod Row

@@ -7,7 +7,7 @@ use Rattle.cet_words.specs.Layout.{draw_shadow_word, entry_word, first_shadow_pa
 use Rattle.cet_isa.specs.declared.threads.Arch.{Arch}
 use Rattle.cet_isa.specs.declared.threads.Record.{Record}
 use Rattle.cet_isa.specs.declared.threads.What.TheVariants as what
-use Rattle.cet_page.specs.Finish.{rax, rdi, rdx, rsi}
+use Rattle.cet_page.specs.Finish.{rdi, rdx, rsi}
 use Rattle.cet_page.specs.Gate.{Work, failed, served}
 use Rattle.cet_page.specs.Parts.{fetch_add_as, store_as, stores}
 use Rattle.cet_page.specs.Script.{Script, done, ◌>>=◌}
@@ -91,8 +91,3 @@ map_by arch size flags None = draw_stack arch size (pages_of size) (flags == 1)
 
 abbrev pub map_shadow_stack : Arch → Work
 map_shadow_stack arch = map_by arch (rsi arch) (rdx arch) (refused (rdi arch) (rsi arch) (rdx arch))
-
--- ---- the services on memory, by their numbers; every other one is no call
-
-abbrev pub memory_service : Arch → Work
-memory_service arch = if rax arch == 453 then map_shadow_stack arch else done (failed arch errno.NoSys)

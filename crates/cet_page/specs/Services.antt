@@ -5,7 +5,7 @@ use Rattle.cet_words.specs.Job.{JobData}
 use Rattle.cet_isa.specs.declared.threads.Arch.{Arch}
 use Rattle.cet_page.specs.Finish.{rax}
 use Rattle.cet_page.specs.Gate.{Work, entered, exit, exit_group}
-use Rattle.cet_page.specs.MapShadowStack.{memory_service}
+use Rattle.cet_page.specs.MemoryServices.{memory_service}
 use Rattle.cet_page.specs.Script.{Script}
 use Rattle.cet_page.specs.declared.finishes.Finish.{Finish}
 

@@ -12,7 +12,7 @@ pub record ValsData : Type 0 where
 abbrev pub most_values : ℕ
 most_values = 32
 
--- The most accesses of a row: the longest, which clears the entries of 1,024 pages, makes 1,031.
+-- The most accesses of a row: the longest, which writes the entries of 1,024 drawn pages, makes 1,032.
 abbrev pub most_accesses : ℕ
 most_accesses = 4096
 

@@ -11,7 +11,7 @@ use std::marker::Model;
 const MOST_KEPT: usize = 32;
 
 /// The values kept in a row, at most 32, and the number of its accesses so far, at most 4,096; the longest
-/// row makes 1,031. All accesses but stores keep their value.
+/// row makes 1,032. All accesses but stores keep their value.
 #[derive(Drop)]
 pub struct Vals {
     kept: [u64; MOST_KEPT],
