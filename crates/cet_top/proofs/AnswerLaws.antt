@@ -28,8 +28,8 @@ use Rattle.cet_top.specs.declared.outcomes.Outcome.{Outcome}
 use Rattle.cet_top.specs.declared.outcomes.Style.TheVariants as style
 use Rattle.cet_top.specs.declared.status.Status.{Status}
 use Rattle.cet_top.specs.declared.status.Status.TheVariants as status
-use Rattle.cet_top.specs.declared.words.Command.{Command}
-use Rattle.cet_top.specs.declared.words.Command.TheVariants as command
+use Rattle.cet_cli.specs.declared.words.Command.{Command}
+use Rattle.cet_cli.specs.declared.words.Command.TheVariants as command
 use Rattle.cet_top.proofs.ScheduleLaws.{robin_same}
 
 -- ---- refusals

@@ -5,14 +5,14 @@ use Rattle.cet_top.specs.Answer.{Answers, reads, status_of}
 use Rattle.cet_top.specs.Serves.{Answering, Answered, Completes, CountsTooMuch, Cut, GaveTooMuch, IsAnswered, LostTooMuch, Serves, SinkState, Takes, Wrote}
 use Rattle.cet_io.specs.Stream.{AppendsSome, Rose, Tally}
 use Rattle.cet_top.specs.Reading.{ReadSome, ReadToEnd, ReadTooMuch, ReadUntilFault, SourceState, TakesAll, TalliesBy}
-use Rattle.cet_top.specs.Words.{Means}
+use Rattle.cet_cli.specs.Words.{Means}
 use Rattle.cet_top.specs.declared.outcomes.ProcessEnd.{ProcessEnd}
 use Rattle.cet_top.specs.declared.outcomes.ProcessEnd.TheVariants as process
 use Rattle.cet_top.specs.declared.status.Status.{Status}
 use Rattle.cet_top.specs.declared.status.Status.TheVariants as status
-use Rattle.cet_top.specs.declared.words.Command.{Command}
-use Rattle.cet_top.specs.declared.words.Command.TheVariants as command
-use Rattle.cet_top.proofs.CommandWords.{means_same}
+use Rattle.cet_cli.specs.declared.words.Command.{Command}
+use Rattle.cet_cli.specs.declared.words.Command.TheVariants as command
+use Rattle.cet_cli.proofs.CommandWords.{means_same}
 
 -- no run answers a faulty word
 run_no_usage : (end : ProcessEnd) (n : ℕ) → status.Usage n ≡ status_of end → ⊥

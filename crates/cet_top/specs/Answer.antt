@@ -10,7 +10,7 @@ use Rattle.cet_top.specs.Listing.{IsListing}
 use Rattle.cet_top.specs.Report.{report_of}
 use Rattle.cet_top.specs.SafeRun.{SafeRun}
 use Rattle.cet_top.specs.Schedule.{ByRobin}
-use Rattle.cet_top.specs.Settings.{SettingsData}
+use Rattle.cet_cli.specs.Settings.{SettingsData}
 use Rattle.cet_top.specs.declared.outcomes.Outcome.{Outcome}
 use Rattle.cet_top.specs.declared.outcomes.ProcessEnd.{ProcessEnd}
 use Rattle.cet_top.specs.declared.outcomes.ProcessEnd.TheVariants as process
@@ -18,8 +18,8 @@ use Rattle.cet_top.specs.declared.outcomes.Style.{Style}
 use Rattle.cet_top.specs.declared.outcomes.Style.TheVariants as style
 use Rattle.cet_top.specs.declared.status.Status.{Status}
 use Rattle.cet_top.specs.declared.status.Status.TheVariants as status
-use Rattle.cet_top.specs.declared.words.Command.{Command}
-use Rattle.cet_top.specs.declared.words.Command.TheVariants.{Run, Dis, Asm, Check}
+use Rattle.cet_cli.specs.declared.words.Command.{Command}
+use Rattle.cet_cli.specs.declared.words.Command.TheVariants.{Run, Dis, Asm, Check}
 
 -- the job of an image by these settings, with no signals
 abbrev pub job_with : SettingsData → ImageData → JobData

@@ -1,13 +1,5 @@
 pub mod Reading
 pub mod Status
-pub mod Settings
-pub mod Values
-pub mod Words
-pub mod Grammar
-pub mod Reader
-pub mod Table
-pub mod GoodTable
-pub mod EveryCommand
 pub mod Line
 pub mod Report
 pub mod Schedule

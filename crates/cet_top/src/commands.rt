@@ -10,14 +10,13 @@ ghost use Rattle.cet_top.specs.Serves.{Serves, sink_state};
 ghost use Rattle.cet_top.specs.Reading.{most_input, source_state};
 
 use crate::listing::listing;
-use crate::options::Settings;
 use crate::outcomes::{ProcessEnd, Style};
 use crate::reports::report;
 use crate::runs::run;
 use crate::status::Status;
 use crate::transfers::{Unread, read_all, write_all};
-use crate::words::Command;
 use cet_asm::{AsmFault, Program, assemble};
+use cet_cli::{Command, Settings};
 use cet_elf::{LoadFault, load, write};
 use cet_io::{Sink, Source};
 use cet_words::{Bytes, Image, Job, NoMemory};

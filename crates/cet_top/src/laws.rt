@@ -1,17 +1,12 @@
-//! Laws of the schedules, of what a command answers, and of the grammar of the words.
+//! Laws of the schedules, and of what a command answers.
 
-ghost use Rattle.std.specs.Prelude.{ℕ, ◌≡◌, true, List, None};
+ghost use Rattle.std.specs.Prelude.{ℕ, ◌≡◌, List, None};
 ghost use Rattle.cet_words.specs.Job.{JobData};
 ghost use Rattle.cet_page.specs.Machine.{Machine, run};
 ghost use Rattle.cet_top.specs.Answer.{Answers};
-ghost use Rattle.cet_top.specs.EveryCommand.{MeansTexts, StopsByForm, StopsByValue, every_command};
-ghost use Rattle.cet_top.specs.GoodTable.{good_table};
-ghost use Rattle.cet_top.specs.Grammar.{CommandRow};
-ghost use Rattle.cet_top.specs.Reader.{IsReadBy};
 ghost use Rattle.cet_top.specs.Schedule.{IsComplete, IsFull, IsMix, IsRobin};
-ghost use Rattle.cet_top.specs.Words.{commands};
 ghost use Rattle.cet_top.specs.declared.status.Status.{Status};
-ghost use Rattle.cet_top.specs.declared.words.Command.{Command};
+ghost use Rattle.cet_cli.specs.declared.words.Command.{Command};
 
 /// After a run by Robin, by given turns and then Robin, or by the numbers of Mix, every thread has ended.
 pub fn schedules_are_complete()
@@ -37,15 +32,4 @@ pub fn schedules_are_one()
 pub fn answers_are_one()
     ensures { (command : Command) (bytes : List ℕ) (s t : Status) (output other : List ℕ) →
         Answers command bytes s output → Answers command bytes t other → (s ≡ t) × (output ≡ other) }
-{}
-
-/// The reader of a table takes exactly its lines, and stops at the first faulty word of each other list of words, if the
-/// table passes a test of its rows. The table of today's commands does, and so does one of all commands that are planned.
-pub fn tables_are_read()
-    ensures any { (table : List (CommandRow (List ℕ) (List ℕ))) → good_table table ≡ true → IsReadBy table }
-    ensures offered { IsReadBy commands }
-    ensures planned { IsReadBy every_command }
-    ensures by_form { StopsByForm }
-    ensures by_value { StopsByValue }
-    ensures texts { MeansTexts }
 {}

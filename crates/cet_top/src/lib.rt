@@ -3,16 +3,13 @@
 
 mod commands;
 mod ends;
-mod grammar;
 mod laws;
 mod lines;
 mod listing;
-mod options;
 mod outcomes;
 #[cfg(test)]
 mod program_tests;
 mod programs;
-mod reader;
 mod reports;
 mod runs;
 mod status;
@@ -22,9 +19,8 @@ mod told_stacks;
 mod traced_threads;
 mod transfers;
 mod turns;
-mod words;
 
-pub use laws::{answers_are_one, schedules_are_complete, schedules_are_one, tables_are_read};
+pub use laws::{answers_are_one, schedules_are_complete, schedules_are_one};
 pub use outcomes::{Outcome, ProcessEnd, Records, Style, ThreadOut, ThreadOuts};
 pub use programs::plain;
 pub use status::Status;

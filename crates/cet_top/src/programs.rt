@@ -2,15 +2,15 @@
 
 ghost use Rattle.std.specs.Prelude.{◌≡◌, ◌↔◌, ◌⊎◌, ℕ, map, string_bytes};
 ghost use Rattle.cet_top.specs.Answer.{Answers, reads};
-ghost use Rattle.cet_top.specs.Grammar.{FaultyWord};
+ghost use Rattle.cet_cli.specs.Grammar.{FaultyWord};
 ghost use Rattle.cet_top.specs.Reading.{source_state};
 ghost use Rattle.cet_top.specs.Serves.{Completes, GaveTooMuch, IsUntouched, Serves, sink_state};
-ghost use Rattle.cet_top.specs.Words.{IsCommand, Means};
-ghost use Rattle.cet_top.specs.declared.words.Command.{Command};
+ghost use Rattle.cet_cli.specs.Words.{IsCommand, Means};
+ghost use Rattle.cet_cli.specs.declared.words.Command.{Command};
 
 use crate::commands::serve;
 use crate::status::Status;
-use crate::words::read_words;
+use cet_cli::read_words;
 use cet_io::{Sink, Source};
 use std::alloc::Global;
 

@@ -2,7 +2,7 @@ use Rattle.std.proofs.Common.{IfOk, subst, arith}
 use Rattle.cet_words.specs.Job.{ImageData, IsImage}
 use Rattle.cet_top.specs.Answer.{Reports, job_with}
 use Rattle.cet_top.specs.Schedule.{ByRobin}
-use Rattle.cet_top.specs.Settings.{SettingsData}
+use Rattle.cet_cli.specs.Settings.{SettingsData}
 use Rattle.cet_top.specs.declared.outcomes.Style.TheVariants as style
 use Rattle.cet_top.proofs.commands.run_image.Goals as goal
 

@@ -1,8 +1,8 @@
 use Rattle.std.proofs.Common.{◌≡◌, ap, inl, inr, refl, subst}
-use Rattle.cet_top.specs.Grammar.{FaultyWord}
-use Rattle.cet_top.specs.Words.{IsCommand}
+use Rattle.cet_cli.specs.Grammar.{FaultyWord}
+use Rattle.cet_cli.specs.Words.{IsCommand}
 use Rattle.cet_top.specs.declared.status.Status.TheVariants as status
-use Rattle.cet_top.proofs.Faulty.{faulty_same}
+use Rattle.cet_cli.proofs.Faulty.{faulty_same}
 use Rattle.cet_top.proofs.Serving.{means_serves, none_given, served_completes, served_no_usage, served_too_long}
 use Rattle.cet_top.proofs.programs.plain.Goals as goal
 

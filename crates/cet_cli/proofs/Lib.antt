@@ -1,0 +1,12 @@
+pub mod ReaderSteps
+mod Signs
+mod Tables
+mod Filled
+mod WordSteps
+mod LineReads
+pub mod Faulty
+mod FaultyLines
+mod StopLaws
+mod Kept
+pub mod CommandWords
+mod EveryOption

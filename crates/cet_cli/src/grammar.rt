@@ -1,0 +1,161 @@
+//! The grammar of the words: the commands, their options, and which values these have.
+
+ghost use Rattle.std.specs.Prelude.{◌≡◌, map, option_map};
+ghost use Rattle.cet_cli.specs.Reader.{find_command, find_option};
+ghost use Rattle.cet_cli.specs.Table.{command_view, option_view, value_view};
+ghost use Rattle.cet_cli.specs.Values.{fits, number_within};
+ghost use Rattle.cet_cli.specs.Words.{commands};
+
+use crate::options::OptionName;
+use crate::words::CommandName;
+use cet_base::read_u64;
+
+/// The most records that the limit of a run allows, and its limit where no option says another.
+pub(crate) const MOST_RECORDS: u32 = 100_000;
+
+/// The most processors of a run.
+pub(crate) const MOST_PROCS: u8 = 8;
+
+/// Which texts are a value.
+#[derive(Clone, Copy, Debug, PartialEq, Eq)]
+pub(crate) enum Value {
+    /// The numbers from `low` to `high`.
+    Number { low: u64, high: u64 },
+}
+
+/// An option.
+#[derive(Clone, Copy, Debug)]
+pub(crate) struct OptionRow {
+    pub name: OptionName,
+    pub word: &'static str,
+    /// Its value, where it has one.
+    pub value: Option<Value>,
+    /// Its part of a line, 0 to 7. A line has at most one option of each part.
+    pub part: usize,
+}
+
+/// An option that is given, and its value, which is empty where the option has none.
+#[derive(Clone, Copy, Debug)]
+pub(crate) struct Given<'w> {
+    pub option: OptionRow,
+    pub value: &'w str,
+}
+
+/// A command.
+#[derive(Clone, Copy, Debug)]
+pub(crate) struct CommandRow {
+    pub name: CommandName,
+    pub word: &'static str,
+    /// The words without a name that stand behind its own.
+    pub operands: &'static [Value],
+    pub options: &'static [OptionRow],
+    /// The parts of which a line has an option.
+    pub needs: &'static [usize],
+}
+
+/// The options of every run.
+const COMMON: [OptionRow; 2] = [
+    OptionRow {
+        name: OptionName::Limit,
+        word: "--limit",
+        value: Some(Value::Number {
+            low: 1,
+            high: MOST_RECORDS as u64,
+        }),
+        part: 0,
+    },
+    OptionRow {
+        name: OptionName::Procs,
+        word: "--procs",
+        value: Some(Value::Number {
+            low: 1,
+            high: MOST_PROCS as u64,
+        }),
+        part: 1,
+    },
+];
+
+const COMMANDS: [CommandRow; 4] = [
+    CommandRow {
+        name: CommandName::Run,
+        word: "run",
+        operands: &[],
+        options: &COMMON,
+        needs: &[],
+    },
+    CommandRow {
+        name: CommandName::Dis,
+        word: "dis",
+        operands: &[],
+        options: &[],
+        needs: &[],
+    },
+    CommandRow {
+        name: CommandName::Asm,
+        word: "asm",
+        operands: &[],
+        options: &[],
+        needs: &[],
+    },
+    CommandRow {
+        name: CommandName::Check,
+        word: "check",
+        operands: &[],
+        options: &[],
+        needs: &[],
+    },
+];
+
+/// The number that a text writes, where it is one from `low` to `high`.
+pub(crate) fn number_within(text: &str, low: u64, high: u64) -> Option<u64>
+    ensures { result ≡ number_within low high text.now }
+{
+    let number = read_u64(text.as_bytes())?;
+    if low <= number && number <= high {
+        Some(number)
+    } else {
+        None
+    }
+}
+
+impl Value {
+    /// Whether a text is such a value.
+    pub(crate) fn fits(self, text: &str) -> bool
+        ensures { result ≡ fits (value_view self) text.now }
+    {
+        match self {
+            Value::Number { low, high } => number_within(text, low, high).is_some(),
+        }
+    }
+}
+
+/// The first of these options that has a word.
+pub(crate) fn find_option(rows: &[OptionRow], word: &str) -> Option<OptionRow>
+    ensures { option_map option_view result ≡ find_option (map option_view rows.now) word.now }
+{
+    for row in rows {
+        if row.word == word {
+            return Some(*row);
+        }
+    }
+    None
+}
+
+/// The first of these commands that has a word.
+fn find_row(rows: &[CommandRow], word: &str) -> Option<CommandRow>
+    ensures { option_map command_view result ≡ find_command (map command_view rows.now) word.now }
+{
+    for row in rows {
+        if row.word == word {
+            return Some(*row);
+        }
+    }
+    None
+}
+
+/// The command that has a word.
+pub(crate) fn find_command(word: &str) -> Option<CommandRow>
+    ensures { option_map command_view result ≡ find_command commands word.now }
+{
+    find_row(&COMMANDS, word)
+}

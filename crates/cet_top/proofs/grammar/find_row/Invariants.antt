@@ -1,7 +1,0 @@
-use Rattle.std.proofs.Common.{◌≡◌, drop, map}
-use Rattle.cet_top.specs.Reader.{find_command}
-use Rattle.cet_top.specs.Table.{command_view}
-use Rattle.cet_top.proofs.grammar.find_row.Given as goal
-
-abbrev pub invariant-loop-row : goal.invariant-loop-row
-invariant-loop-row l = find_command (map command_view l.rows) l.word ≡ find_command (map command_view (drop l.row-index l.rows)) l.word

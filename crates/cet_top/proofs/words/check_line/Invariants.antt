@@ -1,7 +1,0 @@
-use Rattle.std.proofs.Common.{take, map, string_bytes}
-use Rattle.cet_top.specs.Table.{command_view, reader_view}
-use Rattle.cet_top.proofs.CommandWords.{SoFar}
-use Rattle.cet_top.proofs.words.check_line.Given as goal
-
-abbrev pub invariant-words : goal.invariant-words
-invariant-words l = SoFar (command_view l.fn.row) (take l.at (map string_bytes l.words)) (reader_view l.reader)
