@@ -14,6 +14,7 @@ pub mod Flow
 pub mod ShadowStacks
 pub mod Gate
 pub mod MapShadowStack
+pub mod Processes
 pub mod Services
 pub mod Fetch
 pub mod Row
