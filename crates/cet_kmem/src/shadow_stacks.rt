@@ -5,10 +5,12 @@ ghost use Rattle.cet_words.specs.Layout.{draw_shadow_word};
 ghost use Rattle.cet_page.specs.Script.{play};
 ghost use Rattle.cet_page.specs.Plays.{Refines};
 ghost use Rattle.cet_page.specs.Parts.{fetch_add_as};
-ghost use Rattle.cet_page.specs.MapShadowStack.{can_draw, claimed, claimed_if, draw_stack, drawn_page, drawn_start, fill_drawn, fill_stack, map_shadow_stack, most_stack_pages, pages_of, refused, seed_if, seed_word, shadow_entry};
+ghost use Rattle.cet_page.specs.MapShadowStack.{claimed, claimed_if, draw_stack, drawn_page, drawn_start, fill_drawn, fill_stack, map_shadow_stack, most_stack_pages, pages_of, refused, seed_if, seed_word};
 
 use cet_isa::{Arch, Record, What};
-use cet_page::{Cursor, Errno, Leaving, Suspended, failed, restore_token, served, word_in};
+use cet_page::{
+    Cursor, Errno, Leaving, Suspended, can_draw, failed, restore_token, served, shadow_entry, word_in,
+};
 use cet_words::{DRAW_SHADOW_WORD, FIRST_ENTRY_WORD, FIRST_SHADOW_PAGE, SHADOW_START};
 
 const RDX: usize = 2;
@@ -20,41 +22,14 @@ const RDI: usize = 7;
 /// A shadow stack has at most so many pages: the area has 1,024, and one below and one above stay absent.
 const MOST_PAGES: u64 = 1022;
 
-/// The last draw ends at this page of the area.
-const LAST_PAGE: u64 = 1023;
-
 /// The largest size that whole pages hold below 2^64 bytes.
 const MOST_BYTES: u64 = u64::MAX - 4095;
-
-/// A present shadow-stack page: P, U/S, A and D.
-const PRESENT: u64 = 0x65;
-
-/// Bit 63 of an entry, execute-disable.
-const NO_EXECUTE: u64 = 1 << 63;
-
-/// Frames are numbered from the page's number and 256 on.
-const FIRST_FRAME: u64 = 256;
 
 fn pages_of(size: u64) -> u64
     requires { size ≤ 2 ^ 64 - 4096 }
     ensures { result ≡ pages_of size }
 {
     (size + 4095) / 4096
-}
-
-/// Whether so many pages fit above those that were drawn before.
-fn can_draw(pages: u64, drawn: u64) -> bool
-    requires { pages ≤ most_stack_pages }
-    ensures { result ≡ can_draw pages drawn }
-{
-    drawn <= LAST_PAGE && drawn + pages + 1 <= LAST_PAGE
-}
-
-fn shadow_entry(page: u32) -> u64
-    ensures value { result ≡ shadow_entry page }
-    ensures small { result < 2 ^ 63 + 2 ^ 45 }
-{
-    NO_EXECUTE + 4096 * (u64::from(page) + FIRST_FRAME) + PRESENT
 }
 
 fn claimed(arch: &Arch, start: u64, size: u64) -> (Arch, Record, Leaving)
