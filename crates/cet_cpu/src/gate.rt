@@ -1,4 +1,4 @@
-//! The kernel's entry: the gate, the services exit and exit_group, and the delivery of a fault with the kill.
+//! The kernel's entry: the gate round a service, or round the delivery of a fault with the kill.
 
 ghost use Rattle.std.specs.Prelude.{◌≡◌, ◌+◌, ◌-◌, ◌*◌, ◌%◌, ◌^◌, ◌<◌, ◌≤◌, [], ◌∷◌, Ok};
 ghost use Rattle.cet_words.specs.Layout.{token, token_page, token_word};
@@ -6,20 +6,17 @@ ghost use Rattle.cet_words.specs.Change.{Freed};
 ghost use Rattle.cet_page.specs.Script.{play};
 ghost use Rattle.cet_page.specs.Plays.{Refines, RefinesBy};
 ghost use Rattle.cet_page.specs.Parts.{compare_exchange_as};
-ghost use Rattle.cet_page.specs.Finish.{IsMade, counted};
+ghost use Rattle.cet_page.specs.Finish.{IsMade};
 ghost use Rattle.cet_page.specs.Services.{service, syscall};
-ghost use Rattle.cet_page.specs.Gate.{busied_if, stack_of, gate_in, gate_out, finish_of, found_busy, entered, clears, made_page, exit_status, exit, exit_group, signal_of, is_masked, killed, kill, delivery, deliver};
+ghost use Rattle.cet_page.specs.Gate.{busied_if, stack_of, gate_in, gate_out, finish_of, found_busy, entered, signal_of, is_masked, killed, kill, delivery, deliver};
 ghost use Rattle.cet_cpu.specs.Changes.{finish_with, Stays};
 ghost use Rattle.cet_cpu.specs.Entry.{work_of};
 
 use cet_isa::{Arch, Fault, FaultName, Record, What};
-use cet_page::{Cursor, Leaving, Mark, RAX, Suspended, serve, sys_record};
+use cet_page::{Cursor, Leaving, Mark, RAX, Suspended};
 use cet_words::{
-    Access, EXIT_WORD, FIRST_ENTRY_WORD, FIRST_SHADOW_PAGE, Job, KERNEL_RETURN, SHADOW_START,
-    action_word, token, token_page, token_word,
+    Access, EXIT_WORD, Job, KERNEL_RETURN, action_word, token, token_page, token_word,
 };
-
-const RDI: usize = 7;
 
 /// What a row comes to beside the state after it, which is changed in its place.
 #[derive(Clone, Copy)]
@@ -33,12 +30,6 @@ pub enum RowEnd {
     /// The process has ended, and nothing has changed.
     Stopped,
 }
-
-/// The number of the service exit.
-const EXIT: u64 = 60;
-
-/// The number of the service exit_group.
-const EXIT_GROUP: u64 = 231;
 
 /// The supervisor stack of a thread's processor, below 8.
 fn stack_of(job: &Job, arch: &Arch) -> u8
@@ -110,16 +101,6 @@ fn gate_out(k: u8, ends: Leaving, at: &mut Cursor) -> Result<(), Suspended>
     way_out(k, at)
 }
 
-/// The state with one record more.
-pub fn counted(arch: &Arch) -> Arch
-    requires { arch.now.count < 2 ^ 32 - 1 }
-    ensures { result ≡ counted arch.now }
-{
-    let mut after = *arch;
-    after.count = arch.count + 1;
-    after
-}
-
 fn found_busy(arch: &mut Arch, k: u8, found: u64) -> RowEnd
     requires stack { k < 8 }
     requires count { arch.old.count < 2 ^ 32 - 1 }
@@ -137,48 +118,15 @@ fn found_busy(arch: &mut Arch, k: u8, found: u64) -> RowEnd
     RowEnd::Noted(noted)
 }
 
-/// The status of exit and exit_group: the low byte of RDI.
-fn exit_status(arch: &Arch) -> u8
-    ensures { result ≡ exit_status arch.now }
-{
-    (arch.regs[RDI] % 256) as u8
-}
-
-/// The service exit, which ends the thread.
-#[tactic(auto, using(cet_page::proofs::ScriptLaws::play_bind), unfolding(cet_page::specs::Gate::exit))]
-fn exit(arch: &Arch, at: &mut Cursor) -> Result<(Arch, Record, Leaving), Suspended>
-    requires count { arch.now.count < 2 ^ 32 - 1 }
-    requires made { IsMade arch.now.made }
-    ensures { Refines (play (exit arch.now) at.old.left at.old.rest.now) result at.new.left at.new.rest.now }
-{
-    let page = FIRST_SHADOW_PAGE + ((arch.made - SHADOW_START) / 4096) as u32;
-    at.stores(8, FIRST_ENTRY_WORD + page, 0, 0)?;
-    let status = exit_status(arch);
-    let noted = sys_record(arch, u64::from(status));
-    Ok((counted(arch), noted, Leaving::Ended(status)))
-}
-
-/// The service exit_group, which ends the process. The thread goes on to its next boundary.
-#[tactic(auto, using(cet_page::proofs::ScriptLaws::play_bind), unfolding(cet_page::specs::Gate::exit_group))]
-fn exit_group(arch: &Arch, at: &mut Cursor) -> Result<(Arch, Record, Leaving), Suspended>
-    requires { arch.now.count < 2 ^ 32 - 1 }
-    ensures { Refines (play (exit_group arch.now) at.old.left at.old.rest.now) result at.new.left at.new.rest.now }
-{
-    let status = u64::from(exit_status(arch));
-    at.compare_exchange(EXIT_WORD, 0, 0x100 + status)?;
-    Ok(serve(arch, status))
-}
-
 fn service(arch: &Arch, at: &mut Cursor) -> Result<(Arch, Record, Leaving), Suspended>
     requires count { arch.now.count < 2 ^ 32 - 1 }
     requires made { IsMade arch.now.made }
     ensures { Refines (play (service arch.now) at.old.left at.old.rest.now) result at.new.left at.new.rest.now }
 {
-    match arch.regs[RAX] {
-        EXIT => exit(arch, at),
-        EXIT_GROUP => exit_group(arch, at),
-        _ => cet_kmem::follow(arch, at),
+    if cet_kproc::serves(arch.regs[RAX]) {
+        return cet_kproc::follow(arch, at);
     }
+    cet_kmem::follow(arch, at)
 }
 
 /// The signal of a fault.
