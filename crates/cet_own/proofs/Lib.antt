@@ -29,6 +29,7 @@ pub mod Released
 pub mod Raised
 pub mod Claimed
 pub mod Seeded
+pub mod Births
 pub mod HeldAfter
 pub mod Places
 pub mod Progress
@@ -42,6 +43,8 @@ pub mod Looks
 pub mod ShadowClaims
 pub mod KernelParts
 pub mod MapClaims
+pub mod CloneClaims
+pub mod ProcessClaims
 pub mod Steps
 pub mod Rows
 pub mod Threads
