@@ -134,7 +134,11 @@ fn writes() -> [Row; 17] {
         (
             [1, 1, 0x2_0000_1000, 8],
             &[0x8000_0000_0094_1065, 0x8000_0000_0094_1065, 7],
-            &[Access::Look(2113), Access::Look(2113), Access::Load(1_081_856)],
+            &[
+                Access::Look(2113),
+                Access::Look(2113),
+                Access::Load(1_081_856),
+            ],
             (What::Wrote, 8, 7),
         ),
     ]
@@ -320,7 +324,13 @@ fn expect_row(rt: &impl Abort, row: Row) {
     let (next, noted, ends) = after(&arch, left, answers).expect(rt, "it goes on");
     assert_eq!(rt; (noted.what, noted.a, noted.b), told, "{asked:?}");
     assert_eq!(rt;
-        (next.regs[0], next.regs[1], next.regs[11], next.rip, next.count),
+        (
+            next.regs[0],
+            next.regs[1],
+            next.regs[11],
+            next.rip,
+            next.count
+        ),
         (result_of(told), 0x40_1002, 0x43, 0x40_1002, 6)
     );
     assert_eq!(rt; ends, Leaving::Back);
@@ -353,7 +363,11 @@ fn exit_by_number(rt: HostRuntime) {
     let (next, noted, ends) = after(&arch, 8, &[]).expect(&rt, "it goes on");
     assert_eq!(rt; (noted.what, noted.a, noted.b), (What::Sys, 60, 255));
     assert_eq!(rt; ends, Leaving::Ended(255));
-    assert_eq!(rt; (next.regs, next.rip, next.count), (arch.regs, 0x40_1000, 6));
+    assert_eq!(rt;
+        (next.regs[0], next.regs[1], next.regs[7], next.regs[11]),
+        (60, 0, 0x1ff, 0)
+    );
+    assert_eq!(rt; (next.rip, next.count), (0x40_1000, 6));
 }
 
 /// An image with code at 0x401000, all zeros.
