@@ -22,7 +22,7 @@ use Rattle.cet_page.specs.Trail.{Visit, visit}
 use Rattle.cet_page.specs.declared.services.Errno.TheVariants as errno
 use Rattle.cet_own.specs.Past.{left_in, next_word, numbered}
 use Rattle.cet_own.specs.Safe.{IsElsewhere}
-use Rattle.cet_own.proofs.Births.{births, unborn}
+use Rattle.cet_own.proofs.Born.{births, unborn}
 use Rattle.cet_own.proofs.Calls.{Ends}
 use Rattle.cet_own.proofs.Counters.{Bears}
 use Rattle.cet_own.proofs.GateParts.{gate_out_then}

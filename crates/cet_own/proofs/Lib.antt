@@ -29,7 +29,7 @@ pub mod Released
 pub mod Raised
 pub mod Claimed
 pub mod Seeded
-pub mod Births
+pub mod Born
 pub mod HeldAfter
 pub mod Places
 pub mod Progress
