@@ -267,15 +267,22 @@ fn answer_alone(rt: &impl Abort, job: &Job, cpu: &mut Cpu, want: Access, answer:
     assert!(rt; taken.child.is_none(), "{want:?}");
 }
 
+fn answer_each(rt: &impl Abort, job: &Job, cpu: &mut Cpu, rows: &[(Access, u64)])
+    requires { IsCpu job.now cpu.old }
+    ensures { IsCpu job.now cpu.new }
+{
+    for (want, answer) in rows {
+        answer_alone(rt, job, cpu, *want, *answer);
+    }
+}
+
 /// The thread after these accesses, and the child, where the draw of its number has this answer.
 fn birth(rt: &impl Abort, job: &Job, number: u64) -> (Cpu, Option<Cpu>)
     ensures parent { IsCpu job.now result.0 }
     ensures child { IfSome result.1 (IsCpu job.now) }
 {
     let mut cpu = first(job);
-    for (want, answer) in &BEFORE_BIRTH {
-        answer_alone(rt, job, &mut cpu, *want, *answer);
-    }
+    answer_each(rt, job, &mut cpu, &BEFORE_BIRTH);
     let draw = Access::FetchAdd(1_605_633, 1);
     let taken = answer_access(rt, job, &mut cpu, draw, number);
     (cpu, taken.child)
