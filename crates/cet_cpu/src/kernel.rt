@@ -1,19 +1,19 @@
-//! The kernel: its services exit and exit_group, the delivery of a fault with the kill, and its entry, which is the gate
+//! The kernel: the delivery of a fault with the kill, its services by their numbers, and its entry, which is the gate
 //! round each.
 
 ghost use Rattle.std.specs.Prelude.{◌≡◌, ◌+◌, ◌-◌, ◌*◌, ◌%◌, ◌^◌, ◌<◌, ◌≤◌, Ok};
 ghost use Rattle.cet_page.specs.Script.{play};
 ghost use Rattle.cet_page.specs.Plays.{Refines, RefinesBy};
-ghost use Rattle.cet_page.specs.Finish.{IsMade, counted};
+ghost use Rattle.cet_page.specs.Finish.{IsMade};
 ghost use Rattle.cet_page.specs.Services.{service, syscall};
-ghost use Rattle.cet_page.specs.Gate.{finish_of, found_busy, entered, clears, made_page, exit_status, exit, exit_group, signal_of, is_masked, killed, kill, delivery, deliver};
+ghost use Rattle.cet_page.specs.Gate.{finish_of, found_busy, entered, signal_of, is_masked, killed, kill, delivery, deliver};
 ghost use Rattle.cet_cpu.specs.Changes.{finish_with, Stays};
 ghost use Rattle.cet_cpu.specs.Entry.{work_of};
 
 use cet_busy::{busy_record, gate_in, gate_out, stack_of};
-use cet_isa::{Arch, Fault, FaultName, RAX, RDI, Record, What};
-use cet_page::{Cursor, Leaving, Suspended, counted, serve, sys_record};
-use cet_words::{EXIT_WORD, FIRST_ENTRY_WORD, FIRST_SHADOW_PAGE, Job, SHADOW_START, action_word};
+use cet_isa::{Arch, Fault, FaultName, RAX, Record, What};
+use cet_page::{Cursor, Leaving, Suspended};
+use cet_words::{EXIT_WORD, Job, action_word};
 
 /// What a row comes to beside the state after it, which is changed in its place.
 #[derive(Clone, Copy)]
@@ -28,12 +28,6 @@ pub enum RowEnd {
     Stopped,
 }
 
-/// The number of the service exit.
-const EXIT: u64 = 60;
-
-/// The number of the service exit_group.
-const EXIT_GROUP: u64 = 231;
-
 fn found_busy(arch: &mut Arch, k: u8, found: u64) -> RowEnd
     requires stack { k < 8 }
     requires count { arch.old.count < 2 ^ 32 - 1 }
@@ -45,48 +39,15 @@ fn found_busy(arch: &mut Arch, k: u8, found: u64) -> RowEnd
     RowEnd::Noted(noted)
 }
 
-/// The status of exit and exit_group: the low byte of RDI.
-fn exit_status(arch: &Arch) -> u8
-    ensures { result ≡ exit_status arch.now }
-{
-    (arch.regs[RDI] % 256) as u8
-}
-
-/// The service exit, which ends the thread.
-#[tactic(auto, using(cet_page::proofs::ScriptLaws::play_bind), unfolding(cet_page::specs::Gate::exit))]
-fn exit(arch: &Arch, at: &mut Cursor) -> Result<(Arch, Record, Leaving), Suspended>
-    requires count { arch.now.count < 2 ^ 32 - 1 }
-    requires made { IsMade arch.now.made }
-    ensures { Refines (play (exit arch.now) at.old.left at.old.rest.now) result at.new.left at.new.rest.now }
-{
-    let page = FIRST_SHADOW_PAGE + ((arch.made - SHADOW_START) / 4096) as u32;
-    at.stores(8, FIRST_ENTRY_WORD + page, 0, 0)?;
-    let status = exit_status(arch);
-    let noted = sys_record(arch, u64::from(status));
-    Ok((counted(arch), noted, Leaving::Ended(status)))
-}
-
-/// The service exit_group, which ends the process. The thread goes on to its next boundary.
-#[tactic(auto, using(cet_page::proofs::ScriptLaws::play_bind), unfolding(cet_page::specs::Gate::exit_group))]
-fn exit_group(arch: &Arch, at: &mut Cursor) -> Result<(Arch, Record, Leaving), Suspended>
-    requires { arch.now.count < 2 ^ 32 - 1 }
-    ensures { Refines (play (exit_group arch.now) at.old.left at.old.rest.now) result at.new.left at.new.rest.now }
-{
-    let status = u64::from(exit_status(arch));
-    at.compare_exchange(EXIT_WORD, 0, 0x100 + status)?;
-    Ok(serve(arch, status))
-}
-
 fn service(arch: &Arch, at: &mut Cursor) -> Result<(Arch, Record, Leaving), Suspended>
     requires count { arch.now.count < 2 ^ 32 - 1 }
     requires made { IsMade arch.now.made }
     ensures { Refines (play (service arch.now) at.old.left at.old.rest.now) result at.new.left at.new.rest.now }
 {
-    match arch.regs[RAX] {
-        EXIT => exit(arch, at),
-        EXIT_GROUP => exit_group(arch, at),
-        _ => cet_kmem::follow(arch, at),
+    if cet_kproc::serves(arch.regs[RAX]) {
+        return cet_kproc::follow(arch, at);
     }
+    cet_kmem::follow(arch, at)
 }
 
 /// The signal of a fault.

@@ -1,6 +1,6 @@
 //! A short thread, access by access, on the words of an image.
 
-ghost use Rattle.std.specs.Prelude.{◌≤◌, length};
+ghost use Rattle.std.specs.Prelude.{◌≤◌, length, IfSome};
 ghost use Rattle.cet_cpu.specs.Cpu.{IsCpu};
 
 use super::*;
@@ -148,7 +148,8 @@ const RESTORE: [u8; 15] = [
 /// The thread makes this access, which has this answer, whatever the words are.
 fn answer_access(rt: &impl Abort, job: &Job, cpu: &mut Cpu, want: Access, answer: u64) -> Taken
     requires { IsCpu job.now cpu.old }
-    ensures { IsCpu job.now cpu.new }
+    ensures state { IsCpu job.now cpu.new }
+    ensures born { IfSome result.child (IsCpu job.now) }
 {
     assert!(rt; cpu.end().is_none(), "{want:?}");
     let access = cpu.next(job).expect(rt, "no access");
@@ -221,6 +222,115 @@ fn restores_by_the_word_found(rt: HostRuntime) -> Result<(), Fail> {
         [0x40100b, 3, 0x2_0000_9000]
     );
     assert_eq!(rt; arch.due, Some(fault));
+    Ok(())
+}
+
+/// `mov edi, 0x10900`, `mov esi, edi`, `mov eax, 56`, `syscall`, as GNU as assembles them.
+const CLONE: [u8; 14] = [
+    0xbf, 0x00, 0x09, 0x01, 0x00, 0x89, 0xfe, 0xb8, 0x38, 0x00, 0x00, 0x00, 0x0f, 0x05,
+];
+
+/// The accesses of these instructions before the birth, with their answers. The shadow stack has pages 10 to
+/// 17 of the area, which are pages 2,122 to 2,129.
+const BEFORE_BIRTH: [(Access, u64); 20] = [
+    (Access::Load(1_605_632), 0),
+    (Access::Load(1_605_664), 0),
+    (Access::Load(1_605_632), 0),
+    (Access::Load(1_605_664), 0),
+    (Access::Load(1_605_632), 0),
+    (Access::Load(1_605_664), 0),
+    (Access::Load(1_605_632), 0),
+    (Access::Load(1_605_664), 0),
+    (Access::Look(3138), 0x8000_0000_00d4_2061),
+    (
+        Access::CompareExchange(1_607_167, 0xffff_8000_0000_2ff8, 0xffff_8000_0000_2ff9),
+        0xffff_8000_0000_2ff8,
+    ),
+    (Access::Store(1_607_166, 0xffff_8000_0010_0000), 0),
+    (Access::FetchAdd(1_605_634, 9), 9),
+    (Access::Store(1_616_970, 0x8000_0000_0094_a065), 0),
+    (Access::Store(1_616_971, 0x8000_0000_0094_b065), 0),
+    (Access::Store(1_616_972, 0x8000_0000_0094_c065), 0),
+    (Access::Store(1_616_973, 0x8000_0000_0094_d065), 0),
+    (Access::Store(1_616_974, 0x8000_0000_0094_e065), 0),
+    (Access::Store(1_616_975, 0x8000_0000_0094_f065), 0),
+    (Access::Store(1_616_976, 0x8000_0000_0095_0065), 0),
+    (Access::Store(1_616_977, 0x8000_0000_0095_1065), 0),
+];
+
+/// The same, of an access that bears no thread.
+fn answer_alone(rt: &impl Abort, job: &Job, cpu: &mut Cpu, want: Access, answer: u64)
+    requires { IsCpu job.now cpu.old }
+    ensures { IsCpu job.now cpu.new }
+{
+    let taken = answer_access(rt, job, cpu, want, answer);
+    assert!(rt; taken.child.is_none(), "{want:?}");
+}
+
+fn answer_each(rt: &impl Abort, job: &Job, cpu: &mut Cpu, rows: &[(Access, u64)])
+    requires { IsCpu job.now cpu.old }
+    ensures { IsCpu job.now cpu.new }
+{
+    for (want, answer) in rows {
+        answer_alone(rt, job, cpu, *want, *answer);
+    }
+}
+
+/// The thread after these accesses, and the child, where the draw of its number has this answer.
+fn birth(rt: &impl Abort, job: &Job, number: u64) -> (Cpu, Option<Cpu>)
+    ensures parent { IsCpu job.now result.0 }
+    ensures child { IfSome result.1 (IsCpu job.now) }
+{
+    let mut cpu = first(job);
+    answer_each(rt, job, &mut cpu, &BEFORE_BIRTH);
+    let draw = Access::FetchAdd(1_605_633, 1);
+    let taken = answer_access(rt, job, &mut cpu, draw, number);
+    (cpu, taken.child)
+}
+
+/// The child has its own shadow stack and no record, and waits for the load of EXIT; the parent's record
+/// tells of it.
+#[test]
+fn bears_a_thread(rt: HostRuntime) -> Result<(), Fail> {
+    let image = image_of(rt.alloc(), &CLONE)?;
+    let job = Job {
+        image: &image,
+        procs: 1,
+        limit: 100,
+        signals: &[],
+    };
+    let (mut cpu, child) = birth(&rt, &job, 31);
+    let child = child.expect(&rt, "no child");
+    assert_eq!(rt; child.next(&job), Some(Access::Load(1_605_632)));
+    let arch = child.arch();
+    assert_eq!(rt;
+        [
+            arch.regs[0],
+            arch.regs[1],
+            arch.regs[4],
+            arch.regs[7],
+            arch.regs[11]
+        ],
+        [0, 0x40100e, 0x10900, 0x10900, 2]
+    );
+    assert_eq!(rt;
+        [arch.rip, arch.flags, arch.ssp, arch.made, arch.mask],
+        [0x40100e, 2, 0x2_0001_2000, 0x2_0000_a000, 0]
+    );
+    assert_eq!(rt;
+        [arch.count, arch.posted, u32::from(arch.number)],
+        [0, 0, 31]
+    );
+    assert!(rt; arch.due.is_none() && arch.held.is_none());
+    answer_alone(&rt, &job, &mut cpu, Access::Load(1_607_166), 0);
+    let last = Access::CompareExchange(1_607_167, 0xffff_8000_0000_2ff9, 0xffff_8000_0000_2ff8);
+    let taken = answer_access(&rt, &job, &mut cpu, last, 0);
+    assert_eq!(rt; taken.noted, noted(0x40100c, What::Born, 31, 0x2_0001_2000));
+    assert_eq!(rt; cpu.arch().regs[0], 1031);
+    // There is no number left.
+    let (cpu, child) = birth(&rt, &job, 32);
+    assert!(rt; child.is_none());
+    assert_eq!(rt; cpu.next(&job), Some(Access::Store(1_616_970, 0)));
     Ok(())
 }
 

@@ -5,26 +5,17 @@ ghost use Rattle.cet_words.specs.Layout.{draw_shadow_word, last_area_page, most_
 ghost use Rattle.cet_page.specs.Script.{play};
 ghost use Rattle.cet_page.specs.Plays.{Refines};
 ghost use Rattle.cet_page.specs.Parts.{fetch_add_as};
-ghost use Rattle.cet_page.specs.MapShadowStack.{can_draw, claimed, claimed_if, draw_stack, drawn_page, drawn_start, fill_drawn, fill_stack, map_shadow_stack, refused, seed_if, seed_word};
+ghost use Rattle.cet_page.specs.MapShadowStack.{claimed, claimed_if, draw_stack, drawn_page, drawn_start, fill_drawn, fill_stack, map_shadow_stack, refused, seed_if, seed_word};
 
 use cet_isa::{Arch, RDI, RDX, RSI, Record, What};
-use cet_page::{Cursor, Errno, Leaving, Suspended, failed, restore_token, served, word_in};
+use cet_page::{Cursor, Errno, Leaving, Suspended, can_draw, failed, restore_token, served, word_in};
 use cet_words::{
-    DRAW_SHADOW_WORD, FIRST_ENTRY_WORD, FIRST_SHADOW_PAGE, LAST_AREA_PAGE, MOST_STACK_PAGES,
+    DRAW_SHADOW_WORD, FIRST_ENTRY_WORD, FIRST_SHADOW_PAGE, MOST_STACK_PAGES,
     SHADOW_START, pages_of, shadow_entry,
 };
 
 /// The largest size that whole pages hold below 2^64 bytes.
 const MOST_BYTES: u64 = u64::MAX - 4095;
-
-/// Whether so many pages fit above those that were drawn before.
-fn can_draw(pages: u64, drawn: u64) -> bool
-    requires { pages ≤ most_stack_pages }
-    ensures { result ≡ can_draw pages drawn }
-{
-    let last = u64::from(LAST_AREA_PAGE);
-    drawn <= last && drawn + pages + 1 <= last
-}
 
 fn claimed(arch: &Arch, start: u64, size: u64) -> (Arch, Record, Leaving)
     requires { arch.now.count < 2 ^ 32 - 1 }

@@ -29,6 +29,7 @@ pub mod Released
 pub mod Raised
 pub mod Claimed
 pub mod Seeded
+pub mod Born
 pub mod HeldAfter
 pub mod Places
 pub mod Progress
@@ -43,6 +44,8 @@ pub mod ShadowClaims
 pub mod KernelParts
 pub mod MapClaims
 pub mod MmapClaims
+pub mod CloneClaims
+pub mod ProcessClaims
 pub mod Steps
 pub mod Rows
 pub mod Threads

@@ -22,7 +22,7 @@ use Rattle.cet_book.proofs.Relies.{Relies, append_relies}
 use Rattle.cet_book.proofs.Top.{AtTop}
 use Rattle.cet_book.proofs.Ways.{claimed_way, seeded_way}
 use Rattle.cet_page.specs.Finish.{rdi, rdx, rsi}
-use Rattle.cet_page.specs.Gate.{failed}
+use Rattle.cet_page.specs.Gate.{Work, failed}
 use Rattle.cet_page.specs.MapShadowStack.{can_draw, claimed, claimed_if, draw_stack, drawn_page, drawn_start, fill_stack, map_by, map_shadow_stack, refused, seed_if, seed_word}
 use Rattle.cet_page.specs.Parts.{fetch_add_as, store_as, stores}
 use Rattle.cet_page.specs.Script.{done, ◌>>=◌}
@@ -206,40 +206,46 @@ module _ (job : JobData) (arch : Arch) (l : own_stack job arch.number < 8) (free
   draws_on i = record { stacked = i.stacked; holds = i.holds; level = ap (λ (x : Progress). record { framed = x.framed; drawing = true; numbering = x.numbering }) i.level; settled = i.settled; alone = i.alone }
 
   -- by whether there is room for so many pages
-  drawn_claim : (past : List Visit) (now : State) (d size : ℕ) (token : Bool) → 1 ≤ size → pages_of size ≤ most_stack_pages → (token ≡ true → (8 ≤ size) × (size % 8 ≡ 0)) → Known job.image arch.number past now.book (access.FetchAdd draw_word (pages_of size + 1)) d → Within job arch l untouched past now → (c : Bool) → can_draw (pages_of size) d ≡ c → Owed job.image arch.number gate past now.book (access.FetchAdd draw_word (pages_of size + 1)) d (if c then Claimed (drawn_start d) (pages_of size) token ∷ [] else []) × (later : State) × (state_after arch.number now (if c then Claimed (drawn_start d) (pages_of size) token ∷ [] else []) ≡ Some later) × Claim job arch (Leaves job arch l) (visit (access.FetchAdd draw_word (pages_of size + 1)) d (if c then Claimed (drawn_start d) (pages_of size) token ∷ [] else []) ∷ past) now later (if c then fill_stack arch d size (pages_of size) token else done (failed arch errno.NoMem))
-  drawn_claim past now d size token least most asked known within false e =
-      let few = known.few (pages_of size + 1) refl in
+  drawn_claim : (past : List Visit) (now : State) (pages : ℕ) (token : Bool) (fill : ℕ → Work) (d : ℕ) → 1 ≤ pages → pages ≤ most_stack_pages → Known job.image arch.number past now.book (access.FetchAdd draw_word (pages + 1)) d → Within job arch l untouched past now → ((p : List Visit) (z n : State) (i d : ℕ) → d + pages + 1 ≤ 1023 → Drawing p n → Begun arch.number i (drawn_start d) (drawn_start d + 4096 * pages) token n.book → Claim job arch (Leaves job arch l) p z n (fill d)) → (c : Bool) → can_draw pages d ≡ c → Owed job.image arch.number gate past now.book (access.FetchAdd draw_word (pages + 1)) d (if c then Claimed (drawn_start d) pages token ∷ [] else []) × (later : State) × (state_after arch.number now (if c then Claimed (drawn_start d) pages token ∷ [] else []) ≡ Some later) × Claim job arch (Leaves job arch l) (visit (access.FetchAdd draw_word (pages + 1)) d (if c then Claimed (drawn_start d) pages token ∷ [] else []) ∷ past) now later (if c then fill d else done (failed arch errno.NoMem))
+  drawn_claim past now pages token fill d least most known within h false e =
+      let few = known.few (pages + 1) refl in
       let apart : (draw_word == token_word gate - 1) ≡ false = (let n : draw_word ≢ token_word gate - 1 = omega arith in grind (arith, nat_tests)) in
       let once : drew past ≡ false = ap (λ (x : Progress). x.drawing) within.level in
-      (overdraws (pages_of size + 1) refl (omega arith) (omega arith) once refl, now, refl, failed_claim job arch l {drawing = true} {numbering = false} _ now now errno.NoMem free (inside_left (rw apart refl) (draws_on within)))
-  drawn_claim past now d size token least most asked known within true e =
-      let room : d + pages_of size + 1 ≤ 1023 = grind (arith, nat_tests) in
-      let some : 1 ≤ pages_of size = omega arith in
+      (overdraws (pages + 1) refl (omega arith) (omega arith) once refl, now, refl, failed_claim job arch l {drawing = true} {numbering = false} _ now now errno.NoMem free (inside_left (rw apart refl) (draws_on within)))
+  drawn_claim past now pages token fill d least most known within h true e =
+      let room : d + pages + 1 ≤ 1023 = grind (arith, nat_tests) in
       let shape = known.sound.book.shape in
-      let a = claims arch.number (drawn_start d) (pages_of size) token now.book shape in
-      let way = claimed_way arch.number (drawn_start d) (pages_of size) token now.book (draw_can_claim now.book d (pages_of size) (known.draw (pages_of size + 1) refl) some room) in
+      let a = claims arch.number (drawn_start d) pages token now.book shape in
+      let way = claimed_way arch.number (drawn_start d) pages token now.book (draw_can_claim now.book d pages (known.draw (pages + 1) refl) least room) in
       let r = append_relies a arch.number in
       let apart : (draw_word == token_word gate - 1) ≡ false = (let n : draw_word ≢ token_word gate - 1 = omega arith in grind (arith, nat_tests)) in
       let new = append_new a in
-      let begun : Begun arch.number (length now.book.regions) (drawn_start d) (drawn_start d + 4096 * pages_of size) token (append (claim arch.number (drawn_start d) (pages_of size) token) now.book) = record {
+      let begun : Begun arch.number (length now.book.regions) (drawn_start d) (drawn_start d + 4096 * pages) token (append (claim arch.number (drawn_start d) pages token) now.book) = record {
         there = let n = append_length a in omega arith;
         first = ap (λ (q : Region). q.start) new;
         last = ap (λ (q : Region). q.end) new;
         holder = λ z. ap (λ (q : Region). q.holder) new ∙ rw z refl;
       } in (
-        draws (pages_of size) token refl some room (ap (λ (x : Progress). x.drawing) within.level) refl,
-        record now { book = append (claim arch.number (drawn_start d) (pages_of size) token) now.book },
-        one_after arch.number now (append (claim arch.number (drawn_start d) (pages_of size) token) now.book) (Claimed (drawn_start d) (pages_of size) token) way,
-        fill_claim _ now (record now { book = append (claim arch.number (drawn_start d) (pages_of size) token) now.book }) (length now.book.regions) d size token least asked room (inside_left (rw apart refl) (draws_on (inside_kept r within))) begun,
+        draws pages token refl least room (ap (λ (x : Progress). x.drawing) within.level) refl,
+        record now { book = append (claim arch.number (drawn_start d) pages token) now.book },
+        one_after arch.number now (append (claim arch.number (drawn_start d) pages token) now.book) (Claimed (drawn_start d) pages token) way,
+        h _ now (record now { book = append (claim arch.number (drawn_start d) pages token) now.book }) (length now.book.regions) d room (inside_left (rw apart refl) (draws_on (inside_kept r within))) begun,
+      )
+
+  -- a draw of so many pages, and what fills the place
+  pub draw_then : (past : List Visit) (before s : State) (pages : ℕ) (token : Bool) (fill : ℕ → Work) → 1 ≤ pages → pages ≤ most_stack_pages → Within job arch l untouched past s → ((p : List Visit) (z n : State) (i d : ℕ) → d + pages + 1 ≤ 1023 → Drawing p n → Begun arch.number i (drawn_start d) (drawn_start d + 4096 * pages) token n.book → Claim job arch (Leaves job arch l) p z n (fill d)) → Claim job arch (Leaves job arch l) past before s (fetch_add_as (claimed_if pages token) draw_shadow_word (pages + 1) >>= (λ d. if can_draw pages d then fill d else done (failed arch errno.NoMem)))
+  unfolding fetch_add_as
+  draw_then past before s pages token fill least most within h =
+      claim_bind job arch (Leaves job arch l) past before s (fetch_add_as (claimed_if pages token) draw_shadow_word (pages + 1)) _ (
+        inside_stacked within,
+        λ now r d known. drawn_claim past now pages token fill d least most known (inside_kept r within) h (can_draw pages d) refl,
       )
 
   draw_claim : (past : List Visit) (before s : State) (size : ℕ) (token : Bool) → 1 ≤ size → pages_of size ≤ most_stack_pages → (token ≡ true → (8 ≤ size) × (size % 8 ≡ 0)) → Within job arch l untouched past s → Claim job arch (Leaves job arch l) past before s (draw_stack arch size (pages_of size) token)
-  unfolding draw_stack fetch_add_as
+  unfolding draw_stack
   draw_claim past before s size token least most asked within =
-      claim_bind job arch (Leaves job arch l) past before s (fetch_add_as (claimed_if (pages_of size) token) draw_shadow_word (pages_of size + 1)) _ (
-        inside_stacked within,
-        λ now r d known. drawn_claim past now d size token least most asked known (inside_kept r within) (can_draw (pages_of size) d) refl,
-      )
+      draw_then past before s (pages_of size) token (λ d. fill_stack arch d size (pages_of size) token) (omega arith) most within
+      (λ p z n i d room within1 begun. fill_claim p z n i d size token least asked room within1 begun)
 
   map_claim : (past : List Visit) (before s : State) (address size flags : ℕ) (o : Option Errno) → refused address size flags ≡ o → Within job arch l untouched past s → Claim job arch (Leaves job arch l) past before s (map_by arch size flags o)
   map_claim past before s address size flags (Some error) e within = failed_claim job arch l {drawing = false} {numbering = false} past before s error free within

@@ -59,7 +59,36 @@ store_page image page v (inr e) a = elim (cases_lt page first_shadow_page) [
   | inr g ↦ absurd (false≢true (sym (high_entry image page g) ∙ sym (ap (λ n. allows n kind.Store User) e) ∙ a))
 ]
 
--- its words matter for no stack
+-- the entries of kernel pages let no user load
+load_bits : (page bits : ℕ) → bits < 2 ^ 12 → allows (no_execute + entry_with page bits) kind.Load User ≡ allows bits kind.Load User
+load_bits page bits b =
+    let e : no_execute + entry_with page bits ≡ (2 ^ 51 + page + 256) * 2 ^ 12 + bits = omega arith in
+    let one = low_bits (2 ^ 51 + page + 256) bits 1 b (lit< tt) in
+    let four = low_bits (2 ^ 51 + page + 256) bits 4 b (lit< tt) in
+    ap (λ n. allows n kind.Load User) e ∙ rw (one, four) refl
+
+no_load : (page : ℕ) (d e : Bool) → allows (if d then no_execute + entry_with page 0x63 else if e then no_execute + entry_with page 0x61 else 0) kind.Load User ≡ false
+no_load page true e = load_bits page 0x63 (lit< tt)
+no_load page false true = load_bits page 0x61 (lit< tt)
+no_load page false false = refl
+
+kernel_entry : (image : ImageData) (page : ℕ) → first_kernel_page ≤ page → allows (entry_of image page) kind.Load User ≡ false
+unfolding entry_of
+kernel_entry image page l =
+    let a : nat_lt page 1024 ≡ false = grind (arith, nat_tests) in
+    let b : nat_lt page first_shadow_page ≡ false = grind (arith, nat_tests) in
+    let c : nat_lt page first_kernel_page ≡ false = grind (arith, nat_tests) in
+    rw (a, b, c) (no_load page (page == first_kernel_page) (page % 2 == 0))
+
+-- a page on which the user may load is none of the kernel's
+pub load_page : (image : ImageData) (page v : ℕ) → IsEntry image page v → allows v kind.Load User ≡ true → page < first_kernel_page
+load_page image page v (inl z) a = absurd (false≢true (sym (ap (λ n. allows n kind.Load User) z) ∙ a))
+load_page image page v (inr e) a = elim (cases_lt page first_kernel_page) [
+  | inl l ↦ l
+  | inr g ↦ absurd (false≢true (sym (kernel_entry image page g) ∙ sym (ap (λ n. allows n kind.Load User) e) ∙ a))
+]
+
+-- its words matter for no stack, where the user may store
 pub page_word : (page addr : ℕ) → page < first_shadow_page → IsOut (word_in page addr)
 page_word page addr l = record { shadow = inl (omega arith); entry = omega arith; token = λ k lk. omega arith; below = λ k lk. omega arith; actions = inl (omega arith); draw = omega arith; next = omega arith; exit = omega arith }
 

@@ -18,13 +18,14 @@ use Rattle.cet_isa.specs.declared.threads.Record.{Record}
 use Rattle.cet_book.specs.Facts.{IsReturn}
 use Rattle.cet_page.specs.Script.{◌>>=◌}
 use Rattle.cet_page.specs.Fetch.{fetchable, joined, missing, missing_in}
-use Rattle.cet_page.specs.Finish.{Row, noted, rax, IsMade, rdi}
+use Rattle.cet_page.specs.Finish.{Row, noted, rax, IsMade}
 use Rattle.cet_page.specs.Word64.{add64}
 use Rattle.cet_page.specs.Family.{family_of}
 use Rattle.cet_page.specs.Flow.{flow}
 use Rattle.cet_page.specs.declared.families.Family.{Family}
 use Rattle.cet_page.specs.declared.families.Family.TheVariants as families
-use Rattle.cet_page.specs.Gate.{exit_status, made_page, clears, exit, exit_group, Work, inside, leave, entered, signal_of, is_masked, kill, delivery}
+use Rattle.cet_page.specs.Gate.{Work, inside, leave, entered, signal_of, is_masked, kill, delivery}
+use Rattle.cet_page.specs.Processes.{is_process_service}
 use Rattle.cet_page.specs.Services.{service}
 use Rattle.cet_page.specs.declared.finishes.Leaving.{Leaving}
 use Rattle.cet_page.specs.declared.services.Errno.TheVariants as errno
@@ -35,12 +36,13 @@ use Rattle.cet_own.proofs.Standing.{AtRest}
 use Rattle.cet_own.proofs.Owed.{State, own_stack}
 use Rattle.cet_own.proofs.Classes.{looks}
 use Rattle.cet_own.specs.ExitWord.{IsEnding}
-use Rattle.cet_own.proofs.Endings.{by_signal, by_status}
-use Rattle.cet_own.proofs.Parts.{Fails, Claim, claim_bind, claim_cond, load_then, kernel_load_then, end_then, clears_claim}
-use Rattle.cet_own.proofs.GateParts.{gate_in_then, gate_out_then, exit_out_then}
-use Rattle.cet_own.proofs.KernelParts.{Leaves as LeavesOf, Within as WithinBy, failed_claim, serve_claim}
+use Rattle.cet_own.proofs.Endings.{by_signal}
+use Rattle.cet_own.proofs.Parts.{Fails, Claim, claim_bind, claim_cond, load_then, kernel_load_then, end_then}
+use Rattle.cet_own.proofs.GateParts.{gate_in_then, gate_out_then}
+use Rattle.cet_own.proofs.KernelParts.{Leaves as LeavesOf, Within as WithinBy, failed_claim}
 use Rattle.cet_own.proofs.MapClaims.{map_shadow_stack_claim}
 use Rattle.cet_own.proofs.MmapClaims.{mmap_claim, munmap_claim}
+use Rattle.cet_own.proofs.ProcessClaims.{process_claim}
 use Rattle.cet_own.proofs.ShadowClaims.{shadow_stacks_claim}
 use Rattle.cet_own.proofs.Calls.{Ends, EndsRow, call_relative_claim, call_indirect_claim}
 use Rattle.cet_own.proofs.Returns.{ret_claim}
@@ -111,29 +113,13 @@ module _ (job : JobData) (j : IsJob job) (arch : Arch) where
   abbrev Leaves : List Visit → State → State → Arch × Record × Leaving → Type 0
   Leaves past before s x = LeavesOf job arch below_eight past before s x
 
-  exit_claim : (past : List Visit) (before s : State) → IsElsewhere job arch → IsMade arch.made → Within past s → Claim job arch Leaves past before s (exit arch)
-  unfolding exit
-  exit_claim past before s free made inside =
-      let low = made.low in
-      let high = made.high in
-      claim_bind job arch Leaves past before s (clears 8 (made_page arch)) _
-      (clears_claim job arch (own_stack job arch.number) (stack_below job arch.number j) _ past before s 8 (made_page arch) (omega arith) (omega arith) inside (λ p z n inside'.
-      exit_out_then job arch (stack_below job arch.number j) (Ends job arch) p z n (exit_status arch) _ inside' (λ p' z' n' none. (none, λ held now. free, tt))))
-
-  exit_group_claim : (past : List Visit) (before s : State) → IsElsewhere job arch → Within past s → Claim job arch Leaves past before s (exit_group arch)
-  unfolding exit_group
-  exit_group_claim past before s free within =
-      end_then job arch Leaves past before s (0x100 + exit_status arch) _ (by_status (rdi arch)) (inside_stacked within) (λ now r found.
-      serve_claim job arch below_eight {drawing = false} {numbering = false} _ now now (exit_status arch) free (inside_left (rw (exit_apart (own_stack job arch.number)) refl) (inside_kept r within)))
-
   service_claim : (past : List Visit) (before s : State) → IsElsewhere job arch → IsMade arch.made → Within past s → Claim job arch Leaves past before s (service arch)
   service_claim past before s free made within =
-      claim_cond job arch Leaves past before s (rax arch == 60) _ _ (λ _. exit_claim past before s free made within)
-      (λ _. claim_cond job arch Leaves past before s (rax arch == 231) _ _ (λ _. exit_group_claim past before s free within)
+      claim_cond job arch Leaves past before s (is_process_service (rax arch)) _ _ (λ _. process_claim job arch below_eight free past before s made within)
       (λ _. claim_cond job arch Leaves past before s (rax arch == 9) _ _ (λ _. mmap_claim job arch below_eight free past before s within)
       (λ _. claim_cond job arch Leaves past before s (rax arch == 11) _ _ (λ _. munmap_claim job arch below_eight free past before s within)
       (λ _. claim_cond job arch Leaves past before s (rax arch == 453) _ _ (λ _. map_shadow_stack_claim job arch below_eight free past before s within)
-      (λ _. failed_claim job arch below_eight {drawing = false} {numbering = false} past before s errno.NoSys free within)))))
+      (λ _. failed_claim job arch below_eight {drawing = false} {numbering = false} past before s errno.NoSys free within))))
 
   kill_claim : (past : List Visit) (before s : State) (signal : ℕ) → IsEnding (0x200 + signal) → Within past s → Claim job arch Leaves past before s (kill arch signal)
   unfolding kill

@@ -1,10 +1,10 @@
 -- What the record of each row tells of: of the stack that map_shadow_stack has claimed, and else of none. Source: own.
-use Rattle.std.proofs.Common.{◌≡◌, ℕ, zero, suc, ◌+◌, ◌%◌, Bool, true, false, inl, inr, cond, List, [], ◌∷◌, Option, Some, None, refl, subst, sym}
-use Rattle.std.specs.Prelude.{◌==◌, if◌then◌else◌}
+use Rattle.std.proofs.Common.{◌≡◌, ℕ, zero, suc, ◌+◌, ◌%◌, Bool, true, false, inl, inr, cond, List, [], ◌∷◌, Option, Some, None, refl, ap, subst, sym, arith}
+use Rattle.std.specs.Prelude.{◌==◌, ◌-◌, nat_lt, if◌then◌else◌}
 use Rattle.std.specs.Int.{cast_unsigned}
-use Rattle.cet_words.specs.Layout.{page_at, pages_of}
+use Rattle.cet_words.specs.Layout.{page_at, pages_of, thread_limit, thread_region_size}
 use Rattle.cet_words.specs.Job.{JobData}
-use Rattle.cet_words.specs.Change.{Change, Claimed}
+use Rattle.cet_words.specs.Change.{Change, Born, Claimed}
 use Rattle.cet_isa.specs.Address.{canonical}
 use Rattle.cet_isa.specs.Reading.{Decoding, Read, Short, Unknown}
 use Rattle.cet_isa.specs.declared.instructions.AluOp.{AluOp}
@@ -29,9 +29,11 @@ use Rattle.cet_page.specs.Family.{family_of}
 use Rattle.cet_page.specs.Operands.{register, load_word, load_at, write_place, store_at, read_operand}
 use Rattle.cet_page.specs.Arithmetic.{operated, alu, test, imul, move, movzx, movsxd, cmov, xchg, lock_xadd, lock_cmpxchg, arithmetic}
 use Rattle.cet_page.specs.Flow.{call, call_next, call_indirect, ret, push, pop, leave as leave_frame, jump_indirect, flow}
-use Rattle.cet_page.specs.Gate.{failed, gate_in, gate_out, freed, leave, entered, exit, exit_group, kill, delivery, deliver}
-use Rattle.cet_page.specs.MapShadowStack.{can_draw, claimed, drawn_start, fill_stack, draw_stack, map_by, map_shadow_stack, refused, seed_if}
+use Rattle.cet_page.specs.Gate.{failed, gate_in, gate_out, freed, leave, entered, kill, delivery, deliver}
+use Rattle.cet_page.specs.MapShadowStack.{can_draw, claimed, drawn_page, drawn_start, fill_stack, draw_stack, map_by, map_shadow_stack, refused, seed_if}
 use Rattle.cet_page.specs.Mmap.{draw_pages, map_pages, map_refused, mmap, mmap_by, munmap, munmap_by, unmap_pages, unmapped_page}
+use Rattle.cet_page.specs.MemoryServices.{memory_service}
+use Rattle.cet_page.specs.Processes.{bear, bore, clone, draw_thread, exit, exit_group, give_up, load_last, process_service, put_status, tell_status, thread_pages, write, write_bytes, write_first, write_last, write_words}
 use Rattle.cet_page.specs.Services.{syscall}
 use Rattle.cet_page.specs.ShadowStacks.{rstorssp, save, saveprevssp, incsspq, shadow_stacks}
 use Rattle.cet_page.specs.Fetch.{missing, missing_in}
@@ -292,9 +294,63 @@ tells_munmap_by arch length k None = tells_failed arch errno.Inval k
 tells_munmap : (arch : Arch) (k : ℕ) → Tells EndTells nothing_drawn (munmap arch >>= leave k)
 tells_munmap arch k = tells_munmap_by arch (rsi arch) k (unmapped_page (rdi arch) (rsi arch))
 
+tells_memory : (arch : Arch) (k : ℕ) → Tells EndTells nothing_drawn (memory_service arch >>= leave k)
+tells_memory arch k = search (rules, tells_map, tells_mmap, tells_munmap) depth 99 fits 9000
+
+-- ---- clone: the record of a birth tells of the stack that was claimed
+
+-- by whether there is a number left
+tells_numbered : (arch : Arch) (d v k : ℕ) (c : Bool) → Tells EndTells (draws (if c then Born v (drawn_start d) ∷ [] else []) (one_drawn (drawn_start d) thread_pages [])) ((if c then done (bore arch v (drawn_start d)) else give_up arch (drawn_page d)) >>= leave k)
+unfolding give_up
+tells_numbered arch d v k true =
+    let start : drawn_start d + thread_region_size - thread_region_size ≡ drawn_start d = omega arith in
+    tells_return _ _ (tells_gate_out _ k _ (tells_done (tells_stack (claimed_span (drawn_start d) thread_pages) (ap (λ n. record { start = n; end = drawn_start d + thread_region_size } ∷ []) start) refl (inr refl))))
+tells_numbered arch d v k false = tells_assoc _ _ _ (tells_stores _ _ _ _ _ (tells_return _ _ (tells_gate_out _ k _ (tells_done (tells_nothing refl refl)))))
+
+tells_bear : (arch : Arch) (d k : ℕ) → Tells EndTells (one_drawn (drawn_start d) thread_pages []) (bear arch d >>= leave k)
+unfolding bear
+tells_bear arch d k = tells_assoc _ _ _ (tells_stores _ _ _ _ _ (tells_assoc _ _ _ (tells_added _ _ _ _ (λ v. tells_numbered arch d v k (nat_lt v thread_limit)))))
+
+-- by whether the draw succeeds
+tells_placed : (arch : Arch) (d k : ℕ) (c : Bool) → Tells EndTells (draws (if c then Claimed (drawn_start d) thread_pages true ∷ [] else []) nothing_drawn) ((if c then bear arch d else done (failed arch errno.NoMem)) >>= leave k)
+tells_placed arch d k true = tells_bear arch d k
+tells_placed arch d k false = tells_failed arch errno.NoMem k
+
+tells_draw_thread : (arch : Arch) (k : ℕ) → Tells EndTells nothing_drawn (draw_thread arch >>= leave k)
+unfolding draw_thread
+tells_draw_thread arch k = tells_assoc _ _ _ (tells_added _ _ _ _ (λ v. tells_placed arch v k (can_draw thread_pages v)))
+
+tells_clone : (arch : Arch) (k : ℕ) → Tells EndTells nothing_drawn (clone arch >>= leave k)
+tells_clone arch k = search (rules, tells_draw_thread) depth 99 fits 9000
+
+-- ---- the other services
+
+tells_words : (arch : Arch) (addr count first k : ℕ) (last : Option ℕ) → Tells EndTells nothing_drawn (write_last arch addr count first last >>= leave k)
+unfolding write_words load_last
+tells_words arch addr count first k None = search rules depth 99 fits 9000
+tells_words arch addr count first k (Some last) = search rules depth 99 fits 9000
+
+tells_first : (arch : Arch) (addr count k : ℕ) (first : Option ℕ) → Tells EndTells nothing_drawn (write_first arch addr count first >>= leave k)
+unfolding write_first
+tells_first arch addr count k None = search rules depth 99 fits 9000
+tells_first arch addr count k (Some first) = search (rules, tells_words) depth 99 fits 9000
+
+tells_write : (arch : Arch) (k : ℕ) → Tells EndTells nothing_drawn (write arch >>= leave k)
+unfolding write_bytes
+tells_write arch k = search (rules, tells_first) depth 99 fits 9000
+
+tells_put : (arch : Arch) (addr k : ℕ) (at : Option ℕ) → Tells EndTells nothing_drawn (put_status arch addr at >>= leave k)
+unfolding put_status
+tells_put arch addr k None = search rules depth 99 fits 9000
+tells_put arch addr k (Some page) = search rules depth 99 fits 9000
+
+tells_process : (arch : Arch) (k : ℕ) → Tells EndTells nothing_drawn (process_service arch >>= leave k)
+unfolding exit exit_group tell_status
+tells_process arch k = search (rules, tells_write, tells_clone, tells_put) depth 99 fits 9000
+
 tells_syscall : (job : JobData) (arch : Arch) → Tells EndTells nothing_drawn (syscall job arch)
-unfolding entered exit exit_group
-tells_syscall job arch = search (rules, tells_map, tells_mmap, tells_munmap) depth 99 fits 9000
+unfolding entered
+tells_syscall job arch = search (rules, tells_memory, tells_process) depth 99 fits 9000
 
 tells_deliver : (job : JobData) (arch : Arch) (e : Fault) → Tells EndTells nothing_drawn (deliver job arch e)
 unfolding entered delivery kill

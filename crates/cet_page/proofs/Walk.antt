@@ -4,7 +4,7 @@ use Rattle.std.proofs.Common.{zero, suc, true, false, arith, cond, subst, ap, sy
 use Rattle.std.proofs.lemmas.Bool.{leb-true, le-leb}
 use Rattle.std.specs.Prelude.{◌≡◌, ℕ, ◌+◌, ◌<◌, ◌≤◌, ◌%◌, Bool, ◌||◌, ◌==◌, nat_le, List, [], ◌∷◌, ◌++◌, length, Option, Some, None, refl}
 use Rattle.std.specs.Int.{cast_unsigned}
-use Rattle.cet_words.specs.Layout.{page_at}
+use Rattle.cet_words.specs.Layout.{page_at, thread_limit}
 use Rattle.cet_words.specs.Change.{Change, Called, Returned, Raised, Acquired, Released, Claimed, Seeded, Born, Pushed, Popped, Ended, Busied, Freed}
 use Rattle.cet_words.specs.declared.accesses.Access.{Access}
 use Rattle.cet_words.specs.declared.accesses.Access.TheVariants as access
@@ -40,12 +40,10 @@ writes (access.CompareExchange word expected value) v = v == expected
 
 -- ---- births
 
--- Who may be born: nobody, while clone isn't built. With it this line says that the number is below 32 and the start IsMade.
-abbrev pub MayBear : (child : ℕ × ℕ) → Type 0
-MayBear child = ⊥
-
-pub born_made : (child : ℕ × ℕ) → MayBear child → (child.0 < 32) × IsMade child.1
-born_made child may = absurd may
+-- who may be born: a thread with a number below 32, on eight pages of the shadow area
+pub record MayBear (child : ℕ × ℕ) : Type 0 where
+  pub number : child.0 < thread_limit
+  pub made : IsMade child.1
 
 abbrev pub BornFits : Option (ℕ × ℕ) → Type 0
 BornFits None = Unit {0}

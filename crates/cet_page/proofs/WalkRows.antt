@@ -1,11 +1,11 @@
 -- Every row walks within the bounds, and begins with an access. Source: own.
 use Rattle.std.proofs.Common.{true, false, cond, refl}
-use Rattle.std.specs.Prelude.{◌≡◌, ℕ, ◌+◌, Bool, List, [], length, nat_le, Option, Some, None}
+use Rattle.std.specs.Prelude.{◌≡◌, ℕ, ◌+◌, ◌<◌, ◌≤◌, Bool, List, [], ◌∷◌, length, nat_le, nat_lt, Option, Some, None}
 use Rattle.std.proofs.Common.{arith}
 use Rattle.std.proofs.lemmas.Bool.Decides.{nat_tests}
 use Rattle.cet_words.specs.Job.{JobData}
-use Rattle.cet_words.specs.Layout.{area_pages, most_stack_pages, page_at, pages_of}
-use Rattle.cet_words.specs.Change.{Change}
+use Rattle.cet_words.specs.Layout.{area_pages, most_stack_pages, page_at, pages_of, thread_limit}
+use Rattle.cet_words.specs.Change.{Change, Born}
 use Rattle.cet_words.specs.declared.accesses.Access.{Access}
 use Rattle.cet_isa.specs.Reading.{Decoding, Read, Short, Unknown}
 use Rattle.cet_isa.specs.declared.instructions.AluOp.{AluOp}
@@ -24,7 +24,7 @@ use Rattle.cet_isa.specs.declared.threads.What.{What}
 use Rattle.cet_isa.specs.declared.threads.What.TheVariants as what
 use Rattle.cet_page.specs.Script.{done, fault, ask, tell, ◌>>=◌, Wants, play}
 use Rattle.cet_page.specs.Parts.{load_as, read_entry}
-use Rattle.cet_page.specs.Finish.{Row, noted}
+use Rattle.cet_page.specs.Finish.{IsMade, Row, noted}
 use Rattle.cet_page.specs.Word64.{add64}
 use Rattle.cet_page.specs.declared.families.Family.{Family}
 use Rattle.cet_page.specs.declared.families.Family.TheVariants as families
@@ -33,16 +33,18 @@ use Rattle.cet_page.specs.Family.{family_of}
 use Rattle.cet_page.specs.Arithmetic.{operated, alu, test, imul, move, movzx, movsxd, cmov, xchg, lock_xadd, lock_cmpxchg, arithmetic}
 use Rattle.cet_page.specs.ShadowStacks.{shadow_stacks, rstorssp, save, saveprevssp, incsspq}
 use Rattle.cet_page.specs.Flow.{call, call_next, call_indirect, ret, push, pop, leave, jump_indirect, flow}
-use Rattle.cet_page.specs.Gate.{gate_in, entered, exit, exit_group, kill, delivery, deliver}
+use Rattle.cet_page.specs.Gate.{gate_in, entered, kill, delivery, deliver}
 use Rattle.cet_page.specs.Gate.{leave as leave_kernel}
-use Rattle.cet_page.specs.MapShadowStack.{fill_stack, draw_stack, map_by, map_shadow_stack, refused}
+use Rattle.cet_page.specs.MapShadowStack.{can_draw, drawn_start, fill_stack, draw_stack, map_by, map_shadow_stack, refused}
 use Rattle.cet_page.specs.Mmap.{draw_pages, map_pages, map_refused, mmap, mmap_by, munmap, munmap_by, unmap_pages, unmapped_page}
+use Rattle.cet_page.specs.MemoryServices.{memory_service}
+use Rattle.cet_page.specs.Processes.{bear, born_if, clone, draw_thread, exit, exit_group, give_up, load_last, process_service, put_status, tell_status, thread_pages, write, write_bytes, write_first, write_last, write_words}
 use Rattle.cet_page.specs.Finish.{r10, rdi, rdx, rsi}
 use Rattle.cet_page.specs.declared.services.Errno.{Errno}
 use Rattle.cet_page.specs.Services.{syscall}
 use Rattle.cet_page.specs.Fetch.{missing, missing_in}
 use Rattle.cet_page.specs.Row.{execute_family, fetched, instruction, boundary, row, row_from}
-use Rattle.cet_page.proofs.Walk.{Walks, Walk, acted, walk_fault, no_birth, walk_rules}
+use Rattle.cet_page.proofs.Walk.{BirthFits, Walks, Walk, acted, walk_fault, no_birth, birth_if, walk_rules}
 use Rattle.cet_page.specs.declared.finishes.Finish.{Finish}
 use Rattle.cet_page.specs.declared.finishes.Finish.TheVariants.{Noted, Posted, Exited, Stopped}
 
@@ -147,9 +149,59 @@ walk_munmap_by arch k w length (Some page) few = let fits : nat_le (pages_of len
 walk_munmap : (arch : Arch) (k : ℕ) (w : Bool) → Walk 5 4 w (Ends arch) (munmap arch >>= leave_kernel k)
 walk_munmap arch k w = walk_munmap_by arch k w (rsi arch) (unmapped_page (rdi arch) (rsi arch)) (few_unmapped (rdi arch) (rsi arch))
 
+walk_memory : (arch : Arch) (k : ℕ) (w : Bool) → Walk 5 4 w (Ends arch) (memory_service arch >>= leave_kernel k)
+walk_memory arch k w = search (rules, walk_map, walk_mmap, walk_munmap) depth 99 fits 9000
+
+-- the shadow stack of a thread that is born lies in the shadow area
+made_there : (d : ℕ) → can_draw thread_pages d ≡ true → IsMade (drawn_start d)
+made_there d e =
+    let room : d + thread_pages + 1 ≤ 1023 = grind (arith, nat_tests) in
+    record { low = omega arith; high = omega arith; whole = omega arith }
+
+born_fits : (d v : ℕ) → can_draw thread_pages d ≡ true → BirthFits (born_if (drawn_start d) v)
+born_fits d v e =
+    birth_if (nat_lt v thread_limit) (Born v (drawn_start d) ∷ []) [] (λ l. record {
+      fits = record { number = (let n : v < thread_limit = grind (arith, nat_tests) in n); made = made_there d e };
+      alone = λ child b. cc;
+    }) (λ l. no_birth [] refl)
+
+walk_bear : (arch : Arch) (d k : ℕ) (w : Bool) → can_draw thread_pages d ≡ true → Walk 6 5 w (Ends arch) (bear arch d >>= leave_kernel k)
+unfolding bear give_up
+walk_bear arch d k w e = let fits : (v : ℕ) → BirthFits (born_if (drawn_start d) v) = λ v. born_fits d v e in search (rules, fits) depth 99 fits 9000
+
+walk_clone : (arch : Arch) (k : ℕ) (w : Bool) → Walk 5 4 w (Ends arch) (clone arch >>= leave_kernel k)
+unfolding draw_thread
+walk_clone arch k w = search (rules, walk_bear) depth 99 fits 9000
+
+walk_words : (arch : Arch) (addr count first last k : ℕ) (w : Bool) → Walk 7 6 w (Ends arch) (write_words arch addr count first last >>= leave_kernel k)
+unfolding write_words load_last
+walk_words arch addr count first last k w = search rules depth 99 fits 9000
+
+walk_last : (arch : Arch) (addr count first k : ℕ) (at : Option ℕ) (w : Bool) → Walk 7 6 w (Ends arch) (write_last arch addr count first at >>= leave_kernel k)
+walk_last arch addr count first k None w = search rules depth 99 fits 9000
+walk_last arch addr count first k (Some last) w = walk_words arch addr count first last k w
+
+walk_first : (arch : Arch) (addr count k : ℕ) (at : Option ℕ) (w : Bool) → Walk 6 5 w (Ends arch) (write_first arch addr count at >>= leave_kernel k)
+unfolding write_first
+walk_first arch addr count k None w = search rules depth 99 fits 9000
+walk_first arch addr count k (Some first) w = search (rules, walk_last) depth 99 fits 9000
+
+walk_write : (arch : Arch) (k : ℕ) (w : Bool) → Walk 5 4 w (Ends arch) (write arch >>= leave_kernel k)
+unfolding write_bytes
+walk_write arch k w = search (rules, walk_first) depth 99 fits 9000
+
+walk_put : (arch : Arch) (addr k : ℕ) (at : Option ℕ) (w : Bool) → Walk 6 5 w (Ends arch) (put_status arch addr at >>= leave_kernel k)
+unfolding put_status
+walk_put arch addr k None w = search rules depth 99 fits 9000
+walk_put arch addr k (Some page) w = search rules depth 99 fits 9000
+
+walk_process : (arch : Arch) (k : ℕ) (w : Bool) → Walk 5 4 w (Ends arch) (process_service arch >>= leave_kernel k)
+unfolding exit exit_group tell_status
+walk_process arch k w = search (rules, walk_write, walk_clone, walk_put) depth 99 fits 9000
+
 pub walk_syscall : (job : JobData) (arch : Arch) → Walk 2 2 false (Ends arch) (syscall job arch)
-unfolding entered exit exit_group
-walk_syscall job arch = search (rules, walk_map, walk_mmap, walk_munmap) depth 99 fits 9000
+unfolding entered
+walk_syscall job arch = search (rules, walk_memory, walk_process) depth 99 fits 9000
 
 pub walk_deliver : (job : JobData) (arch : Arch) (e : Fault) → Walk 0 0 false (Ends arch) (deliver job arch e)
 unfolding entered delivery kill

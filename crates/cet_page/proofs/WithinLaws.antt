@@ -17,7 +17,7 @@ use Rattle.cet_page.specs.Trail.{vals_of, row_trail}
 use Rattle.cet_page.specs.Within.{IsState, Waits, CoreAt, IsCore}
 use Rattle.cet_page.specs.Row.{row}
 use Rattle.cet_page.specs.Core.{Core, first_core, unheld, row_played, wanted, access_of, next_access, kept_by, recorded, faulted, core_by, answered, taken, born, child_arch, child_core}
-use Rattle.cet_page.proofs.Walk.{Spent, OnOver, spent_more, spent_fits, over_play, births, BornFits, born_made}
+use Rattle.cet_page.proofs.Walk.{Spent, OnOver, spent_more, spent_fits, over_play, births, BornFits, MayBear}
 use Rattle.cet_page.proofs.TrailLaws.{trail_shows, trail_spent}
 use Rattle.cet_page.proofs.WalkRows.{Ends, walk_row, row_begins}
 use Rattle.cet_page.specs.Plays.{Wanted, birth_by}
@@ -100,8 +100,7 @@ born_is : (job : JobData) (arch : Arch) (child : Option (ℕ × ℕ)) (b : Core)
 born_is job arch None b l m f e = cc
 born_is job arch (Some child) b l m f e =
     let is : child_core arch child.0 child.1 ≡ b = cc in
-    let made = born_made child f in
-    subst (IsCore job) is (fresh_core job (child_arch arch child.0 child.1) l (record { number = made.0; made = made.1 }) m)
+    subst (IsCore job) is (fresh_core job (child_arch arch child.0 child.1) l (record { number = f.number; made = f.made }) m)
 
 child_by : (job : JobData) (core : Core) (answer : ℕ) → Waits job core → (r : Played Finish) → row_played job core.arch core.vals ≡ r → (b : Core) → (answered job core answer r).child ≡ Some b → IsCore job b
 child_by job core answer h (Wants a changes) e b c =
@@ -120,32 +119,14 @@ child_waits job core answer h b e = child_by job core answer h (row_played job c
 pub child_is : (job : JobData) (core b : Core) (answer : ℕ) → IsCore job core → core.over ≡ None → (taken job core answer).child ≡ Some b → IsCore job b
 child_is job core b answer h n e = child_waits job core answer (waiting job core h n) b e
 
--- ---- nobody is born, while nobody may be
-
-nobody : (child : Option (ℕ × ℕ)) → BornFits child → child ≡ None
-nobody None f = refl
-nobody (Some child) f = absurd f
-
-none_born : (job : JobData) (core : Core) (answer : ℕ) (r : Played Finish) → row_played job core.arch core.vals ≡ r → (answered job core answer r).child ≡ None
-none_born job core answer (Wants a changes) e =
-    let arch = unheld core.arch in
-    let fits = births (Ends arch) false (row job arch) 0 0 core.vals.accesses core.vals.values a changes answer (walk_row job arch).walks e in
-    ap (born core.arch) (nobody (birth (changes answer)) fits.fits)
-none_born job core answer (Faulted f) e = refl
-none_born job core answer (Completed x left values) e = refl
-
-pub no_child : (job : JobData) (core : Core) (answer : ℕ) → (taken job core answer).child ≡ None
-unfolding taken
-no_child job core answer = none_born job core answer (row_played job core.arch core.vals) refl
-
 -- ---- a birth
 
 -- where the next access bears a thread, its shadow stack is in range
 bears_by : (start answer : ℕ) → answer < 32 → BornFits (birth_by (marks.Bears start) answer) → IsMade start
 bears_by start answer l f =
     let t : nat_lt answer 32 ≡ true = lt-ltb answer 32 l in
-    let g : BornFits (if true then Some (answer, start) else None) = rw t at f in
-    (born_made (answer, start) g).1
+    let g : MayBear (answer, start) = rw t at f in
+    g.made
 
 bears_at : (job : JobData) (core : Core) (a : Access) (start answer : ℕ) → Waits job core → answer < 32 → (c : Played Finish) → row_played job core.arch core.vals ≡ c → Wanted c a (marks.Bears start) → IsMade start
 bears_at job core a start answer h l (Wants b changes) e w =

@@ -1,7 +1,7 @@
--- The gate into the kernel, exit and exit_group, the delivery of a fault and the kill. Source: Intel SDM volume 1 (supervisor
--- shadow-stack tokens, SETSSBSY and CLRSSBSY) for the token; Linux for the calls' numbers and errors; the fixed order is own.
+-- The gate into the kernel, what a call leaves, the delivery of a fault and the kill. Source: Intel SDM volume 1 (supervisor
+-- shadow-stack tokens, SETSSBSY and CLRSSBSY) for the token; Linux for the numbers of errors; the fixed order is own.
 use Rattle.std.specs.Prelude.{ℕ, ◌+◌, ◌-◌, ◌/◌, ◌%◌, ◌^◌, Bool, List, [], ◌∷◌, Option, Some, None, ◌==◌, if◌then◌else◌, slice_set}
-use Rattle.cet_words.specs.Layout.{entry_word, first_shadow_page, shadow_start, exit_word, action_word, token, token_page, token_word, kernel_return}
+use Rattle.cet_words.specs.Layout.{exit_word, action_word, token, token_page, token_word, kernel_return}
 use Rattle.cet_words.specs.Job.{JobData}
 use Rattle.cet_isa.specs.declared.threads.Fault.{Fault}
 use Rattle.cet_isa.specs.declared.threads.FaultName.{FaultName}
@@ -11,8 +11,8 @@ use Rattle.cet_isa.specs.declared.threads.What.TheVariants as what
 use Rattle.cet_isa.specs.declared.threads.Arch.{Arch}
 use Rattle.cet_words.specs.Change.{Change, Popped, Busied, Freed, Ended}
 use Rattle.cet_page.specs.Script.{Script, done, ◌>>=◌}
-use Rattle.cet_page.specs.Parts.{read_entry, load, store, stores, compare_exchange, compare_exchange_as}
-use Rattle.cet_page.specs.Finish.{rax, rdi, counted}
+use Rattle.cet_page.specs.Parts.{read_entry, load, store, compare_exchange, compare_exchange_as}
+use Rattle.cet_page.specs.Finish.{rax, counted}
 use Rattle.cet_page.specs.Word64.{add64}
 use Rattle.cet_page.specs.declared.finishes.Finish.{Finish}
 use Rattle.cet_page.specs.declared.finishes.Finish.TheVariants as finish
@@ -128,30 +128,6 @@ serve arch result = (served arch result, sys_record arch result, leaving.Back)
 -- the result of an error is minus its number
 abbrev pub failed : Arch → Errno → Arch × Record × Leaving
 failed arch error = serve arch (2 ^ 64 - error_number error)
-
--- stores of 0 to the entries of so many pages, the lowest first
-abbrev pub clears : (count page : ℕ) → Script (Unit {0})
-clears count page = stores count (entry_word page) 0 0
-
--- the first page of the shadow stack that the kernel made
-abbrev pub made_page : Arch → ℕ
-made_page arch = first_shadow_page + (arch.made - shadow_start) / 4096
-
-abbrev pub exit_status : Arch → ℕ
-exit_status arch = rdi arch % 256
-
--- exit (60)
-unfoldable pub exit : Arch → Work
-exit arch = do
-  _ ← clears 8 (made_page arch)
-  done (counted arch, sys_record arch (exit_status arch), leaving.Ended (exit_status arch))
-
--- exit_group (231): the process ends with the low byte of the status. EXIT becomes that byte and 256, where no thread has
--- ended the process before. The thread goes on to its next boundary.
-unfoldable pub exit_group : Arch → Work
-exit_group arch = do
-  _ ← compare_exchange exit_word 0 (0x100 + exit_status arch)
-  done (serve arch (exit_status arch))
 
 -- ---- the kill, and the delivery of a due fault
 

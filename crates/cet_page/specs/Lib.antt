@@ -16,6 +16,7 @@ pub mod Gate
 pub mod MapShadowStack
 pub mod Mmap
 pub mod MemoryServices
+pub mod Processes
 pub mod Services
 pub mod Fetch
 pub mod Row
