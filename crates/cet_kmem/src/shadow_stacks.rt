@@ -8,10 +8,12 @@ ghost use Rattle.cet_page.specs.Parts.{fetch_add_as};
 ghost use Rattle.cet_page.specs.MapShadowStack.{claimed, claimed_if, draw_stack, drawn_page, drawn_start, fill_drawn, fill_stack, map_shadow_stack, refused, seed_if, seed_word};
 
 use cet_isa::{Arch, RDI, RDX, RSI, Record, What};
-use cet_page::{Cursor, Errno, Leaving, Suspended, can_draw, failed, restore_token, served, word_in};
+use cet_page::{
+    Cursor, Errno, Leaving, Suspended, can_draw, failed, restore_token, served, word_in,
+};
 use cet_words::{
-    DRAW_SHADOW_WORD, FIRST_ENTRY_WORD, FIRST_SHADOW_PAGE, MOST_STACK_PAGES,
-    SHADOW_START, pages_of, shadow_entry,
+    DRAW_SHADOW_WORD, FIRST_ENTRY_WORD, FIRST_SHADOW_PAGE, MOST_STACK_PAGES, SHADOW_START,
+    pages_of, shadow_entry,
 };
 
 /// The largest size that whole pages hold below 2^64 bytes.

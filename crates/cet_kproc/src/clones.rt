@@ -9,12 +9,11 @@ ghost use Rattle.cet_page.specs.MapShadowStack.{claimed_if, drawn_start};
 ghost use Rattle.cet_page.specs.Processes.{bear, bear_by, bear_drawn, bore, born_if, clone, clone_of, draw_thread, give_up, makes_thread, thread_id, thread_pages};
 
 use crate::exits::THREAD_PAGES;
-use crate::registers::{RDI, RSI};
-use cet_isa::{Arch, Record, What};
-use cet_page::{Cursor, Errno, Leaving, Mark, Suspended, can_draw, failed, served, shadow_entry};
+use cet_isa::{Arch, RDI, RSI, Record, What};
+use cet_page::{Cursor, Errno, Leaving, Mark, Suspended, can_draw, failed, served};
 use cet_words::{
     Access, DRAW_SHADOW_WORD, FIRST_ENTRY_WORD, FIRST_SHADOW_PAGE, NEXT_THREAD_WORD, SHADOW_START,
-    THREAD_LIMIT, THREAD_REGION_SIZE,
+    THREAD_LIMIT, THREAD_REGION_SIZE, shadow_entry,
 };
 
 /// CLONE_VM, CLONE_SIGHAND and CLONE_THREAD.

@@ -3,12 +3,11 @@
 ghost use Rattle.std.specs.Prelude.{◌≡◌, ◌+◌, ◌-◌, ◌^◌, ◌<◌};
 ghost use Rattle.cet_page.specs.Script.{play};
 ghost use Rattle.cet_page.specs.Plays.{Refines};
-ghost use Rattle.cet_page.specs.Finish.{IsMade, counted};
+ghost use Rattle.cet_page.specs.Finish.{IsMade};
 ghost use Rattle.cet_page.specs.Processes.{exit, exit_group, exit_status};
 
-use crate::registers::RDI;
-use cet_isa::{Arch, Record};
-use cet_page::{Cursor, Leaving, Suspended, serve, sys_record};
+use cet_isa::{Arch, RDI, Record};
+use cet_page::{Cursor, Leaving, Suspended, counted, serve, sys_record};
 use cet_words::{EXIT_WORD, FIRST_ENTRY_WORD, FIRST_SHADOW_PAGE, SHADOW_START};
 
 /// What EXIT holds above the status of an exit_group.
@@ -16,16 +15,6 @@ const ENDED: u64 = 0x100;
 
 /// The pages of the shadow stack that the kernel made for a thread.
 pub const THREAD_PAGES: u32 = 8;
-
-/// The state with one record more.
-fn counted(arch: &Arch) -> Arch
-    requires { arch.now.count < 2 ^ 32 - 1 }
-    ensures { result ≡ counted arch.now }
-{
-    let mut after = *arch;
-    after.count = arch.count + 1;
-    after
-}
 
 /// The low byte of RDI.
 fn exit_status(arch: &Arch) -> u8

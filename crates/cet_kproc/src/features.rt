@@ -6,8 +6,7 @@ ghost use Rattle.cet_page.specs.Script.{play};
 ghost use Rattle.cet_page.specs.Plays.{Refines};
 ghost use Rattle.cet_page.specs.Processes.{arch_prctl, arch_prctl_of, put_status, tell_status};
 
-use crate::registers::{RDI, RSI};
-use cet_isa::{Arch, Record};
+use cet_isa::{Arch, RDI, RSI, Record};
 use cet_page::{Cursor, Errno, Kind, Leaving, Suspended, Who, failed, serve, word_in};
 
 /// ARCH_SHSTK_ENABLE, which turns a feature on.

@@ -8,7 +8,6 @@
 mod clones;
 mod exits;
 mod features;
-mod registers;
 mod services;
 #[cfg(test)]
 mod tests;

@@ -10,8 +10,8 @@ use crate::clones::{clone, thread_id};
 use crate::exits::{exit, exit_group};
 use crate::features::arch_prctl;
 use crate::writes::write;
-use cet_isa::{Arch, Record};
-use cet_page::{Cursor, Errno, Leaving, Next, RAX, Suspended, Vals, failed, serve};
+use cet_isa::{Arch, RAX, Record};
+use cet_page::{Cursor, Errno, Leaving, Next, Suspended, Vals, failed, serve};
 use cet_words::Job;
 
 const WRITE: u64 = 1;

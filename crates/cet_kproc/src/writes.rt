@@ -6,8 +6,7 @@ ghost use Rattle.cet_page.specs.Script.{play};
 ghost use Rattle.cet_page.specs.Plays.{Refines};
 ghost use Rattle.cet_page.specs.Processes.{bytes_of, in_one_word, load_last, taken_of, write, write_bytes, write_first, write_last, write_of, write_words, wrote};
 
-use crate::registers::{RDI, RDX, RSI};
-use cet_isa::{Arch, Record, What};
+use cet_isa::{Arch, RDI, RDX, RSI, Record, What};
 use cet_page::{Cursor, Errno, Kind, Leaving, Suspended, Who, failed, serve, served, word_in};
 
 /// The file of standard output.

@@ -24,7 +24,7 @@ mod vals;
 
 pub use checks::{Kind, Who, check, index_of, page_fault};
 pub use cursors::{Cursor, Mark, Suspended, general_protection, invalid_opcode, word_in};
-pub use draws::{can_draw, shadow_entry};
+pub use draws::can_draw;
 pub use families::{Family, family_of};
 pub use fetches::{fetch, missing, next_address};
 pub use finishes::{Finish, Leaving, counted};
