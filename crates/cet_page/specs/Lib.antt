@@ -15,6 +15,10 @@ pub mod ShadowStacks
 pub mod Gate
 pub mod MapShadowStack
 pub mod Services
+pub mod Structures
+pub mod Signals
+pub mod Delivery
+pub mod SigReturn
 pub mod Fetch
 pub mod Row
 pub mod Core
