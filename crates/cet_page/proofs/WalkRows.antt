@@ -1,6 +1,6 @@
 -- Every row walks within the bounds, and begins with an access. Source: own.
 use Rattle.std.proofs.Common.{true, false, cond, refl}
-use Rattle.std.specs.Prelude.{◌≡◌, ℕ, ◌+◌, Bool, List, [], length, nat_le, Option, Some, None}
+use Rattle.std.specs.Prelude.{◌≡◌, ℕ, ◌+◌, Bool, List, [], length, nat_le, Option, Some, None, Result, Ok, Err}
 use Rattle.std.proofs.Common.{arith}
 use Rattle.std.proofs.lemmas.Bool.Decides.{nat_tests}
 use Rattle.cet_words.specs.Job.{JobData}
@@ -22,7 +22,7 @@ use Rattle.cet_isa.specs.declared.threads.Record.{Record}
 use Rattle.cet_isa.specs.declared.threads.Arch.{Arch}
 use Rattle.cet_isa.specs.declared.threads.What.{What}
 use Rattle.cet_isa.specs.declared.threads.What.TheVariants as what
-use Rattle.cet_page.specs.Script.{done, fault, ask, tell, ◌>>=◌, Wants, play}
+use Rattle.cet_page.specs.Script.{Script, done, fault, ask, tell, ◌>>=◌, Wants, play}
 use Rattle.cet_page.specs.Parts.{load_as, read_entry}
 use Rattle.cet_page.specs.Finish.{Row, noted}
 use Rattle.cet_page.specs.Word64.{add64}
@@ -33,15 +33,22 @@ use Rattle.cet_page.specs.Family.{family_of}
 use Rattle.cet_page.specs.Arithmetic.{operated, alu, test, imul, move, movzx, movsxd, cmov, xchg, lock_xadd, lock_cmpxchg, arithmetic}
 use Rattle.cet_page.specs.ShadowStacks.{shadow_stacks, rstorssp, save, saveprevssp, incsspq}
 use Rattle.cet_page.specs.Flow.{call, call_next, call_indirect, ret, push, pop, leave, jump_indirect, flow}
-use Rattle.cet_page.specs.Gate.{gate_in, entered, exit, exit_group, kill, delivery, deliver}
+use Rattle.cet_page.specs.Gate.{gate_in, entered, exit, exit_group, serve, kill, delivery, deliver}
 use Rattle.cet_page.specs.Gate.{leave as leave_kernel}
 use Rattle.cet_page.specs.MapShadowStack.{fill_stack, draw_stack, map_by, map_shadow_stack, pages_of, rdx, refused, rsi}
 use Rattle.cet_page.specs.Finish.{rdi}
+use Rattle.cet_page.specs.declared.checks.Kind.{Kind}
 use Rattle.cet_page.specs.declared.services.Errno.{Errno}
 use Rattle.cet_page.specs.Services.{syscall}
+use Rattle.cet_page.specs.Structures.{Given, given, given_at, given_span, given_word, one_word, if_found}
+use Rattle.cet_page.specs.Signals.{load_action, asked_action, copy_action, set_handler, set_action, change_action, new_action, old_action, rt_sigaction, asked_mask, copy_mask, change_mask, old_mask, rt_sigprocmask, post, tgkill}
+use Rattle.cet_page.specs.Delivery.{frame_span, frame_places, push_frame, push_or_kill, ignore, enter_handler, handle, pending_delivery, fault_delivery}
+use Rattle.cet_page.specs.SigReturn.{returned_span, popped_frame, return_by, rt_sigreturn, signal_service}
+use Rattle.cet_page.specs.declared.actions.Action.{Action}
+use Rattle.cet_page.specs.declared.actions.FramePlaces.{FramePlaces}
 use Rattle.cet_page.specs.Fetch.{missing, missing_in}
 use Rattle.cet_page.specs.Row.{execute_family, fetched, instruction, boundary, row, row_from}
-use Rattle.cet_page.proofs.Walk.{Walks, Walk, acted, walk_fault, no_birth, walk_rules}
+use Rattle.cet_page.proofs.Walk.{Walks, Walk, acted, walk_fault, walk_return, walk_assoc, walk_fewer, walk_less, walk_if_found, walk_span, walk_loads, walk_fetch_or, walk_fetch_and, no_birth, walk_rules}
 use Rattle.cet_page.specs.declared.finishes.Finish.{Finish}
 use Rattle.cet_page.specs.declared.finishes.Finish.TheVariants.{Noted, Posted, Exited, Stopped}
 
@@ -121,6 +128,51 @@ walk_map_by arch k w size flags None few = let fits : nat_le (pages_of size) 102
 -- behind the way in: five accesses, of which four were kept
 walk_map : (arch : Arch) (k : ℕ) (w : Bool) → Walk 5 4 w (Ends arch) (map_shadow_stack arch >>= leave_kernel k)
 walk_map arch k w = walk_map_by arch k w (rsi arch) (rdx arch) (refused (rdi arch) (rsi arch) (rdx arch)) (few_pages (rdi arch) (rsi arch) (rdx arch))
+
+-- ---- the services on signals, and deliveries
+
+-- with the way out after it
+walk_kill : (arch : Arch) (k : ℕ) (w : Bool) (signal : ℕ) → Walk 40 27 w (Ends arch) (kill arch signal >>= leave_kernel k)
+unfolding kill
+walk_kill arch k w signal = search rules depth 99 fits 9000
+
+module _ {A : Type 0} {P : A → Type 0} (f : Unit {0} → Script A) where
+  walk_set_action : (w : Bool) (signal : ℕ) (asked : Option Action) → ((w : Bool) → Walk 25 16 w P (f tt)) → Walk 21 16 w P (set_action signal asked >>= f)
+  unfolding set_action set_handler
+  walk_set_action w signal None h = walk_return f tt (walk_fewer _ _ _ refl refl (h w))
+  walk_set_action w signal (Some action) h =
+      let one : Walk 22 16 true P (f tt) = walk_fewer _ _ _ refl refl (h true) in
+      search (rules, h, one) depth 99 fits 9000
+
+  walk_copy_action : (w : Bool) (signal : ℕ) (old : Option ℕ) → ((w : Bool) → Walk 21 16 w P (f tt)) → Walk 13 12 w P (copy_action signal old >>= f)
+  unfolding copy_action load_action
+  walk_copy_action w signal None h = walk_return f tt (walk_fewer _ _ _ refl refl (h w))
+  walk_copy_action w signal (Some word) h = search (rules, h) depth 99 fits 9000
+
+walk_change_action : (job : JobData) (arch : Arch) (k : ℕ) (w : Bool) (old : Option ℕ) (asked : Option Action) → Walk 13 12 w (Ends arch) (change_action job arch old asked >>= leave_kernel k)
+unfolding change_action
+walk_change_action job arch k w old asked = search (rules, walk_copy_action, walk_set_action) depth 99 fits 9000
+
+walk_new_action : (job : JobData) (arch : Arch) (k : ℕ) (w : Bool) (new : Option ℕ) (old : Given) → Walk 9 8 w (Ends arch) (new_action job arch new old >>= leave_kernel k)
+unfolding new_action asked_action load_action
+walk_new_action job arch k w new (Err error) = search rules depth 99 fits 9000
+walk_new_action job arch k w None (Ok old) = walk_assoc _ _ _ (walk_return _ None (walk_fewer _ _ _ refl refl (walk_change_action job arch k w old None)))
+walk_new_action job arch k w (Some word) (Ok old) = search (rules, walk_change_action) depth 99 fits 9000
+
+walk_given_span : {A : Type 0} {used kept : ℕ} {w : Bool} {P : A → Type 0} (kd : Kind) (addr last : ℕ) (f : Given → Script A) → ((w : Bool) (g : Given) → Walk (used + 1 + 1) (kept + 1 + 1) w P (f g)) → Walk used kept w P (given_span kd addr last >>= f)
+unfolding given_span
+walk_given_span {used = used} {kept = kept} {P = P} kd addr last f h =
+    let fewer : (w : Bool) (g : Given) → Walk used kept w P (f g) = λ w g. walk_less f g h in
+    search (rules, walk_span, h, fewer) depth 99 fits 9000
+
+walk_old_action : (job : JobData) (arch : Arch) (k : ℕ) (w : Bool) (new : Given) → Walk 7 6 w (Ends arch) (old_action job arch new >>= leave_kernel k)
+unfolding old_action
+walk_old_action job arch k w (Err error) = search rules depth 99 fits 9000
+walk_old_action job arch k w (Ok new) = search (rules, walk_given_span, walk_new_action) depth 99 fits 9000
+
+walk_rt_sigaction : (job : JobData) (arch : Arch) (k : ℕ) (w : Bool) → Walk 5 4 w (Ends arch) (rt_sigaction job arch >>= leave_kernel k)
+unfolding rt_sigaction
+walk_rt_sigaction job arch k w = search (rules, walk_given_span, walk_old_action) depth 99 fits 9000
 
 pub walk_syscall : (job : JobData) (arch : Arch) → Walk 2 2 false (Ends arch) (syscall job arch)
 unfolding entered exit exit_group
