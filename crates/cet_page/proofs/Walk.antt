@@ -373,10 +373,13 @@ module _ {A : Type 0} {used kept : ℕ} {wrote : Bool} {P : A → Type 0} where
   unfolding ◌>>=◌ fetch_and
   walk_fetch_and word value f h = record { walks = (refl, λ v. (no_birth [] refl, (h _ v).walks)) }
 
--- two accesses and answers fewer before it
+-- two accesses and answers fewer before it, and one
 module _ {A B : Type 0} {used kept : ℕ} {w : Bool} {P : A → Type 0} where
   pub walk_less : (f : B → Script A) (x : B) → ((w : Bool) (x : B) → Walk (used + 1 + 1) (kept + 1 + 1) w P (f x)) → Walk used kept w P (f x)
   walk_less f x h = record { walks = walks_fewer (used + 1 + 1) (kept + 1 + 1) used kept w P (f x) (omega arith) (omega arith) (let g = h w x in g.walks) }
+
+  pub walk_less_one : (f : B → Script A) (x : B) → ((w : Bool) (x : B) → Walk (used + 1) (kept + 1) w P (f x)) → Walk used kept w P (f x)
+  walk_less_one f x h = record { walks = walks_fewer (used + 1) (kept + 1) used kept w P (f x) (omega arith) (omega arith) (let g = h w x in g.walks) }
 
 -- what follows nothing comes after as many accesses at most as what follows something
 module _ {A B C : Type 0} {used kept : ℕ} {P : A → Type 0} where

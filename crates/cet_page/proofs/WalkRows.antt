@@ -33,7 +33,7 @@ use Rattle.cet_page.specs.Family.{family_of}
 use Rattle.cet_page.specs.Arithmetic.{operated, alu, test, imul, move, movzx, movsxd, cmov, xchg, lock_xadd, lock_cmpxchg, arithmetic}
 use Rattle.cet_page.specs.ShadowStacks.{shadow_stacks, rstorssp, save, saveprevssp, incsspq}
 use Rattle.cet_page.specs.Flow.{call, call_next, call_indirect, ret, push, pop, leave, jump_indirect, flow}
-use Rattle.cet_page.specs.Gate.{gate_in, entered, exit, exit_group, serve, kill, delivery, deliver}
+use Rattle.cet_page.specs.Gate.{gate_in, entered, exit, exit_group, serve, is_masked, signal_of, kill, delivery, deliver}
 use Rattle.cet_page.specs.Gate.{leave as leave_kernel}
 use Rattle.cet_page.specs.MapShadowStack.{fill_stack, draw_stack, map_by, map_shadow_stack, pages_of, rdx, refused, rsi}
 use Rattle.cet_page.specs.Finish.{rdi}
@@ -48,7 +48,7 @@ use Rattle.cet_page.specs.declared.actions.Action.{Action}
 use Rattle.cet_page.specs.declared.actions.FramePlaces.{FramePlaces}
 use Rattle.cet_page.specs.Fetch.{missing, missing_in}
 use Rattle.cet_page.specs.Row.{execute_family, fetched, instruction, boundary, row, row_from}
-use Rattle.cet_page.proofs.Walk.{Walks, Walk, acted, walk_fault, walk_return, walk_assoc, walk_fewer, walk_less, walk_if_found, walk_span, walk_loads, walk_fetch_or, walk_fetch_and, no_birth, walk_rules}
+use Rattle.cet_page.proofs.Walk.{Walks, Walk, acted, walk_fault, walk_return, walk_assoc, walk_if_then, walk_fewer, walk_less, walk_less_one, walk_if_found, walk_span, walk_loads, walk_fetch_or, walk_fetch_and, no_birth, walk_rules}
 use Rattle.cet_page.specs.declared.finishes.Finish.{Finish}
 use Rattle.cet_page.specs.declared.finishes.Finish.TheVariants.{Noted, Posted, Exited, Stopped}
 
@@ -173,6 +173,89 @@ walk_old_action job arch k w (Ok new) = search (rules, walk_given_span, walk_new
 walk_rt_sigaction : (job : JobData) (arch : Arch) (k : ℕ) (w : Bool) → Walk 5 4 w (Ends arch) (rt_sigaction job arch >>= leave_kernel k)
 unfolding rt_sigaction
 walk_rt_sigaction job arch k w = search (rules, walk_given_span, walk_old_action) depth 99 fits 9000
+
+walk_given_word : {A : Type 0} {used kept : ℕ} {w : Bool} {P : A → Type 0} (kd : Kind) (addr : ℕ) (f : Given → Script A) → ((w : Bool) (g : Given) → Walk (used + 1) (kept + 1) w P (f g)) → Walk used kept w P (given_word kd addr >>= f)
+unfolding given_word one_word
+walk_given_word {used = used} {kept = kept} {P = P} kd addr f h =
+    let fewer : (w : Bool) (g : Given) → Walk used kept w P (f g) = λ w g. walk_less_one f g h in
+    search (rules, h, fewer) depth 99 fits 9000
+
+walk_change_mask : (arch : Arch) (k : ℕ) (w : Bool) (set : Option ℕ) (old : Given) → Walk 7 6 w (Ends arch) (change_mask arch set old >>= leave_kernel k)
+unfolding change_mask asked_mask copy_mask
+walk_change_mask arch k w set (Err error) = search rules depth 99 fits 9000
+walk_change_mask arch k w None (Ok None) = search rules depth 99 fits 9000
+walk_change_mask arch k w None (Ok (Some word)) = search rules depth 99 fits 9000
+walk_change_mask arch k w (Some from) (Ok None) = search rules depth 99 fits 9000
+walk_change_mask arch k w (Some from) (Ok (Some word)) = search rules depth 99 fits 9000
+
+walk_old_mask : (arch : Arch) (k : ℕ) (w : Bool) (set : Given) → Walk 6 5 w (Ends arch) (old_mask arch set >>= leave_kernel k)
+unfolding old_mask
+walk_old_mask arch k w (Err error) = search rules depth 99 fits 9000
+walk_old_mask arch k w (Ok set) = search (rules, walk_given_word, walk_change_mask) depth 99 fits 9000
+
+walk_rt_sigprocmask : (arch : Arch) (k : ℕ) (w : Bool) → Walk 5 4 w (Ends arch) (rt_sigprocmask arch >>= leave_kernel k)
+unfolding rt_sigprocmask
+walk_rt_sigprocmask arch k w = search (rules, walk_given_word, walk_old_mask) depth 99 fits 9000
+
+walk_tgkill : (arch : Arch) (k : ℕ) (w : Bool) → Walk 5 4 w (Ends arch) (tgkill arch >>= leave_kernel k)
+unfolding tgkill post
+walk_tgkill arch k w = search (rules, walk_fetch_or) depth 99 fits 9000
+
+-- so many accesses and answers at most before the kill
+walk_kill_after : {n m : ℕ} (arch : Arch) (k : ℕ) (w : Bool) (signal : ℕ) → nat_le n 40 ≡ true → nat_le m 27 ≡ true → Walk n m w (Ends arch) (kill arch signal >>= leave_kernel k)
+walk_kill_after arch k w signal l m = walk_fewer _ _ _ l m (walk_kill arch k w signal)
+
+walk_return_by : (arch : Arch) (k : ℕ) (w : Bool) (o : Option (ℕ × ℕ)) → Walk 9 8 w (Ends arch) (return_by arch o >>= leave_kernel k)
+unfolding return_by
+walk_return_by arch k w None = walk_kill_after arch k w _ refl refl
+walk_return_by arch k w (Some x) = search (rules, walk_loads) depth 99 fits 9000
+
+walk_popped_frame : {A : Type 0} {P : A → Type 0} (arch : Arch) (w : Bool) (f : Option (ℕ × ℕ) → Script A) → ((w : Bool) (o : Option (ℕ × ℕ)) → Walk 9 8 w P (f o)) → Walk 5 4 w P (popped_frame arch >>= f)
+unfolding popped_frame returned_span
+walk_popped_frame {A} {P} arch w f h =
+    let none : (w : Bool) (n m : ℕ) → nat_le n 9 ≡ true → nat_le m 8 ≡ true → Walk n m w P (f None) = λ w n m l r. walk_fewer _ _ _ l r (h w None) in
+    search (rules, walk_span, walk_if_found, none, h) depth 99 fits 9000
+
+walk_rt_sigreturn : (arch : Arch) (k : ℕ) (w : Bool) → Walk 5 4 w (Ends arch) (rt_sigreturn arch >>= leave_kernel k)
+unfolding rt_sigreturn
+walk_rt_sigreturn arch k w = search (rules, walk_popped_frame, walk_return_by) depth 99 fits 9000
+
+-- behind the way in: five accesses, of which four were kept
+pub walk_signal_service : (job : JobData) (arch : Arch) (k : ℕ) (w : Bool) → Walk 5 4 w (Ends arch) (signal_service job arch >>= leave_kernel k)
+walk_signal_service job arch k w = search (rules, walk_rt_sigaction, walk_rt_sigprocmask, walk_rt_sigreturn, walk_tgkill) depth 99 fits 9000
+
+walk_push_or_kill : (arch : Arch) (k : ℕ) (w : Bool) (signal : ℕ) (cause : Option Fault) (action : Action) (places : Option FramePlaces) → Walk 14 13 w (Ends arch) (push_or_kill arch signal cause action places >>= leave_kernel k)
+unfolding push_frame
+walk_push_or_kill arch k w signal cause action None = walk_kill_after arch k w _ refl refl
+walk_push_or_kill arch k w signal None action (Some places) = search rules depth 99 fits 9000
+walk_push_or_kill arch k w signal (Some e) action (Some places) = search rules depth 99 fits 9000
+
+walk_frame_places : {A : Type 0} {P : A → Type 0} (arch : Arch) (w : Bool) (f : Option FramePlaces → Script A) → ((w : Bool) (o : Option FramePlaces) → Walk 14 13 w P (f o)) → Walk 10 9 w P (frame_places arch >>= f)
+unfolding frame_places frame_span
+walk_frame_places {A} {P} arch w f h =
+    let none : (w : Bool) (n m : ℕ) → nat_le n 14 ≡ true → nat_le m 13 ≡ true → Walk n m w P (f None) = λ w n m l r. walk_fewer _ _ _ l r (h w None) in
+    search (rules, walk_span, walk_if_found, none, h) depth 99 fits 9000
+
+walk_ignore : (arch : Arch) (k : ℕ) (w : Bool) (signal : ℕ) (cause : Option Fault) → Walk 7 6 w (Ends arch) (ignore arch signal cause >>= leave_kernel k)
+walk_ignore arch k w signal None = search rules depth 99 fits 9000
+walk_ignore arch k w signal (Some e) = walk_kill_after arch k w _ refl refl
+
+walk_handle : (arch : Arch) (k : ℕ) (w : Bool) (signal : ℕ) (cause : Option Fault) → Walk 6 5 w (Ends arch) (handle arch signal cause >>= leave_kernel k)
+unfolding handle enter_handler
+walk_handle arch k w signal cause = search (rules, walk_frame_places, walk_push_or_kill, walk_ignore, walk_kill_after) depth 99 fits 9000
+
+-- behind the boundary and the way in
+pub walk_pending_delivery : (arch : Arch) (k : ℕ) (w : Bool) (signal : ℕ) → Walk 5 4 w (Ends arch) (pending_delivery arch signal >>= leave_kernel k)
+unfolding pending_delivery
+walk_pending_delivery arch k w signal = search (rules, walk_fetch_and, walk_handle) depth 99 fits 9000
+
+-- behind the way in alone
+pub walk_fault_delivery : (arch : Arch) (k : ℕ) (w : Bool) (e : Fault) → Walk 3 2 w (Ends arch) (fault_delivery arch e >>= leave_kernel k)
+unfolding fault_delivery
+walk_fault_delivery arch k w e =
+    walk_if_then (leave_kernel k) (is_masked arch.mask (signal_of e.name)) (kill arch (signal_of e.name)) (handle arch (signal_of e.name) (Some e))
+    (λ _. walk_kill_after arch k w _ refl refl)
+    (λ _. walk_fewer _ _ _ refl refl (walk_handle arch k w (signal_of e.name) (Some e)))
 
 pub walk_syscall : (job : JobData) (arch : Arch) → Walk 2 2 false (Ends arch) (syscall job arch)
 unfolding entered exit exit_group
