@@ -1,13 +1,18 @@
-// A library with one function.
+//! Services of the kernel on signals, and the delivery of a pending signal and of a due fault.
+//!
+//! Each is a script of accesses in the `specs/` of cet_page, without the kernel's entry round it. The
+//! functions here run such a script over the answers that a thread has kept.
 #![tactic(auto)]
 
-ghost use Rattle.std.specs.Prelude.{◌≡◌};
-ghost use Rattle.cet_ksig.specs.Echo.{echo_of};
+mod actions;
+mod deliveries;
+mod frames;
+mod kills;
+mod masks;
+mod posts;
+mod returns;
+mod services;
+mod structures;
 
-// The `ensures` clause is the contract: what `echo` returns is `echo_of` of its argument, a definition
-// in `specs/Echo.antt`, which a caller's clause can cite too.
-pub fn echo(x: usize) -> usize
-    ensures { result ≡ echo_of x }
-{
-    x
-}
+pub use deliveries::{fault_delivery, pending_delivery};
+pub use services::{Work, follow};

@@ -42,7 +42,7 @@ use Rattle.cet_page.specs.declared.services.Errno.{Errno}
 use Rattle.cet_page.specs.Services.{syscall}
 use Rattle.cet_page.specs.Structures.{Given, given, given_at, given_span, given_word, one_word, if_found}
 use Rattle.cet_page.specs.Signals.{load_action, asked_action, copy_action, set_handler, set_action, change_action, new_action, old_action, rt_sigaction, asked_mask, copy_mask, change_mask, old_mask, rt_sigprocmask, post, tgkill}
-use Rattle.cet_page.specs.Delivery.{frame_span, frame_places, push_frame, push_or_kill, ignore, enter_handler, handle, pending_delivery, fault_delivery}
+use Rattle.cet_page.specs.Delivery.{frame_span, frame_places, frame_words, push_frame, push_or_kill, ignore, enter_handler, handle, pending_delivery, fault_delivery}
 use Rattle.cet_page.specs.SigReturn.{returned_span, popped_frame, return_by, rt_sigreturn, signal_service}
 use Rattle.cet_page.specs.declared.actions.Action.{Action}
 use Rattle.cet_page.specs.declared.actions.FramePlaces.{FramePlaces}
@@ -225,7 +225,7 @@ pub walk_signal_service : (job : JobData) (arch : Arch) (k : ℕ) (w : Bool) →
 walk_signal_service job arch k w = search (rules, walk_rt_sigaction, walk_rt_sigprocmask, walk_rt_sigreturn, walk_tgkill) depth 99 fits 9000
 
 walk_push_or_kill : (arch : Arch) (k : ℕ) (w : Bool) (signal : ℕ) (cause : Option Fault) (action : Action) (places : Option FramePlaces) → Walk 14 13 w (Ends arch) (push_or_kill arch signal cause action places >>= leave_kernel k)
-unfolding push_frame
+unfolding push_frame frame_words
 walk_push_or_kill arch k w signal cause action None = walk_kill_after arch k w _ refl refl
 walk_push_or_kill arch k w signal None action (Some places) = search rules depth 99 fits 9000
 walk_push_or_kill arch k w signal (Some e) action (Some places) = search rules depth 99 fits 9000

@@ -69,7 +69,7 @@ registers regs from zero = []
 registers regs from (suc count) = slice_index regs from ∷ registers regs (from + 1) count
 
 -- the 24 words: the restorer, the registers in encoding order, RIP, RFLAGS, the mask, the signal, and why it comes
-abbrev pub frame_words : Arch → (signal restorer : ℕ) → Option Fault → List ℕ
+unfoldable pub frame_words : Arch → (signal restorer : ℕ) → Option Fault → List ℕ
 frame_words arch signal restorer cause =
     restorer ∷ (registers arch.regs 0 16 ++ (arch.rip ∷ arch.flags ∷ arch.mask ∷ signal ∷ cause_words cause))
 
