@@ -15,4 +15,4 @@ mod services;
 mod structures;
 
 pub use deliveries::{fault_delivery, pending_delivery};
-pub use services::{Work, follow};
+pub use services::{Work, follow, next};

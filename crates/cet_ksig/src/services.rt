@@ -12,7 +12,7 @@ use crate::deliveries::{fault_delivery, pending_delivery};
 use crate::masks::rt_sigprocmask;
 use crate::posts::tgkill;
 use crate::returns::rt_sigreturn;
-use cet_isa::{Arch, Record};
+use cet_isa::{Arch, Fault, Record};
 use cet_page::{Cursor, Errno, Leaving, Next, RAX, Suspended, Vals, failed};
 use cet_words::Job;
 
@@ -55,5 +55,58 @@ pub fn follow(
         RT_SIGRETURN => rt_sigreturn(arch, at),
         TGKILL => tgkill(arch, at),
         _ => Ok(failed(arch, Errno::NoSys)),
+    }
+}
+
+/// What the service does next.
+#[tactic(auto, using(cet_page::proofs::PlayLaws::next_by_is, cet_page::proofs::PlayLaws::next_by_ranges))]
+fn next_of_service(job: &Job, arch: &Arch, vals: &Vals) -> Next
+    requires { arch.now.count < 2 ^ 32 - 1 }
+    ensures next { result ≡ next_by with_leaving (play (signal_service job.now arch.now) vals.now.accesses vals.now.values) }
+    ensures range { NextInRange result }
+{
+    Next::leaving(follow(job, arch, &mut vals.start()))
+}
+
+/// What the delivery of a due fault does next.
+#[tactic(auto, using(cet_page::proofs::PlayLaws::next_by_is, cet_page::proofs::PlayLaws::next_by_ranges))]
+fn next_of_fault(arch: &Arch, vals: &Vals, fault: &Fault) -> Next
+    requires { arch.now.count < 2 ^ 32 - 1 }
+    ensures next { result ≡ next_by with_leaving (play (fault_delivery arch.now fault.now) vals.now.accesses vals.now.values) }
+    ensures range { NextInRange result }
+{
+    Next::leaving(fault_delivery(arch, fault, &mut vals.start()))
+}
+
+/// What the delivery of a pending signal does next.
+#[tactic(auto, using(cet_page::proofs::PlayLaws::next_by_is, cet_page::proofs::PlayLaws::next_by_ranges))]
+fn next_of_pending(arch: &Arch, vals: &Vals, signal: u8) -> Next
+    requires count { arch.now.count < 2 ^ 32 - 1 }
+    requires low { 1 ≤ signal }
+    requires high { signal ≤ 31 }
+    ensures next { result ≡ next_by with_leaving (play (pending_delivery arch.now signal) vals.now.accesses vals.now.values) }
+    ensures range { NextInRange result }
+{
+    Next::leaving(pending_delivery(arch, signal, &mut vals.start()))
+}
+
+/// What the service whose number is in RAX, or a delivery, does next, after the accesses that were made since
+/// the kernel's way in and the values kept of them: its next access, or the state and record with which the
+/// way out follows.
+pub fn next(job: &Job, arch: &Arch, vals: &Vals, work: &Work) -> Next
+    requires count { arch.now.count < 2 ^ 32 - 1 }
+    requires fault { work.now ≡ Work.Fault → IsSome arch.now.due }
+    requires low { (signal : ℕ) → work.now ≡ Work.Pending signal → 1 ≤ signal }
+    requires high { (signal : ℕ) → work.now ≡ Work.Pending signal → signal ≤ 31 }
+    ensures service { work.now ≡ Work.Service → result ≡ next_by with_leaving (play (signal_service job.now arch.now) vals.now.accesses vals.now.values) }
+    ensures fault { (fault : Fault) → work.now ≡ Work.Fault → arch.now.due ≡ Some fault → result ≡ next_by with_leaving (play (fault_delivery arch.now fault) vals.now.accesses vals.now.values) }
+    ensures pending { (signal : ℕ) → work.now ≡ Work.Pending signal → result ≡ next_by with_leaving (play (pending_delivery arch.now signal) vals.now.accesses vals.now.values) }
+    ensures range { NextInRange result }
+{
+    match (work, &arch.due) {
+        (Work::Service, _) => next_of_service(job, arch, vals),
+        (Work::Fault, Some(fault)) => next_of_fault(arch, vals, fault),
+        (Work::Fault, None) => unreachable!(),
+        (Work::Pending(signal), _) => next_of_pending(arch, vals, *signal),
     }
 }
