@@ -12,9 +12,7 @@ use crate::kills::{SEGV, kill};
 use crate::posts::signal_bit;
 use crate::structures::{RDI, RSI, RSP, maskable, span};
 use cet_isa::{Arch, Fault, FaultName, Record, What, is_canonical};
-use cet_page::{
-    Action, Cursor, FramePlaces, Kind, Leaving, Suspended, Who, frame_word, word_in,
-};
+use cet_page::{Action, Cursor, FramePlaces, Kind, Leaving, Suspended, Who, frame_word, word_in};
 
 /// The bytes below RSP that a function may use (System V ABI for x86-64, the red zone).
 const RED_ZONE: u64 = 128;
@@ -105,9 +103,30 @@ fn frame_words(arch: &Arch, signal: u8, restorer: u64, cause: Option<Fault>) -> 
     let [code, fault_code, address] = cause_words(cause);
     let regs = &arch.regs;
     [
-        restorer, regs[0], regs[1], regs[2], regs[3], regs[4], regs[5], regs[6], regs[7],
-        regs[8], regs[9], regs[10], regs[11], regs[12], regs[13], regs[14], regs[15],
-        arch.rip, arch.flags, arch.mask, u64::from(signal), code, fault_code, address,
+        restorer,
+        regs[0],
+        regs[1],
+        regs[2],
+        regs[3],
+        regs[4],
+        regs[5],
+        regs[6],
+        regs[7],
+        regs[8],
+        regs[9],
+        regs[10],
+        regs[11],
+        regs[12],
+        regs[13],
+        regs[14],
+        regs[15],
+        arch.rip,
+        arch.flags,
+        arch.mask,
+        u64::from(signal),
+        code,
+        fault_code,
+        address,
     ]
 }
 

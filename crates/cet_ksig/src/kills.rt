@@ -58,11 +58,7 @@ fn killed(arch: &Arch, signal: u8, before: u64) -> (Arch, Record, Leaving)
 
 /// The kill of the process by a signal.
 #[tactic(auto, using(cet_page::proofs::ScriptLaws::play_bind), unfolding(cet_page::specs::Gate::kill))]
-pub fn kill(
-    arch: &Arch,
-    signal: u8,
-    at: &mut Cursor,
-) -> Result<(Arch, Record, Leaving), Suspended>
+pub fn kill(arch: &Arch, signal: u8, at: &mut Cursor) -> Result<(Arch, Record, Leaving), Suspended>
     requires { arch.now.count < 2 ^ 32 - 1 }
     ensures { Refines (play (kill arch.now signal) at.old.left at.old.rest.now) result at.new.left at.new.rest.now }
 {

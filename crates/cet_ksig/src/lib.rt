@@ -13,6 +13,8 @@ mod posts;
 mod returns;
 mod services;
 mod structures;
+#[cfg(test)]
+mod tests;
 
 pub use deliveries::{fault_delivery, pending_delivery};
 pub use services::{Work, follow, next};

@@ -94,11 +94,7 @@ fn change_mask(
 
 /// The service, by the word of the set.
 #[tactic(auto, using(cet_page::proofs::ScriptLaws::play_bind), unfolding(cet_page::specs::Signals::old_mask))]
-fn old_mask(
-    arch: &Arch,
-    set: Given,
-    at: &mut Cursor,
-) -> Result<(Arch, Record, Leaving), Suspended>
+fn old_mask(arch: &Arch, set: Given, at: &mut Cursor) -> Result<(Arch, Record, Leaving), Suspended>
     requires count { arch.now.count < 2 ^ 32 - 1 }
     requires set { IfOk set (λ found. IfSome found (λ word. word + 24 ≤ word_count)) }
     ensures { Refines (play (old_mask arch.now set) at.old.left at.old.rest.now) result at.new.left at.new.rest.now }
@@ -113,10 +109,7 @@ fn old_mask(
 
 /// rt_sigprocmask: how, the address of a set, that for the old mask, and the size of a mask.
 #[tactic(auto, using(cet_page::proofs::ScriptLaws::play_bind), unfolding(cet_page::specs::Signals::rt_sigprocmask))]
-pub fn rt_sigprocmask(
-    arch: &Arch,
-    at: &mut Cursor,
-) -> Result<(Arch, Record, Leaving), Suspended>
+pub fn rt_sigprocmask(arch: &Arch, at: &mut Cursor) -> Result<(Arch, Record, Leaving), Suspended>
     requires { arch.now.count < 2 ^ 32 - 1 }
     ensures { Refines (play (rt_sigprocmask arch.now) at.old.left at.old.rest.now) result at.new.left at.new.rest.now }
 {

@@ -33,11 +33,7 @@ fn is_thread(born: u64, tid: u64) -> bool
 
 /// The service, by the number of threads.
 #[tactic(auto, using(cet_page::proofs::ScriptLaws::play_bind), unfolding(cet_page::specs::Signals::post))]
-fn post(
-    arch: &Arch,
-    born: u64,
-    at: &mut Cursor,
-) -> Result<(Arch, Record, Leaving), Suspended>
+fn post(arch: &Arch, born: u64, at: &mut Cursor) -> Result<(Arch, Record, Leaving), Suspended>
     requires count { arch.now.count < 2 ^ 32 - 1 }
     requires signal { rdx arch.now ≤ last_signal }
     ensures { Refines (play (post arch.now born) at.old.left at.old.rest.now) result at.new.left at.new.rest.now }

@@ -100,10 +100,7 @@ fn return_by(
 
 /// rt_sigreturn.
 #[tactic(auto, using(cet_page::proofs::ScriptLaws::play_bind), unfolding(cet_page::specs::SigReturn::rt_sigreturn))]
-pub fn rt_sigreturn(
-    arch: &Arch,
-    at: &mut Cursor,
-) -> Result<(Arch, Record, Leaving), Suspended>
+pub fn rt_sigreturn(arch: &Arch, at: &mut Cursor) -> Result<(Arch, Record, Leaving), Suspended>
     requires { arch.now.count < 2 ^ 32 - 1 }
     ensures { Refines (play (rt_sigreturn arch.now) at.old.left at.old.rest.now) result at.new.left at.new.rest.now }
 {

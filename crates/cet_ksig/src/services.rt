@@ -41,11 +41,7 @@ pub enum Work {
 
 /// The service whose number is in RAX, as far as the cursor's accesses lead. Every number of another crate
 /// is no call.
-pub fn follow(
-    job: &Job,
-    arch: &Arch,
-    at: &mut Cursor,
-) -> Result<(Arch, Record, Leaving), Suspended>
+pub fn follow(job: &Job, arch: &Arch, at: &mut Cursor) -> Result<(Arch, Record, Leaving), Suspended>
     requires { arch.now.count < 2 ^ 32 - 1 }
     ensures { Refines (play (signal_service job.now arch.now) at.old.left at.old.rest.now) result at.new.left at.new.rest.now }
 {

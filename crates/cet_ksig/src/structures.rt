@@ -52,12 +52,7 @@ pub fn maskable(mask: u64) -> u64
 /// The first word of a structure of at most 24 words, whose last word is so many bytes above it. None
 /// where a look fails; then the next look isn't made.
 #[tactic(auto, using(cet_page::proofs::ScriptLaws::play_bind), unfolding(cet_page::specs::Structures::span))]
-pub fn span(
-    kind: Kind,
-    addr: u64,
-    last: u64,
-    at: &mut Cursor,
-) -> Result<Option<u32>, Suspended>
+pub fn span(kind: Kind, addr: u64, last: u64, at: &mut Cursor) -> Result<Option<u32>, Suspended>
     ensures comes { Refines (play (span kind addr last) at.old.left at.old.rest.now) result at.new.left at.new.rest.now }
     ensures range { IfOk result (λ found. IfSome found (λ word. word + 24 ≤ word_count)) }
 {

@@ -352,10 +352,15 @@ loads_walk used kept wrote P f zero word u k e d h =
     let same : u ≡ used = omega arith in
     let also : k ≡ kept = omega arith in
     subst (λ n. Walks n kept wrote P (f [])) same (subst (λ m. Walks u m wrote P (f [])) also (h []))
-loads_walk used kept wrote P f (suc count) word u k e d h =
-    (refl, λ v. (no_birth [] refl, subst (λ w. Walks (used + 1) (kept + 1) w P ((loads count (word + 1) >>= (λ values. done (v ∷ values))) >>= f)) (sym (or_none wrote))
-    (assoc_walks (used + 1) (kept + 1) wrote P (loads count (word + 1)) (λ values. done (v ∷ values)) f
-    (loads_walk (used + 1) (kept + 1) wrote P (λ values. f (v ∷ values)) count (word + 1) u k (omega arith) (omega arith) (λ values. h (v ∷ values))))))
+loads_walk used kept wrote P f (suc count) word u k e d h = (
+  refl,
+  λ v. (
+    no_birth [] refl,
+    subst (λ w. Walks (used + 1) (kept + 1) w P ((loads count (word + 1) >>= (λ values. done (v ∷ values))) >>= f)) (sym (or_none wrote))
+        (assoc_walks (used + 1) (kept + 1) wrote P (loads count (word + 1)) (λ values. done (v ∷ values)) f
+        (loads_walk (used + 1) (kept + 1) wrote P (λ values. f (v ∷ values)) count (word + 1) u k (omega arith) (omega arith) (λ values. h (v ∷ values)))),
+  ),
+)
 
 module _ {A : Type 0} {used kept : ℕ} {wrote : Bool} {P : A → Type 0} where
   -- fewer accesses and answers before it do no harm
