@@ -14,3 +14,4 @@ pub mod WithinLaws
 pub mod RowLaws
 pub mod RestoreLaws
 pub mod ChildLaws
+pub mod StructureLaws
