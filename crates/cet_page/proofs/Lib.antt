@@ -15,3 +15,4 @@ pub mod RowLaws
 pub mod RestoreLaws
 pub mod ChildLaws
 pub mod EnterLaws
+pub mod StructureLaws

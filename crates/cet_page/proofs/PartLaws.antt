@@ -1,6 +1,6 @@
 -- What the parts of a script come to, one by one. Source: own.
 use Rattle.std.proofs.Common.{zero, suc, arith, ap, ◌∙◌, mul-suc}
-use Rattle.std.specs.Prelude.{◌≡◌, ℕ, ◌+◌, ◌-◌, ◌*◌, ◌<◌, ◌≤◌, List, [], ◌∷◌, length, slice_index, Option, Some, None, Result, Ok, Err}
+use Rattle.std.specs.Prelude.{◌≡◌, ℕ, ◌+◌, ◌-◌, ◌*◌, ◌<◌, ◌≤◌, min, List, [], ◌∷◌, length, take, drop, slice_index, Option, Some, None, Result, Ok, Err}
 use Rattle.cet_words.specs.declared.accesses.Access.TheVariants as access
 use Rattle.cet_words.specs.Change.{Change}
 use Rattle.cet_words.specs.Layout.{page_at}
@@ -10,8 +10,9 @@ use Rattle.cet_page.specs.declared.checks.Who.{Who}
 use Rattle.cet_page.specs.declared.cursors.Mark.TheVariants as marks
 use Rattle.cet_page.specs.declared.cursors.Suspended.{Suspended}
 use Rattle.cet_page.specs.declared.cursors.Suspended.TheVariants as suspended
-use Rattle.cet_page.specs.Script.{play, no_changes, Played, Completed, Wants}
-use Rattle.cet_page.specs.Parts.{stores, store_each, look, look_as, look_in_as}
+use Rattle.cet_page.specs.Script.{play, done, no_changes, Played, Completed, Wants}
+use Rattle.cet_page.specs.Parts.{stores, store_each, loads, look, look_as, look_in_as}
+use Rattle.cet_page.proofs.ScriptLaws.{play_bind, resume}
 
 abbrev pub wants_store : (word value : ℕ) → Played (Unit {0})
 wants_store word value = Wants (access.Store word value) no_changes
@@ -61,6 +62,40 @@ play_each_wants word (value ∷ rest) zero values l =
 play_each_wants word (value ∷ rest) (suc n) values l =
     let w : word + 1 + n ≡ word + suc n = omega arith in
     play_each_wants (word + 1) rest n values (omega arith) ∙ ap (λ k. wants_store k (slice_index rest n)) w
+
+abbrev pub wants_load : (word : ℕ) → Played (List ℕ)
+wants_load word = Wants (access.Load word) no_changes
+
+abbrev pub loaded : (left : ℕ) → (answers rest : List ℕ) → Played (List ℕ)
+loaded left answers rest = Completed answers left rest
+
+-- what loads come to of which the first has this answer
+first_loaded : (count word value n : ℕ) (values : List ℕ) → play (loads (suc count) word) (suc n) (value ∷ values) ≡ resume (play (loads count (word + 1)) n values) (λ rest. done (value ∷ rest))
+unfolding loads
+first_loaded count word value n values = play_bind (loads count (word + 1)) (λ rest. done (value ∷ rest)) n values
+
+-- loads that are over
+pub play_loads_over : (count word n : ℕ) (values : List ℕ) → count ≤ n → count ≤ length values → play (loads count word) n values ≡ loaded (n - count) (take count values) (drop count values)
+unfolding loads
+play_loads_over zero word n values l m = ap (λ k. loaded k [] values) (omega arith)
+play_loads_over (suc count) word zero values l m = absurd (omega arith)
+play_loads_over (suc count) word (suc n) [] l m = absurd (omega arith)
+play_loads_over (suc count) word (suc n) (value ∷ values) l m =
+    let k : n - count ≡ suc n - suc count = omega arith in
+    first_loaded count word value n values
+    ∙ ap (λ p. resume p (λ rest. done (value ∷ rest))) (play_loads_over count (word + 1) n values (omega arith) (omega arith))
+    ∙ ap (λ k. loaded k (value ∷ take count values) (drop count values)) k
+
+-- those that aren't go on with the load whose index is the number of accesses, or of answers where these are fewer
+pub play_loads_wants : (count word n : ℕ) (values : List ℕ) → min n (length values) < count → play (loads count word) n values ≡ wants_load (word + min n (length values))
+unfolding loads
+play_loads_wants zero word n values l = absurd (omega arith)
+play_loads_wants (suc count) word zero values l = ap wants_load (omega arith)
+play_loads_wants (suc count) word (suc n) [] l = ap wants_load (omega arith)
+play_loads_wants (suc count) word (suc n) (value ∷ values) l =
+    first_loaded count word value n values
+    ∙ ap (λ p. resume p (λ rest. done (value ∷ rest))) (play_loads_wants count (word + 1) n values (omega arith))
+    ∙ ap wants_load (omega arith)
 
 -- a look that comes to something without changes comes to the same with changes that its mark needn't tell
 look_in_changes : (changes : ℕ → List Change) (at : Option ℕ) (k : Kind) (w : Who) (addr : ℕ) (n : ℕ) (values : List ℕ) (result : Result ℕ Suspended) (left : ℕ) (rest : List ℕ)

@@ -17,7 +17,8 @@ use Rattle.cet_isa.specs.declared.threads.Fault.{Fault}
 use Rattle.cet_page.specs.Script.{Script, done, fault, ask, tell, ◌>>=◌, Played, Completed, Faulted, Wants, play, birth, held_after}
 use Rattle.cet_page.specs.ValsData.{keeps, kept_after}
 use Rattle.cet_page.specs.Page.{allows, page_fault}
-use Rattle.cet_page.specs.Parts.{check_address_as, look_in_as, look_as, probe_in, probe, read_entry, load_as, store_as, compare_exchange_as, swap, fetch_add_as, stores, store_each, general_protection}
+use Rattle.cet_page.specs.Parts.{check_address_as, look_in_as, look_as, probe_in, probe, read_entry, load_as, store_as, compare_exchange_as, swap, fetch_add_as, fetch_or, fetch_and, stores, store_each, loads, general_protection}
+use Rattle.cet_page.specs.Structures.{if_found, span, one_word, Given, given, given_at, given_span, given_word}
 use Rattle.cet_page.specs.Values.{limit, width}
 use Rattle.cet_page.specs.Finish.{IsMade}
 use Rattle.cet_page.specs.Gate.{gate_in, gate_out, freed}
@@ -340,6 +341,61 @@ module _ {A : Type 0} {used kept : ℕ} {wrote : Bool} {P : A → Type 0} where
   pub walk_gate_out : (ends : Leaving) (k : ℕ) (f : Unit {0} → Script A) → ((w : Bool) → Walk (used + 1 + 1) (kept + 1 + 1) w P (f tt)) → Walk used kept wrote P (gate_out ends k >>= f)
   unfolding gate_out
   walk_gate_out ends k f h = search (walk_parts, walk_exchange_any, none_freed) depth 20
+
+-- ---- the services on signals: loads of several words, and structures, where nothing faults
+
+loads_walk : {A : Type 0} (used kept : ℕ) (wrote : Bool) (P : A → Type 0) (f : List ℕ → Script A) (count word u k : ℕ) → used + count ≡ u → kept + count ≡ k → ((values : List ℕ) → Walks u k wrote P (f values)) → Walks used kept wrote P (loads count word >>= f)
+unfolding ◌>>=◌ loads
+loads_walk used kept wrote P f zero word u k e d h =
+    let same : u ≡ used = omega arith in
+    let also : k ≡ kept = omega arith in
+    subst (λ n. Walks n kept wrote P (f [])) same (subst (λ m. Walks u m wrote P (f [])) also (h []))
+loads_walk used kept wrote P f (suc count) word u k e d h = (
+  refl,
+  λ v. (
+    no_birth [] refl,
+    subst (λ w. Walks (used + 1) (kept + 1) w P ((loads count (word + 1) >>= (λ values. done (v ∷ values))) >>= f)) (sym (or_none wrote))
+        (assoc_walks (used + 1) (kept + 1) wrote P (loads count (word + 1)) (λ values. done (v ∷ values)) f
+        (loads_walk (used + 1) (kept + 1) wrote P (λ values. f (v ∷ values)) count (word + 1) u k (omega arith) (omega arith) (λ values. h (v ∷ values)))),
+  ),
+)
+
+module _ {A : Type 0} {used kept : ℕ} {wrote : Bool} {P : A → Type 0} where
+  -- fewer accesses and answers before it do no harm
+  pub walk_fewer : (n k : ℕ) (s : Script A) → nat_le n used ≡ true → nat_le k kept ≡ true → Walk used kept wrote P s → Walk n k wrote P s
+  walk_fewer n k s l m h = record { walks = walks_fewer used kept n k wrote P s (leb-true n used l) (leb-true k kept m) h.walks }
+
+  pub walk_loads : (count word : ℕ) (f : List ℕ → Script A) → ((w : Bool) (values : List ℕ) → Walk (used + count) (kept + count) w P (f values)) → Walk used kept wrote P (loads count word >>= f)
+  walk_loads count word f h = record { walks = loads_walk used kept wrote P f count word (used + count) (kept + count) refl refl (λ values. let g = h wrote values in g.walks) }
+
+  pub walk_fetch_or : (word value : ℕ) (f : ℕ → Script A) → ((w : Bool) (v : ℕ) → Walk (used + 1) (kept + 1) w P (f v)) → Walk used kept wrote P (fetch_or word value >>= f)
+  unfolding ◌>>=◌ fetch_or
+  walk_fetch_or word value f h = record { walks = (refl, λ v. (no_birth [] refl, (h _ v).walks)) }
+
+  pub walk_fetch_and : (word value : ℕ) (f : ℕ → Script A) → ((w : Bool) (v : ℕ) → Walk (used + 1) (kept + 1) w P (f v)) → Walk used kept wrote P (fetch_and word value >>= f)
+  unfolding ◌>>=◌ fetch_and
+  walk_fetch_and word value f h = record { walks = (refl, λ v. (no_birth [] refl, (h _ v).walks)) }
+
+-- two accesses and answers fewer before it, and one
+module _ {A B : Type 0} {used kept : ℕ} {w : Bool} {P : A → Type 0} where
+  pub walk_less : (f : B → Script A) (x : B) → ((w : Bool) (x : B) → Walk (used + 1 + 1) (kept + 1 + 1) w P (f x)) → Walk used kept w P (f x)
+  walk_less f x h = record { walks = walks_fewer (used + 1 + 1) (kept + 1 + 1) used kept w P (f x) (omega arith) (omega arith) (let g = h w x in g.walks) }
+
+  pub walk_less_one : (f : B → Script A) (x : B) → ((w : Bool) (x : B) → Walk (used + 1) (kept + 1) w P (f x)) → Walk used kept w P (f x)
+  walk_less_one f x h = record { walks = walks_fewer (used + 1) (kept + 1) used kept w P (f x) (omega arith) (omega arith) (let g = h w x in g.walks) }
+
+-- what follows nothing comes after as many accesses at most as what follows something
+module _ {A B C : Type 0} {used kept : ℕ} {P : A → Type 0} where
+  pub walk_if_found : {wrote : Bool} (o : Option C) (g : C → Script (Option B)) (f : Option B → Script A) → Walk used kept wrote P (f None) → ((x : C) → Walk used kept wrote P (g x >>= f)) → Walk used kept wrote P (if_found o g >>= f)
+  walk_if_found None g f n h = walk_return f None n
+  walk_if_found (Some x) g f n h = h x
+
+module _ {A : Type 0} {used kept : ℕ} {wrote : Bool} {P : A → Type 0} where
+  pub walk_span : (kd : Kind) (addr last : ℕ) (f : Option ℕ → Script A) → ((w : Bool) (found : Option ℕ) → Walk (used + 1 + 1) (kept + 1 + 1) w P (f found)) → Walk used kept wrote P (span kd addr last >>= f)
+  unfolding span
+  walk_span kd addr last f h =
+      let fewer : (w : Bool) (n : ℕ) → Walk (used + 1) (kept + 1) w P (f None) = λ w n. record { walks = walks_fewer (used + 1 + 1) (kept + 1 + 1) (used + 1) (kept + 1) w P (f None) (omega arith) (omega arith) (let g = h w None in g.walks) } in
+      search (walk_parts, walk_if_found, fewer, h) depth 20
 
 pub ruleset walk_rules = (walk_parts, walk_store_each, walk_stores_most, walk_load_at, walk_write_place, walk_store_at, walk_read, walk_gate_in, walk_gate_out)
 

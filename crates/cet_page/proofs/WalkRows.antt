@@ -1,6 +1,6 @@
 -- Every row walks within the bounds, and begins with an access. Source: own.
 use Rattle.std.proofs.Common.{true, false, cond, refl}
-use Rattle.std.specs.Prelude.{◌≡◌, ℕ, ◌+◌, ◌<◌, ◌≤◌, Bool, List, [], ◌∷◌, length, nat_le, nat_lt, Option, Some, None}
+use Rattle.std.specs.Prelude.{◌≡◌, ℕ, ◌+◌, ◌<◌, ◌≤◌, Bool, List, [], ◌∷◌, length, nat_le, nat_lt, Option, Some, None, Result, Ok, Err}
 use Rattle.std.proofs.Common.{arith}
 use Rattle.std.proofs.lemmas.Bool.Decides.{nat_tests}
 use Rattle.cet_words.specs.Job.{JobData}
@@ -22,7 +22,7 @@ use Rattle.cet_isa.specs.declared.threads.Record.{Record}
 use Rattle.cet_isa.specs.declared.threads.Arch.{Arch}
 use Rattle.cet_isa.specs.declared.threads.What.{What}
 use Rattle.cet_isa.specs.declared.threads.What.TheVariants as what
-use Rattle.cet_page.specs.Script.{done, fault, ask, tell, ◌>>=◌, Wants, play}
+use Rattle.cet_page.specs.Script.{Script, done, fault, ask, tell, ◌>>=◌, Wants, play}
 use Rattle.cet_page.specs.Parts.{load_as, read_entry}
 use Rattle.cet_page.specs.Finish.{IsMade, Row, noted}
 use Rattle.cet_page.specs.Word64.{add64}
@@ -33,18 +33,25 @@ use Rattle.cet_page.specs.Family.{family_of}
 use Rattle.cet_page.specs.Arithmetic.{operated, alu, test, imul, move, movzx, movsxd, cmov, xchg, lock_xadd, lock_cmpxchg, arithmetic}
 use Rattle.cet_page.specs.ShadowStacks.{shadow_stacks, rstorssp, save, saveprevssp, incsspq}
 use Rattle.cet_page.specs.Flow.{call, call_next, call_indirect, ret, push, pop, leave, jump_indirect, flow}
-use Rattle.cet_page.specs.Gate.{gate_in, entered, kill, delivery, deliver}
+use Rattle.cet_page.specs.Gate.{gate_in, entered, serve, is_masked, signal_of, kill, delivery, deliver}
 use Rattle.cet_page.specs.Gate.{leave as leave_kernel}
 use Rattle.cet_page.specs.MapShadowStack.{can_draw, drawn_start, fill_stack, draw_stack, map_by, map_shadow_stack, refused}
 use Rattle.cet_page.specs.Mmap.{draw_pages, map_pages, map_refused, mmap, mmap_by, munmap, munmap_by, unmap_pages, unmapped_page}
 use Rattle.cet_page.specs.MemoryServices.{memory_service}
 use Rattle.cet_page.specs.Processes.{bear, born_if, clone, draw_thread, exit, exit_group, give_up, load_last, process_service, put_status, tell_status, thread_pages, write, write_bytes, write_first, write_last, write_words}
 use Rattle.cet_page.specs.Finish.{r10, rdi, rdx, rsi}
+use Rattle.cet_page.specs.declared.checks.Kind.{Kind}
 use Rattle.cet_page.specs.declared.services.Errno.{Errno}
 use Rattle.cet_page.specs.Services.{syscall}
+use Rattle.cet_page.specs.Structures.{Given, given, given_at, given_span, given_word, one_word, if_found}
+use Rattle.cet_page.specs.Signals.{load_action, asked_action, copy_action, set_handler, set_action, change_action, new_action, old_action, rt_sigaction, asked_mask, copy_mask, change_mask, old_mask, rt_sigprocmask, post, tgkill}
+use Rattle.cet_page.specs.Delivery.{frame_span, frame_places, frame_words, push_frame, push_or_kill, ignore, enter_handler, handle, pending_delivery, fault_delivery}
+use Rattle.cet_page.specs.SigReturn.{returned_span, popped_frame, return_by, rt_sigreturn, signal_service}
+use Rattle.cet_page.specs.declared.actions.Action.{Action}
+use Rattle.cet_page.specs.declared.actions.FramePlaces.{FramePlaces}
 use Rattle.cet_page.specs.Fetch.{missing, missing_in}
 use Rattle.cet_page.specs.Row.{execute_family, fetched, instruction, boundary, row, row_from}
-use Rattle.cet_page.proofs.Walk.{BirthFits, Walks, Walk, acted, walk_fault, no_birth, birth_if, walk_rules}
+use Rattle.cet_page.proofs.Walk.{BirthFits, Walks, Walk, acted, walk_fault, walk_return, walk_assoc, walk_if_then, walk_fewer, walk_less, walk_less_one, walk_if_found, walk_span, walk_loads, walk_fetch_or, walk_fetch_and, no_birth, birth_if, walk_rules}
 use Rattle.cet_page.specs.declared.finishes.Finish.{Finish}
 use Rattle.cet_page.specs.declared.finishes.Finish.TheVariants.{Noted, Posted, Exited, Stopped}
 
@@ -198,6 +205,134 @@ walk_put arch addr k (Some page) w = search rules depth 99 fits 9000
 walk_process : (arch : Arch) (k : ℕ) (w : Bool) → Walk 5 4 w (Ends arch) (process_service arch >>= leave_kernel k)
 unfolding exit exit_group tell_status
 walk_process arch k w = search (rules, walk_write, walk_clone, walk_put) depth 99 fits 9000
+
+-- ---- the services on signals, and deliveries
+
+-- with the way out after it
+walk_kill : (arch : Arch) (k : ℕ) (w : Bool) (signal : ℕ) → Walk 40 27 w (Ends arch) (kill arch signal >>= leave_kernel k)
+unfolding kill
+walk_kill arch k w signal = search rules depth 99 fits 9000
+
+module _ {A : Type 0} {P : A → Type 0} (f : Unit {0} → Script A) where
+  walk_set_action : (w : Bool) (signal : ℕ) (asked : Option Action) → ((w : Bool) → Walk 25 16 w P (f tt)) → Walk 21 16 w P (set_action signal asked >>= f)
+  unfolding set_action set_handler
+  walk_set_action w signal None h = walk_return f tt (walk_fewer _ _ _ refl refl (h w))
+  walk_set_action w signal (Some action) h =
+      let one : Walk 22 16 true P (f tt) = walk_fewer _ _ _ refl refl (h true) in
+      search (rules, h, one) depth 99 fits 9000
+
+  walk_copy_action : (w : Bool) (signal : ℕ) (old : Option ℕ) → ((w : Bool) → Walk 21 16 w P (f tt)) → Walk 13 12 w P (copy_action signal old >>= f)
+  unfolding copy_action load_action
+  walk_copy_action w signal None h = walk_return f tt (walk_fewer _ _ _ refl refl (h w))
+  walk_copy_action w signal (Some word) h = search (rules, h) depth 99 fits 9000
+
+walk_change_action : (job : JobData) (arch : Arch) (k : ℕ) (w : Bool) (old : Option ℕ) (asked : Option Action) → Walk 13 12 w (Ends arch) (change_action job arch old asked >>= leave_kernel k)
+unfolding change_action
+walk_change_action job arch k w old asked = search (rules, walk_copy_action, walk_set_action) depth 99 fits 9000
+
+walk_new_action : (job : JobData) (arch : Arch) (k : ℕ) (w : Bool) (new : Option ℕ) (old : Given) → Walk 9 8 w (Ends arch) (new_action job arch new old >>= leave_kernel k)
+unfolding new_action asked_action load_action
+walk_new_action job arch k w new (Err error) = search rules depth 99 fits 9000
+walk_new_action job arch k w None (Ok old) = walk_assoc _ _ _ (walk_return _ None (walk_fewer _ _ _ refl refl (walk_change_action job arch k w old None)))
+walk_new_action job arch k w (Some word) (Ok old) = search (rules, walk_change_action) depth 99 fits 9000
+
+walk_given_span : {A : Type 0} {used kept : ℕ} {w : Bool} {P : A → Type 0} (kd : Kind) (addr last : ℕ) (f : Given → Script A) → ((w : Bool) (g : Given) → Walk (used + 1 + 1) (kept + 1 + 1) w P (f g)) → Walk used kept w P (given_span kd addr last >>= f)
+unfolding given_span
+walk_given_span {used = used} {kept = kept} {P = P} kd addr last f h =
+    let fewer : (w : Bool) (g : Given) → Walk used kept w P (f g) = λ w g. walk_less f g h in
+    search (rules, walk_span, h, fewer) depth 99 fits 9000
+
+walk_old_action : (job : JobData) (arch : Arch) (k : ℕ) (w : Bool) (new : Given) → Walk 7 6 w (Ends arch) (old_action job arch new >>= leave_kernel k)
+unfolding old_action
+walk_old_action job arch k w (Err error) = search rules depth 99 fits 9000
+walk_old_action job arch k w (Ok new) = search (rules, walk_given_span, walk_new_action) depth 99 fits 9000
+
+walk_rt_sigaction : (job : JobData) (arch : Arch) (k : ℕ) (w : Bool) → Walk 5 4 w (Ends arch) (rt_sigaction job arch >>= leave_kernel k)
+unfolding rt_sigaction
+walk_rt_sigaction job arch k w = search (rules, walk_given_span, walk_old_action) depth 99 fits 9000
+
+walk_given_word : {A : Type 0} {used kept : ℕ} {w : Bool} {P : A → Type 0} (kd : Kind) (addr : ℕ) (f : Given → Script A) → ((w : Bool) (g : Given) → Walk (used + 1) (kept + 1) w P (f g)) → Walk used kept w P (given_word kd addr >>= f)
+unfolding given_word one_word
+walk_given_word {used = used} {kept = kept} {P = P} kd addr f h =
+    let fewer : (w : Bool) (g : Given) → Walk used kept w P (f g) = λ w g. walk_less_one f g h in
+    search (rules, h, fewer) depth 99 fits 9000
+
+walk_change_mask : (arch : Arch) (k : ℕ) (w : Bool) (set : Option ℕ) (old : Given) → Walk 7 6 w (Ends arch) (change_mask arch set old >>= leave_kernel k)
+unfolding change_mask asked_mask copy_mask
+walk_change_mask arch k w set (Err error) = search rules depth 99 fits 9000
+walk_change_mask arch k w None (Ok None) = search rules depth 99 fits 9000
+walk_change_mask arch k w None (Ok (Some word)) = search rules depth 99 fits 9000
+walk_change_mask arch k w (Some from) (Ok None) = search rules depth 99 fits 9000
+walk_change_mask arch k w (Some from) (Ok (Some word)) = search rules depth 99 fits 9000
+
+walk_old_mask : (arch : Arch) (k : ℕ) (w : Bool) (set : Given) → Walk 6 5 w (Ends arch) (old_mask arch set >>= leave_kernel k)
+unfolding old_mask
+walk_old_mask arch k w (Err error) = search rules depth 99 fits 9000
+walk_old_mask arch k w (Ok set) = search (rules, walk_given_word, walk_change_mask) depth 99 fits 9000
+
+walk_rt_sigprocmask : (arch : Arch) (k : ℕ) (w : Bool) → Walk 5 4 w (Ends arch) (rt_sigprocmask arch >>= leave_kernel k)
+unfolding rt_sigprocmask
+walk_rt_sigprocmask arch k w = search (rules, walk_given_word, walk_old_mask) depth 99 fits 9000
+
+walk_tgkill : (arch : Arch) (k : ℕ) (w : Bool) → Walk 5 4 w (Ends arch) (tgkill arch >>= leave_kernel k)
+unfolding tgkill post
+walk_tgkill arch k w = search (rules, walk_fetch_or) depth 99 fits 9000
+
+-- so many accesses and answers at most before the kill
+walk_kill_after : {n m : ℕ} (arch : Arch) (k : ℕ) (w : Bool) (signal : ℕ) → nat_le n 40 ≡ true → nat_le m 27 ≡ true → Walk n m w (Ends arch) (kill arch signal >>= leave_kernel k)
+walk_kill_after arch k w signal l m = walk_fewer _ _ _ l m (walk_kill arch k w signal)
+
+walk_return_by : (arch : Arch) (k : ℕ) (w : Bool) (o : Option (ℕ × ℕ)) → Walk 9 8 w (Ends arch) (return_by arch o >>= leave_kernel k)
+unfolding return_by
+walk_return_by arch k w None = walk_kill_after arch k w _ refl refl
+walk_return_by arch k w (Some x) = search (rules, walk_loads) depth 99 fits 9000
+
+walk_popped_frame : {A : Type 0} {P : A → Type 0} (arch : Arch) (w : Bool) (f : Option (ℕ × ℕ) → Script A) → ((w : Bool) (o : Option (ℕ × ℕ)) → Walk 9 8 w P (f o)) → Walk 5 4 w P (popped_frame arch >>= f)
+unfolding popped_frame returned_span
+walk_popped_frame {A} {P} arch w f h =
+    let none : (w : Bool) (n m : ℕ) → nat_le n 9 ≡ true → nat_le m 8 ≡ true → Walk n m w P (f None) = λ w n m l r. walk_fewer _ _ _ l r (h w None) in
+    search (rules, walk_span, walk_if_found, none, h) depth 99 fits 9000
+
+walk_rt_sigreturn : (arch : Arch) (k : ℕ) (w : Bool) → Walk 5 4 w (Ends arch) (rt_sigreturn arch >>= leave_kernel k)
+unfolding rt_sigreturn
+walk_rt_sigreturn arch k w = search (rules, walk_popped_frame, walk_return_by) depth 99 fits 9000
+
+-- behind the way in: five accesses, of which four were kept
+pub walk_signal_service : (job : JobData) (arch : Arch) (k : ℕ) (w : Bool) → Walk 5 4 w (Ends arch) (signal_service job arch >>= leave_kernel k)
+walk_signal_service job arch k w = search (rules, walk_rt_sigaction, walk_rt_sigprocmask, walk_rt_sigreturn, walk_tgkill) depth 99 fits 9000
+
+walk_push_or_kill : (arch : Arch) (k : ℕ) (w : Bool) (signal : ℕ) (cause : Option Fault) (action : Action) (places : Option FramePlaces) → Walk 14 13 w (Ends arch) (push_or_kill arch signal cause action places >>= leave_kernel k)
+unfolding push_frame frame_words
+walk_push_or_kill arch k w signal cause action None = walk_kill_after arch k w _ refl refl
+walk_push_or_kill arch k w signal None action (Some places) = search rules depth 99 fits 9000
+walk_push_or_kill arch k w signal (Some e) action (Some places) = search rules depth 99 fits 9000
+
+walk_frame_places : {A : Type 0} {P : A → Type 0} (arch : Arch) (w : Bool) (f : Option FramePlaces → Script A) → ((w : Bool) (o : Option FramePlaces) → Walk 14 13 w P (f o)) → Walk 10 9 w P (frame_places arch >>= f)
+unfolding frame_places frame_span
+walk_frame_places {A} {P} arch w f h =
+    let none : (w : Bool) (n m : ℕ) → nat_le n 14 ≡ true → nat_le m 13 ≡ true → Walk n m w P (f None) = λ w n m l r. walk_fewer _ _ _ l r (h w None) in
+    search (rules, walk_span, walk_if_found, none, h) depth 99 fits 9000
+
+walk_ignore : (arch : Arch) (k : ℕ) (w : Bool) (signal : ℕ) (cause : Option Fault) → Walk 7 6 w (Ends arch) (ignore arch signal cause >>= leave_kernel k)
+walk_ignore arch k w signal None = search rules depth 99 fits 9000
+walk_ignore arch k w signal (Some e) = walk_kill_after arch k w _ refl refl
+
+walk_handle : (arch : Arch) (k : ℕ) (w : Bool) (signal : ℕ) (cause : Option Fault) → Walk 6 5 w (Ends arch) (handle arch signal cause >>= leave_kernel k)
+unfolding handle enter_handler
+walk_handle arch k w signal cause = search (rules, walk_frame_places, walk_push_or_kill, walk_ignore, walk_kill_after) depth 99 fits 9000
+
+-- behind the boundary and the way in
+pub walk_pending_delivery : (arch : Arch) (k : ℕ) (w : Bool) (signal : ℕ) → Walk 5 4 w (Ends arch) (pending_delivery arch signal >>= leave_kernel k)
+unfolding pending_delivery
+walk_pending_delivery arch k w signal = search (rules, walk_fetch_and, walk_handle) depth 99 fits 9000
+
+-- behind the way in alone
+pub walk_fault_delivery : (arch : Arch) (k : ℕ) (w : Bool) (e : Fault) → Walk 3 2 w (Ends arch) (fault_delivery arch e >>= leave_kernel k)
+unfolding fault_delivery
+walk_fault_delivery arch k w e =
+    walk_if_then (leave_kernel k) (is_masked arch.mask (signal_of e.name)) (kill arch (signal_of e.name)) (handle arch (signal_of e.name) (Some e))
+    (λ _. walk_kill_after arch k w _ refl refl)
+    (λ _. walk_fewer _ _ _ refl refl (walk_handle arch k w (signal_of e.name) (Some e)))
 
 pub walk_syscall : (job : JobData) (arch : Arch) → Walk 2 2 false (Ends arch) (syscall job arch)
 unfolding entered

@@ -18,6 +18,10 @@ pub mod Mmap
 pub mod MemoryServices
 pub mod Processes
 pub mod Services
+pub mod Structures
+pub mod Signals
+pub mod Delivery
+pub mod SigReturn
 pub mod Fetch
 pub mod Row
 pub mod Core

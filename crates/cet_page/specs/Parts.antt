@@ -8,7 +8,7 @@ use Rattle.cet_isa.specs.Address.{canonical}
 use Rattle.cet_isa.specs.declared.threads.Fault.{Fault}
 use Rattle.cet_isa.specs.declared.threads.FaultName.TheVariants.{Gp, Ac, Ud}
 use Rattle.cet_words.specs.Change.{Change}
-use Rattle.cet_page.specs.Script.{Script, done, fault, ask, tell, no_changes}
+use Rattle.cet_page.specs.Script.{Script, done, fault, ask, tell, no_changes, ◌>>=◌}
 use Rattle.cet_page.specs.Page.{allows, page_fault}
 use Rattle.cet_page.specs.declared.checks.Kind.{Kind}
 use Rattle.cet_page.specs.declared.checks.Who.{Who}
@@ -108,3 +108,8 @@ stores (suc count) word value step = tell word value [] (stores count (word + 1)
 unfoldable pub store_each : (word : ℕ) → List ℕ → Script (Unit {0})
 store_each word [] = done tt
 store_each word (value ∷ values) = tell word value [] (store_each (word + 1) values)
+
+-- Loads of so many words, the lowest first: their answers.
+unfoldable pub loads : (count word : ℕ) → Script (List ℕ)
+loads zero word = done []
+loads (suc count) word = ask (access.Load word) no_changes (λ value. loads count (word + 1) >>= (λ values. done (value ∷ values)))

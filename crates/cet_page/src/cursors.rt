@@ -4,9 +4,9 @@ ghost use Rattle.std.specs.Prelude.{◌≡◌, ◌+◌, ◌*◌, ◌/◌, ◌%�
 ghost use Rattle.cet_words.specs.Access.{InRange};
 ghost use Rattle.cet_words.specs.Layout.{word_in, page_count, word_count};
 ghost use Rattle.cet_page.specs.Script.{play, ask, tell, done, no_changes};
-ghost use Rattle.cet_page.specs.Plays.{Refines, Asks, Marks};
+ghost use Rattle.cet_page.specs.Plays.{Refines, RefinesBy, Asks, Marks};
 ghost use Rattle.cet_words.specs.Change.{Change};
-ghost use Rattle.cet_page.specs.Parts.{general_protection, invalid_opcode, check_address, check_address_as, look, look_as, look_in_as, probe, probe_in, read_entry, load, store, stores, store_each, compare_exchange, swap, fetch_add, fetch_or, fetch_and};
+ghost use Rattle.cet_page.specs.Parts.{general_protection, invalid_opcode, check_address, check_address_as, look, look_as, look_in_as, probe, probe_in, read_entry, load, loads, store, stores, store_each, compare_exchange, swap, fetch_add, fetch_or, fetch_and};
 
 use crate::checks::{Kind, Who, check, page_fault};
 use cet_isa::{Fault, FaultName, is_canonical};
@@ -202,6 +202,23 @@ impl<'a> Cursor<'a> {
         }
         let at = self.left;
         Err(Suspended::Access(Access::Store(word + at, values[at as usize]), Mark::Plain))
+    }
+
+    /// The loads of so many words, the lowest first. They are passed over at once.
+    #[tactic(auto, using(crate::proofs::PartLaws::play_loads_over, crate::proofs::PartLaws::play_loads_wants))]
+    pub fn loads(&mut self, count: u32, word: u32) -> Result<&'a [u64], Suspended>
+        requires { word + count ≤ word_count }
+        ensures comes { RefinesBy (λ answers. answers.now) (play (loads count word) self.old.left self.old.rest.now) result self.new.left self.new.rest.now }
+        ensures length { IfOk result (λ answers. length answers.now ≡ count) }
+    {
+        let there = (self.left as usize).min(self.rest.len()) as u32;
+        if there < count {
+            return Err(Suspended::Access(Access::Load(word + there), Mark::Plain));
+        }
+        let (answers, rest) = self.rest.split_at(count as usize);
+        self.left -= count;
+        self.rest = rest;
+        Ok(answers)
     }
 
     /// The look at a page of which no test is made.

@@ -6,6 +6,7 @@
 //! since its last record.
 #![tactic(auto)]
 
+mod actions;
 mod checks;
 mod cursors;
 mod draws;
@@ -22,6 +23,7 @@ mod tests;
 mod tokens;
 mod vals;
 
+pub use actions::{Action, FramePlaces};
 pub use checks::{Kind, Who, check, index_of, page_fault};
 pub use cursors::{Cursor, Mark, Suspended, general_protection, invalid_opcode, word_in};
 pub use draws::can_draw;
