@@ -5,8 +5,7 @@ ghost use Rattle.std.specs.Prelude.{◌≡◌, ◌+◌, ◌-◌, ◌^◌, ◌<�
 ghost use Rattle.cet_words.specs.Layout.{area_pages, draw_mmap_word, page_count, pages_of};
 ghost use Rattle.cet_page.specs.Script.{play};
 ghost use Rattle.cet_page.specs.Plays.{Refines};
-ghost use Rattle.cet_page.specs.Parts.{fetch_add};
-ghost use Rattle.cet_page.specs.Gate.{clears};
+ghost use Rattle.cet_page.specs.Parts.{clears, fetch_add};
 ghost use Rattle.cet_page.specs.Mmap.{area_page, can_map, draw_pages, is_anonymous, map_drawn, map_pages, map_refused, mmap, munmap, unmap_pages, unmapped_page};
 
 use cet_isa::{Arch, R10, RDI, RDX, RSI, Record};

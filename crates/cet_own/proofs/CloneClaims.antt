@@ -15,8 +15,8 @@ use Rattle.cet_book.proofs.Top.{AtTop}
 use Rattle.cet_book.proofs.Ways.{born_way}
 use Rattle.cet_page.specs.Finish.{rdi}
 use Rattle.cet_page.specs.MapShadowStack.{drawn_page, drawn_start, rsi, shadow_entry}
-use Rattle.cet_page.specs.Parts.{fetch_add_as, stores}
-use Rattle.cet_page.specs.Processes.{bear, bear_by, bore, born_if, clears, clone, draw_thread, give_up, makes_thread, thread_pages}
+use Rattle.cet_page.specs.Parts.{clears, fetch_add_as, stores}
+use Rattle.cet_page.specs.Processes.{bear, bear_by, bore, born_if, clone, draw_thread, give_up, makes_thread, thread_pages}
 use Rattle.cet_page.specs.Script.{done, ◌>>=◌}
 use Rattle.cet_page.specs.Trail.{Visit, visit}
 use Rattle.cet_page.specs.declared.services.Errno.TheVariants as errno

@@ -8,9 +8,8 @@ use Rattle.cet_words.specs.Layout.{area_pages, draw_mmap_word, entry_word, first
 use Rattle.cet_words.specs.declared.accesses.Access.TheVariants as access
 use Rattle.cet_isa.specs.declared.threads.Arch.{Arch}
 use Rattle.cet_page.specs.Finish.{r10, rdi, rdx, rsi}
-use Rattle.cet_page.specs.Gate.{clears}
 use Rattle.cet_page.specs.Mmap.{can_map, draw_pages, map_drawn, map_pages, map_refused, mmap, mmap_by, munmap, munmap_by, unmap_pages, unmapped_page}
-use Rattle.cet_page.specs.Parts.{stores}
+use Rattle.cet_page.specs.Parts.{clears, stores}
 use Rattle.cet_page.specs.Trail.{Visit}
 use Rattle.cet_page.specs.declared.services.Errno.{Errno}
 use Rattle.cet_page.specs.declared.services.Errno.TheVariants as errno

@@ -15,8 +15,7 @@ use Rattle.cet_book.specs.Book.{Book, book_after, region, top}
 use Rattle.cet_book.proofs.Relies.{Relies}
 use Rattle.cet_page.specs.Script.{Script, done, fault, ◌>>=◌, no_changes}
 use Rattle.cet_page.specs.Page.{allows, page_fault}
-use Rattle.cet_page.specs.Parts.{check_address, check_address_as, look_in_as, look, look_as, read_entry, load_as, load, store_as, store, compare_exchange_as, compare_exchange, swap, fetch_add_as, fetch_add, stores, alignment_check}
-use Rattle.cet_page.specs.Processes.{clears}
+use Rattle.cet_page.specs.Parts.{clears, check_address, check_address_as, look_in_as, look, look_as, read_entry, load_as, load, store_as, store, compare_exchange_as, compare_exchange, swap, fetch_add_as, fetch_add, stores, alignment_check}
 use Rattle.cet_page.specs.declared.checks.Kind.{Kind}
 use Rattle.cet_page.specs.declared.checks.Kind.TheVariants as kind
 use Rattle.cet_page.specs.declared.checks.Who.{Who}

@@ -14,13 +14,15 @@ use Rattle.cet_isa.specs.declared.threads.Fault.{Fault}
 use Rattle.cet_isa.specs.declared.threads.Record.{Record}
 use Rattle.cet_page.specs.Script.{done, ◌>>=◌, Played, Completed, Faulted, Wants, play, no_changes, held_after}
 use Rattle.cet_page.specs.ValsData.{ValsData, vals_after}
-use Rattle.cet_page.specs.Parts.{read_entry, store_as, store, compare_exchange_as}
+use Rattle.cet_page.specs.Parts.{load_as, read_entry, store_as, store, compare_exchange_as}
 use Rattle.cet_page.specs.Finish.{counted}
-use Rattle.cet_page.specs.Gate.{Work, stack_of, busied_if, gate_in, entered, inside, found_busy, delivery, signal_of}
+use Rattle.cet_page.specs.Gate.{Work, stack_of, busied_if, gate_in, entered, inside, found_busy}
+use Rattle.cet_page.specs.Delivery.{fault_delivery, pending_delivery}
+use Rattle.cet_page.specs.Posting.{due_signal, pending_signal}
 use Rattle.cet_page.specs.Services.{service}
-use Rattle.cet_page.specs.Row.{row, row_from}
+use Rattle.cet_page.specs.Row.{row, row_from, between, after_signals, boundary}
 use Rattle.cet_page.specs.Core.{Core, unheld, row_played, wanted, access_of, next_access, kept_by, core_by, noted_by, answered, taken}
-use Rattle.cet_page.specs.Entering.{AtGate, at_syscall, at_fault, Enters, gate_exchange}
+use Rattle.cet_page.specs.Entering.{AtGate, at_syscall, at_signal, at_fault, Enters, gate_exchange}
 use Rattle.cet_page.specs.declared.finishes.Finish.{Finish}
 use Rattle.cet_page.specs.declared.finishes.Finish.TheVariants.{Noted}
 use Rattle.cet_page.proofs.RowLaws.{parts_of_row}
@@ -48,6 +50,14 @@ found_part job arch work entry found false e =
 
 -- ---- the row of a thread there
 
+-- a pending signal enters the kernel in place of the instruction
+signal_part : (job : JobData) (arch : Arch) (signal pending n : ℕ) (values : List ℕ) → arch.due ≡ None → due_signal job arch ≡ None → pending_signal pending arch.mask ≡ Some signal → play (row job arch) (suc (suc n)) (0 ∷ pending ∷ values) ≡ play (entered job arch (pending_delivery arch signal)) n values
+unfolding boundary load_as ◌>>=◌
+signal_part job arch signal pending n values due unposted unmasked =
+    ap (λ (d : Option Fault). play (row_from job arch d) (suc (suc n)) (0 ∷ pending ∷ values)) due
+    ∙ ap (λ (o : Option ℕ). play (between job arch o) (suc (suc n)) (0 ∷ pending ∷ values)) unposted
+    ∙ ap (λ (o : Option ℕ). play (after_signals job arch o) n values) unmasked
+
 -- it has come to the exchange, and each answer leads on in the kernel's entry
 record Reached (job : JobData) (core : Core) : Type 0 where
   work : Work
@@ -56,21 +66,31 @@ record Reached (job : JobData) (core : Core) : Type 0 where
   on : (found : ℕ) → row_played job core.arch (vals_after core.vals (gate_exchange (stack_of job core.arch)) found) ≡ play (entered job (unheld core.arch) work) (suc (suc zero)) (entry ∷ found ∷ [])
 
 reached : (job : JobData) (core : Core) → AtGate job core → Reached job core
-reached job core (at_syscall len pending entry due rip reads seen) =
+reached job core (at_syscall len pending entry due unposted unmasked rip reads seen) =
     let arch = unheld core.arch in
-    let part = λ (n : ℕ) (values : List ℕ). parts_of_row.instructions job arch instr.Syscall len pending n values due rip reads in
+    let part = λ (n : ℕ) (values : List ℕ). parts_of_row.instructions job arch instr.Syscall len pending n values due unposted unmasked rip reads in
     record {
-      work = service arch;
+      work = service job arch;
       entry = entry;
       here = ap (row_played job core.arch) seen ∙ part (suc zero) (entry ∷ []);
       on = λ found.
           ap (λ (v : ValsData). row_played job core.arch (vals_after v (gate_exchange (stack_of job core.arch)) found)) seen
           ∙ part (suc (suc zero)) (entry ∷ found ∷ []);
     }
+reached job core (at_signal signal pending entry due unposted unmasked seen) =
+    let arch = unheld core.arch in
+    record {
+      work = pending_delivery arch signal;
+      entry = entry;
+      here = ap (row_played job core.arch) seen ∙ signal_part job arch signal pending (suc zero) (entry ∷ []) due unposted unmasked;
+      on = λ found.
+          ap (λ (v : ValsData). row_played job core.arch (vals_after v (gate_exchange (stack_of job core.arch)) found)) seen
+          ∙ signal_part job arch signal pending (suc (suc zero)) (entry ∷ found ∷ []) due unposted unmasked;
+    }
 reached job core (at_fault e entry due seen) =
     let arch = unheld core.arch in
     record {
-      work = delivery arch (signal_of e.name);
+      work = fault_delivery arch e;
       entry = entry;
       here = ap (row_played job core.arch) seen
           ∙ ap (λ (d : Option Fault). play (row_from job arch d) (suc zero) (entry ∷ [])) due;

@@ -83,7 +83,7 @@ same_access job core None a b own w h =
     let o : wanted (row_played job core.arch core.vals) ≡ Some b = ap wanted w in
     cc
 
-came_faults : (job : JobData) (core : Core) (answer : ℕ) (b : Access) (own : ℕ → List Change) (r : Record) (name : FaultName) (c : Played Finish) → Waits job core → row_played job core.arch core.vals ≡ Wants b own → row_played job core.arch (vals_after core.vals b answer) ≡ c → OnOver (Ends (unheld core.arch)) c → noted_by core.arch c ≡ Some r → r.what ≡ what.Fault name → Faults job core (core_by job core.arch (held_after (own answer) core.arch.held) (vals_after core.vals b answer) c) answer r
+came_faults : (job : JobData) (core : Core) (answer : ℕ) (b : Access) (own : ℕ → List Change) (r : Record) (name : FaultName) (c : Played Finish) → Waits job core → row_played job core.arch core.vals ≡ Wants b own → row_played job core.arch (vals_after core.vals b answer) ≡ c → OnOver (Ends job (unheld core.arch)) c → noted_by core.arch c ≡ Some r → r.what ≡ what.Fault name → Faults job core (core_by job core.arch (held_after (own answer) core.arch.held) (vals_after core.vals b answer) c) answer r
 unfolding next_access
 came_faults job core answer b own r name (Wants a changes) h w e o n f = cc
 came_faults job core answer b own r name (Faulted x) h w e o n f = record {
@@ -92,14 +92,14 @@ came_faults job core answer b own r name (Faulted x) h w e o n f = record {
   arch =
       let start = unheld core.arch in
       let more : core.vals.accesses + 1 ≡ suc core.vals.accesses = omega arith in
-      let left = still_at (Ends start) false (row job start) 0 0 core.vals.accesses core.vals.values b own answer x (walk_row job start).walks (spent job core h) w
+      let left = still_at (Ends job start) false (row job start) 0 0 core.vals.accesses core.vals.values b own answer x (walk_row job start).walks (spent job core h) w
       (subst (λ (k : ℕ). play (row job start) k (kept_after core.vals.values b answer) ≡ Faulted x) more e) in
       ap (λ (held : Option ℕ). record core.arch { count = core.arch.count + 1; due = Some x; held = held }) (held_still (own answer) core.arch.held left);
   accesses = λ a next.
       subst (λ y. vals_of (row_trail job core.arch (vals_after core.vals y answer)) ≡ vals_after core.vals y answer) (sym (same_access job core core.over a b own w next)) (shows_next job core b own answer h w);
   words = λ a next.
       let start = unheld core.arch in
-      let clean = fault_clean (Ends start) (row job start) 0 0 (vals_after core.vals b answer).accesses (vals_after core.vals b answer).values x (walk_row job start).walks e in
+      let clean = fault_clean (Ends job start) (row job start) 0 0 (vals_after core.vals b answer).accesses (vals_after core.vals b answer).values x (walk_row job start).walks e in
       subst (λ y. All KeepsWords (row_trail job core.arch (vals_after core.vals y answer))) (sym (same_access job core core.over a b own w next)) clean;
 }
 came_faults job core answer b own r name (Completed (Noted next noted) left values) h w e o n f = let t : tells noted.what ≡ false = (let same : noted ≡ r = cc in ap (λ (x : Record). tells x.what) same ∙ ap tells f) in let u = o.tells in cc
@@ -110,7 +110,7 @@ came_faults job core answer b own r name (Completed Stopped left values) h w e o
 answered_faults : (job : JobData) (core : Core) (answer : ℕ) (r : Record) (name : FaultName) (c : Played Finish) → Waits job core → row_played job core.arch core.vals ≡ c → (answered job core answer c).noted ≡ Some r → r.what ≡ what.Fault name → Faults job core (answered job core answer c).core answer r
 answered_faults job core answer r name (Wants b own) h w n f =
     let seen = vals_after core.vals b answer in
-    came_faults job core answer b own r name (row_played job core.arch seen) h w refl (over_play (Ends (unheld core.arch)) false (row job (unheld core.arch)) 0 0 seen.accesses seen.values (walk_row job (unheld core.arch)).walks) n f
+    came_faults job core answer b own r name (row_played job core.arch seen) h w refl (over_play (Ends job (unheld core.arch)) false (row job (unheld core.arch)) 0 0 seen.accesses seen.values (walk_row job (unheld core.arch)).walks) n f
 answered_faults job core answer r name (Faulted e) h w n f = cc
 answered_faults job core answer r name (Completed x left values) h w n f = cc
 

@@ -89,7 +89,7 @@ row_part job core p n values h =
     let next = next_address job core.arch in
     let same : next_address job arch ≡ next = after_unheld core.arch (decoded (instruction_bytes job core.arch)) in
     let there : effective arch h.operand next ≡ p = address_unheld core.arch h.operand next ∙ h.address in
-    parts_of_row.instructions job arch i h.len h.pending (suc n) (h.entry ∷ values) h.due h.rip h.reads
+    parts_of_row.instructions job arch i h.len h.pending (suc n) (h.entry ∷ values) h.due h.unposted h.unmasked h.rip h.reads
     ∙ ap (λ (k : ℕ). play (execute job arch i k) (suc n) (h.entry ∷ values)) same
     ∙ ap (λ (q : ℕ). play (rstorssp arch q next >>= noted) (suc n) (h.entry ∷ values)) there
     ∙ restore_part arch p next h.page h.entry n values h.reached h.aligned h.within h.passed

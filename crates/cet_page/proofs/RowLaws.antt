@@ -12,14 +12,17 @@ use Rattle.cet_isa.specs.declared.threads.Fault.{Fault}
 use Rattle.cet_page.specs.Script.{done, fault, ◌>>=◌, play}
 use Rattle.cet_page.specs.Parts.{general_protection, read_entry, load_as, store_as, store, compare_exchange_as}
 use Rattle.cet_page.specs.Gate.{Work, stack_of, gate_in, entered, inside, leave}
-use Rattle.cet_page.specs.Row.{row, row_from, execute, fetched, address_after, instruction, boundary, instruction_bytes, next_address}
+use Rattle.cet_page.specs.Posting.{due_signal, pending_signal}
+use Rattle.cet_page.specs.Row.{row, row_from, between, after_signals, execute, fetched, address_after, instruction, boundary, instruction_bytes, next_address}
 use Rattle.cet_page.specs.PartsOfRow.{PartsOfRow}
 
-instruction_part : (job : JobData) (arch : Arch) (i : Instr) (len pending n : ℕ) (values : List ℕ) → arch.due ≡ None → canonical arch.rip ≡ true → decoded (instruction_bytes job arch) ≡ Read i len → play (row job arch) (suc (suc n)) (0 ∷ pending ∷ values) ≡ play (execute job arch i (next_address job arch)) n values
+instruction_part : (job : JobData) (arch : Arch) (i : Instr) (len pending n : ℕ) (values : List ℕ) → arch.due ≡ None → due_signal job arch ≡ None → pending_signal pending arch.mask ≡ None → canonical arch.rip ≡ true → decoded (instruction_bytes job arch) ≡ Read i len → play (row job arch) (suc (suc n)) (0 ∷ pending ∷ values) ≡ play (execute job arch i (next_address job arch)) n values
 unfolding boundary instruction load_as ◌>>=◌
-instruction_part job arch i len pending n values due rip reads =
+instruction_part job arch i len pending n values due unposted unmasked rip reads =
     let bytes = instruction_bytes job arch in
     ap (λ (d : Option Fault). play (row_from job arch d) (suc (suc n)) (0 ∷ pending ∷ values)) due
+    ∙ ap (λ (o : Option ℕ). play (between job arch o) (suc (suc n)) (0 ∷ pending ∷ values)) unposted
+    ∙ ap (λ (o : Option ℕ). play (after_signals job arch o) n values) unmasked
     ∙ ap (λ (b : Bool). play (cond b (fetched job arch bytes (decoded bytes)) (fault general_protection)) n values) rip
     ∙ ap (λ (d : Decoding). play (fetched job arch bytes d) n values) reads
     ∙ ap (λ (d : Decoding). play (execute job arch i (address_after arch d)) n values) (sym reads)

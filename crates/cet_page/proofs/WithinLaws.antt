@@ -45,13 +45,15 @@ recorded_is job next l s c = recorded_at job next (next.count == job.limit) refl
 state_kept : (arch next : Arch) (held : Option ℕ) → next.made ≡ arch.made → IsState arch → IsState (kept_by arch held next)
 state_kept arch next held e s = record { number = s.number; made = subst IsMade (sym e) s.made }
 
-core_kept : (job : JobData) (arch : Arch) (held : Option ℕ) (seen : ValsData) → job.limit ≤ 100000 → IsState arch → arch.count < job.limit → vals_of (row_trail job arch seen) ≡ seen → (r : Played Finish) → row_played job arch seen ≡ r → OnOver (Ends (unheld arch)) r → IsCore job (core_by job arch held seen r)
+core_kept : (job : JobData) (arch : Arch) (held : Option ℕ) (seen : ValsData) → job.limit ≤ 100000 → IsState arch → arch.count < job.limit → vals_of (row_trail job arch seen) ≡ seen → (r : Played Finish) → row_played job arch seen ≡ r → OnOver (Ends job (unheld arch)) r → IsCore job (core_by job arch held seen r)
 core_kept job arch held seen l s c p (Wants a changes) e k = record { state = record { number = s.number; made = s.made }; count = c; limit = l; vals = p; waits = (a, changes, e) }
 core_kept job arch held seen l s c p (Faulted f) e k = recorded_is job (kept_by arch held (faulted arch f)) l (record { number = s.number; made = s.made }) (omega arith)
 core_kept job arch held seen l s c p (Completed (Noted next noted) left values) e k =
     let same : next.count ≡ arch.count + 1 = k.count in
     recorded_is job (kept_by arch held next) l (state_kept arch next held k.made s) (omega arith)
-core_kept job arch held seen l s c p (Completed (Posted next) left values) e k = absurd k
+core_kept job arch held seen l s c p (Completed (Posted next) left values) e k =
+    let same : next.count ≡ arch.count = k.count in
+    fresh_core job (kept_by arch held next) l (state_kept arch next held k.made s) (omega arith)
 core_kept job arch held seen l s c p (Completed (Exited next noted status) left values) e k =
     let same : next.count ≡ arch.count + 1 = k.count in
     record { state = state_kept arch next held k.made s; count = omega arith; vals = refl }
@@ -59,7 +61,7 @@ core_kept job arch held seen l s c p (Completed Stopped left values) e k = recor
 
 -- the accesses so far are the first ones of the row
 pub spent : (job : JobData) (core : Core) → Waits job core → Spent (row job (unheld core.arch)) core.vals.accesses core.vals.values
-spent job core h = let arch = unheld core.arch in trail_spent (Ends arch) (row job arch) 0 0 core.vals (walk_row job arch).walks h.vals
+spent job core h = let arch = unheld core.arch in trail_spent (Ends job arch) (row job arch) 0 0 core.vals (walk_row job arch).walks h.vals
 
 -- the same of one access more
 pub shows_next : (job : JobData) (core : Core) (a : Access) (own : ℕ → List Change) (answer : ℕ) → Waits job core → row_played job core.arch core.vals ≡ Wants a own → vals_of (row_trail job core.arch (vals_after core.vals a answer)) ≡ vals_after core.vals a answer
@@ -67,15 +69,15 @@ shows_next job core a own answer h e =
     let seen = vals_after core.vals a answer in
     let arch = unheld core.arch in
     let o = (walk_row job arch).walks in
-    let more : Spent (row job arch) seen.accesses seen.values = rw add-one (spent_more (Ends arch) false (row job arch) 0 0 core.vals.accesses core.vals.values a own answer o (spent job core h) e) in
-    trail_shows (Ends arch) (row job arch) 0 0 seen.accesses seen.values o more
+    let more : Spent (row job arch) seen.accesses seen.values = rw add-one (spent_more (Ends job arch) false (row job arch) 0 0 core.vals.accesses core.vals.values a own answer o (spent job core h) e) in
+    trail_shows (Ends job arch) (row job arch) 0 0 seen.accesses seen.values o more
 
 answered_is : (job : JobData) (core : Core) (answer : ℕ) → Waits job core → (r : Played Finish) → row_played job core.arch core.vals ≡ r → (a : Access) (changes : ℕ → List Change) → r ≡ Wants a changes → IsCore job (answered job core answer r).core
 answered_is job core answer h (Wants b own) e a changes w =
     let seen = vals_after core.vals b answer in
     let arch = unheld core.arch in
     let o = (walk_row job arch).walks in
-    core_kept job core.arch _ seen h.limit h.state h.count (shows_next job core b own answer h e) (row_played job core.arch seen) refl (over_play (Ends arch) false (row job arch) 0 0 seen.accesses seen.values o)
+    core_kept job core.arch _ seen h.limit h.state h.count (shows_next job core b own answer h e) (row_played job core.arch seen) refl (over_play (Ends job arch) false (row job arch) 0 0 seen.accesses seen.values o)
 answered_is job core answer h (Faulted f) e a changes w = cc
 answered_is job core answer h (Completed x left values) e a changes w = cc
 
@@ -88,7 +90,7 @@ taken_is job core answer h = answered_is job core answer h (row_played job core.
 pub room : (job : JobData) (core : Core) → Waits job core → (length core.vals.values < most_values) × (core.vals.accesses < most_accesses)
 room job core h =
     let arch = unheld core.arch in
-    let r = spent_fits (Ends arch) false (row job arch) 0 0 core.vals.accesses core.vals.values h.waits.0 h.waits.1 (walk_row job arch).walks (spent job core h) h.waits.2 in
+    let r = spent_fits (Ends job arch) false (row job arch) 0 0 core.vals.accesses core.vals.values h.waits.0 h.waits.1 (walk_row job arch).walks (spent job core h) h.waits.2 in
     (omega arith, omega arith)
 
 -- a thread that hasn't ended waits
@@ -105,7 +107,7 @@ born_is job arch (Some child) b l m f e =
 child_by : (job : JobData) (core : Core) (answer : ℕ) → Waits job core → (r : Played Finish) → row_played job core.arch core.vals ≡ r → (b : Core) → (answered job core answer r).child ≡ Some b → IsCore job b
 child_by job core answer h (Wants a changes) e b c =
     let arch = unheld core.arch in
-    let fits = births (Ends arch) false (row job arch) 0 0 core.vals.accesses core.vals.values a changes answer (walk_row job arch).walks e in
+    let fits = births (Ends job arch) false (row job arch) 0 0 core.vals.accesses core.vals.values a changes answer (walk_row job arch).walks e in
     let room = h.count in
     born_is job core.arch (birth (changes answer)) b h.limit (omega arith) fits.fits c
 child_by job core answer h (Faulted f) e b c = cc
@@ -131,7 +133,7 @@ bears_by start answer l f =
 bears_at : (job : JobData) (core : Core) (a : Access) (start answer : ℕ) → Waits job core → answer < 32 → (c : Played Finish) → row_played job core.arch core.vals ≡ c → Wanted c a (marks.Bears start) → IsMade start
 bears_at job core a start answer h l (Wants b changes) e w =
     let arch = unheld core.arch in
-    let fits = births (Ends arch) false (row job arch) 0 0 core.vals.accesses core.vals.values b changes answer (walk_row job arch).walks e in
+    let fits = births (Ends job arch) false (row job arch) 0 0 core.vals.accesses core.vals.values b changes answer (walk_row job arch).walks e in
     bears_by start answer l (subst BornFits (w.1.1 answer) fits.fits)
 bears_at job core a start answer h l (Faulted f) e w = absurd w
 bears_at job core a start answer h l (Completed x left values) e w = absurd w

@@ -14,12 +14,15 @@ use Rattle.cet_isa.specs.declared.threads.Record.{Record}
 use Rattle.cet_page.specs.Core.{Core, next_access, recorded}
 use Rattle.cet_page.specs.Finish.{counted}
 use Rattle.cet_page.specs.Gate.{stack_of, busy_record}
+use Rattle.cet_page.specs.Posting.{due_signal, pending_signal}
 use Rattle.cet_page.specs.Row.{instruction_bytes}
 
 -- The thread is at the kernel's entry, and has looked at the page of its supervisor stack's token.
 pub data AtGate (job : JobData) (core : Core) : Type 0 where
-  -- by SYSCALL: no fault is due, EXIT was 0 and signals were loaded
-  at_syscall : (len pending entry : ℕ) → core.arch.due ≡ None → canonical core.arch.rip ≡ true → decoded (instruction_bytes job core.arch) ≡ Read instr.Syscall len → core.vals ≡ record { accesses = 3; values = 0 ∷ pending ∷ entry ∷ [] } → AtGate job core
+  -- by SYSCALL: no fault and no listed signal is due, EXIT was 0, and no pending signal was unmasked
+  at_syscall : (len pending entry : ℕ) → core.arch.due ≡ None → due_signal job core.arch ≡ None → pending_signal pending core.arch.mask ≡ None → canonical core.arch.rip ≡ true → decoded (instruction_bytes job core.arch) ≡ Read instr.Syscall len → core.vals ≡ record { accesses = 3; values = 0 ∷ pending ∷ entry ∷ [] } → AtGate job core
+  -- by a pending signal that isn't masked, between instructions
+  at_signal : (signal pending entry : ℕ) → core.arch.due ≡ None → due_signal job core.arch ≡ None → pending_signal pending core.arch.mask ≡ Some signal → core.vals ≡ record { accesses = 3; values = 0 ∷ pending ∷ entry ∷ [] } → AtGate job core
   -- by a due fault
   at_fault : (e : Fault) (entry : ℕ) → core.arch.due ≡ Some e → core.vals ≡ record { accesses = 1; values = entry ∷ [] } → AtGate job core
 

@@ -155,17 +155,3 @@ signal_of Cp = 11
 -- bit s - 1 of a mask is signal s
 abbrev pub is_masked : (mask signal : ℕ) → Bool
 is_masked mask signal = mask / 2 ^ (signal - 1) % 2 == 1
-
--- The signal of a due fault kills the process at once where it is masked. Else the handler is loaded; and while handlers
--- aren't built, the process is killed whatever the handler is.
-unfoldable pub delivery : Arch → (signal : ℕ) → Work
-delivery arch signal =
-    if is_masked arch.mask signal
-    then kill arch signal
-    else (do
-      _ ← load (action_word signal)
-      kill arch signal)
-
--- the delivery of a due fault
-abbrev pub deliver : JobData → Arch → Fault → Script Finish
-deliver job arch e = entered job arch (delivery arch (signal_of e.name))

@@ -17,11 +17,12 @@ pub mod MapShadowStack
 pub mod Mmap
 pub mod MemoryServices
 pub mod Processes
-pub mod Services
 pub mod Structures
 pub mod Signals
 pub mod Delivery
 pub mod SigReturn
+pub mod Services
+pub mod Posting
 pub mod Fetch
 pub mod Row
 pub mod Core

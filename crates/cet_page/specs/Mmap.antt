@@ -6,8 +6,8 @@ use Rattle.cet_words.specs.Entries.{data_entry}
 use Rattle.cet_words.specs.Layout.{area_pages, draw_mmap_word, entry_word, first_mmap_page, first_shadow_page, mmap_end, mmap_start, page_up, pages_of, shadow_end, shadow_start}
 use Rattle.cet_isa.specs.declared.threads.Arch.{Arch}
 use Rattle.cet_page.specs.Finish.{r10, rdi, rdx, rsi}
-use Rattle.cet_page.specs.Gate.{Work, clears, failed, serve}
-use Rattle.cet_page.specs.Parts.{fetch_add, stores}
+use Rattle.cet_page.specs.Gate.{Work, failed, serve}
+use Rattle.cet_page.specs.Parts.{clears, fetch_add, stores}
 use Rattle.cet_page.specs.Script.{done, ◌>>=◌}
 use Rattle.cet_page.specs.declared.services.Errno.{Errno}
 use Rattle.cet_page.specs.declared.services.Errno.TheVariants as errno

@@ -2,7 +2,7 @@
 -- interrupts and exceptions), but a stack address that isn't canonical is #GP too, and every data access is aligned.
 use Rattle.std.proofs.Common.{zero, suc}
 use Rattle.std.specs.Prelude.{ℕ, ◌+◌, ◌%◌, List, [], ◌∷◌, Option, Some, None, ◌==◌, if◌then◌else◌}
-use Rattle.cet_words.specs.Layout.{page_at}
+use Rattle.cet_words.specs.Layout.{page_at, entry_word}
 use Rattle.cet_words.specs.declared.accesses.Access.TheVariants as access
 use Rattle.cet_isa.specs.Address.{canonical}
 use Rattle.cet_isa.specs.declared.threads.Fault.{Fault}
@@ -103,6 +103,10 @@ fetch_and word value = ask (access.FetchAnd word value) no_changes done
 unfoldable pub stores : (count word value step : ℕ) → Script (Unit {0})
 stores zero word value step = done tt
 stores (suc count) word value step = tell word value [] (stores count (word + 1) (value + step) step)
+
+-- stores of 0 to the entries of so many pages, the lowest first
+abbrev pub clears : (count page : ℕ) → Script (Unit {0})
+clears count page = stores count (entry_word page) 0 0
 
 -- Stores of these values, the lowest first: to a word and to those above it.
 unfoldable pub store_each : (word : ℕ) → List ℕ → Script (Unit {0})

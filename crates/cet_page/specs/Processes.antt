@@ -12,7 +12,7 @@ use Rattle.cet_isa.specs.declared.threads.What.TheVariants as what
 use Rattle.cet_page.specs.Finish.{counted, rax, rdi, rdx, rsi}
 use Rattle.cet_page.specs.Gate.{Work, failed, serve, served, sys_record}
 use Rattle.cet_page.specs.MapShadowStack.{can_draw, claimed_if, drawn_page, drawn_start}
-use Rattle.cet_page.specs.Parts.{compare_exchange, fetch_add_as, load, probe, store, stores}
+use Rattle.cet_page.specs.Parts.{clears, compare_exchange, fetch_add_as, load, probe, store, stores}
 use Rattle.cet_page.specs.Script.{Script, done, ◌>>=◌}
 use Rattle.cet_page.specs.declared.checks.Kind.TheVariants as kind
 use Rattle.cet_page.specs.declared.checks.Who.TheVariants.{User}
@@ -122,10 +122,6 @@ bore arch child start = (
   record { rip = arch.rip; what = what.Born; code = 0; a = child; b = start + thread_region_size },
   leaving.Back,
 )
-
--- stores of 0 to the entries of so many pages, the lowest first
-abbrev pub clears : (count page : ℕ) → Script (Unit {0})
-clears count page = stores count (entry_word page) 0 0
 
 -- where no further thread can be, the pages become absent again
 unfoldable pub give_up : Arch → (page : ℕ) → Work

@@ -17,6 +17,7 @@ use Rattle.cet_isa.specs.declared.threads.What.TheVariants as what
 use Rattle.cet_page.specs.Core.{Core, next_access, recorded, fault_record, faulted}
 use Rattle.cet_page.specs.Operands.{effective}
 use Rattle.cet_page.specs.Page.{allows}
+use Rattle.cet_page.specs.Posting.{due_signal, pending_signal}
 use Rattle.cet_page.specs.Row.{instruction_bytes, next_address}
 use Rattle.cet_page.specs.Tokens.{restore_token_at, previous_token}
 use Rattle.cet_page.specs.declared.checks.Kind.TheVariants as kind
@@ -24,8 +25,9 @@ use Rattle.cet_page.specs.declared.checks.Who.TheVariants.{User}
 
 -- The thread is in the row of an RSTORSSP at p, whose look has passed.
 pub record AtRestore (job : JobData) (core : Core) (p : ℕ) : Type 0 where
-  -- no fault is due, and the bytes at RIP are the instruction
+  -- no fault and no listed signal is due, and the bytes at RIP are the instruction
   pub due : core.arch.due ≡ None
+  pub unposted : due_signal job core.arch ≡ None
   pub rip : canonical core.arch.rip ≡ true
   pub operand : Mem
   pub len : ℕ
@@ -36,8 +38,9 @@ pub record AtRestore (job : JobData) (core : Core) (p : ℕ) : Type 0 where
   pub aligned : p % 8 ≡ 0
   pub page : ℕ
   pub within : page_at p ≡ Some page
-  -- EXIT was 0, signals were loaded, and the page's entry allows a shadow-stack store
+  -- EXIT was 0, no pending signal was unmasked, and the page's entry allows a shadow-stack store
   pub pending : ℕ
+  pub unmasked : pending_signal pending core.arch.mask ≡ None
   pub entry : ℕ
   pub seen : core.vals ≡ record { accesses = 3; values = 0 ∷ pending ∷ entry ∷ [] }
   pub passed : allows entry kind.ShadowStore User ≡ true

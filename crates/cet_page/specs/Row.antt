@@ -18,7 +18,9 @@ use Rattle.cet_page.specs.Family.{family_of}
 use Rattle.cet_page.specs.declared.families.Family.{Family}
 use Rattle.cet_page.specs.declared.families.Family.TheVariants as families
 use Rattle.cet_page.specs.ShadowStacks.{shadow_stacks}
-use Rattle.cet_page.specs.Gate.{deliver}
+use Rattle.cet_page.specs.Gate.{entered}
+use Rattle.cet_page.specs.Delivery.{fault_delivery, pending_delivery}
+use Rattle.cet_page.specs.Posting.{due_signal, pending_signal, posting}
 use Rattle.cet_page.specs.Services.{syscall}
 use Rattle.cet_page.specs.Fetch.{fetchable, missing}
 use Rattle.cet_page.specs.declared.finishes.Finish.{Finish}
@@ -61,20 +63,30 @@ instruction job arch =
     then fetched job arch (instruction_bytes job arch) (decoded (instruction_bytes job arch))
     else fault general_protection
 
--- Between instructions: EXIT, then PEND, then the instruction. Listed signals aren't posted, and
--- pending ones aren't delivered, while handlers aren't built.
+-- the delivery of a pending signal comes in place of the instruction
+abbrev pub after_signals : JobData → Arch → Option ℕ → Script Finish
+after_signals job arch None = instruction job arch
+after_signals job arch (Some signal) = entered job arch (pending_delivery arch signal)
+
+-- Between instructions: EXIT, then PEND, then the instruction.
 unfoldable pub boundary : JobData → Arch → Script Finish
 boundary job arch = do
   ending ← load exit_word
   if ending == 0
       then (do
-        _ ← load (pend_word arch.number)
-        instruction job arch)
+        pending ← load (pend_word arch.number)
+        after_signals job arch (pending_signal pending arch.mask))
       else done finish.Stopped
 
+-- a listed signal that is due is posted first
+abbrev pub between : JobData → Arch → Option ℕ → Script Finish
+between job arch None = boundary job arch
+between job arch (Some signal) = posting arch signal
+
+-- a due fault goes to the kernel at once
 abbrev pub row_from : JobData → Arch → Option Fault → Script Finish
-row_from job arch (Some e) = deliver job arch e
-row_from job arch None = boundary job arch
+row_from job arch (Some e) = entered job arch (fault_delivery arch e)
+row_from job arch None = between job arch (due_signal job arch)
 
 -- the row of a thread in this state
 abbrev pub row : JobData → Arch → Script Finish

@@ -7,13 +7,17 @@ use Rattle.cet_page.specs.Finish.{rax}
 use Rattle.cet_page.specs.Gate.{Work, entered}
 use Rattle.cet_page.specs.MemoryServices.{memory_service}
 use Rattle.cet_page.specs.Processes.{is_process_service, process_service}
+use Rattle.cet_page.specs.SigReturn.{is_signal_service, signal_service}
 use Rattle.cet_page.specs.Script.{Script}
 use Rattle.cet_page.specs.declared.finishes.Finish.{Finish}
 
--- the service whose number is in RAX: one on processes and threads, or one on memory
-abbrev pub service : Arch → Work
-service arch = if is_process_service (rax arch) then process_service arch else memory_service arch
+-- the service whose number is in RAX: one on processes and threads, one on signals, or one on memory
+abbrev pub service : JobData → Arch → Work
+service job arch =
+    if is_process_service (rax arch) then process_service arch
+    else if is_signal_service (rax arch) then signal_service job arch
+    else memory_service arch
 
 -- SYSCALL
 abbrev pub syscall : JobData → Arch → Script Finish
-syscall job arch = entered job arch (service arch)
+syscall job arch = entered job arch (service job arch)

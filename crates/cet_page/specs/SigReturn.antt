@@ -1,6 +1,6 @@
 -- rt_sigreturn (15), and the services on signals by their numbers. Source: Linux, sigreturn(2) and
 -- Documentation/arch/x86/shstk.rst (the frame's word on the shadow stack has bit 63); the order is own.
-use Rattle.std.specs.Prelude.{ℕ, ◌+◌, ◌%◌, ◌==◌, ◌&&◌, if◌then◌else◌, slice_index, take, List, Option, Some, None}
+use Rattle.std.specs.Prelude.{ℕ, ◌+◌, ◌%◌, ◌==◌, ◌&&◌, ◌||◌, Bool, if◌then◌else◌, slice_index, take, List, Option, Some, None}
 use Rattle.cet_words.specs.Job.{JobData}
 use Rattle.cet_words.specs.Layout.{word_in}
 use Rattle.cet_isa.specs.Address.{canonical}
@@ -72,6 +72,9 @@ rt_sigreturn arch = do
   return_by arch popped
 
 -- ---- the services on signals, by their numbers; every other one is no call
+
+abbrev pub is_signal_service : (number : ℕ) → Bool
+is_signal_service number = number == 13 || (number == 14 || (number == 15 || number == 234))
 
 abbrev pub signal_service : JobData → Arch → Work
 signal_service job arch =
