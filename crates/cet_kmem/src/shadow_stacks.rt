@@ -9,7 +9,8 @@ ghost use Rattle.cet_page.specs.MapShadowStack.{claimed, claimed_if, draw_stack,
 
 use cet_isa::{Arch, Record, What};
 use cet_page::{
-    Cursor, Errno, Leaving, Suspended, can_draw, failed, restore_token, served, shadow_entry, word_in,
+    Cursor, Errno, Leaving, Suspended, can_draw, failed, restore_token, served, shadow_entry,
+    word_in,
 };
 use cet_words::{DRAW_SHADOW_WORD, FIRST_ENTRY_WORD, FIRST_SHADOW_PAGE, SHADOW_START};
 
