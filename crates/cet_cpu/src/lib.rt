@@ -8,6 +8,7 @@
 mod fetches;
 mod kernel;
 mod rows;
+mod signals;
 mod threads;
 
 pub use cet_isa::End;

@@ -1,17 +1,19 @@
 //! The row of a thread, from a boundary or a due fault to its next record.
 
-ghost use Rattle.std.specs.Prelude.{◌≡◌, ◌+◌, ◌-◌, ◌^◌, ◌<◌, IfSome};
+ghost use Rattle.std.specs.Prelude.{◌≡◌, ◌+◌, ◌-◌, ◌^◌, ◌<◌, ◌≤◌, IfSome};
 ghost use Rattle.cet_isa.specs.Reading.{decoded};
 ghost use Rattle.cet_words.specs.Layout.{thread_limit};
 ghost use Rattle.cet_page.specs.Script.{play};
 ghost use Rattle.cet_page.specs.Plays.{RefinesBy};
 ghost use Rattle.cet_page.specs.Finish.{IsMade};
-ghost use Rattle.cet_page.specs.Row.{row, row_from, boundary, instruction, fetched, instruction_bytes, execute};
+ghost use Rattle.cet_page.specs.Posting.{due_signal, pending_signal, posting};
+ghost use Rattle.cet_page.specs.Row.{row, row_from, after_signals, between, boundary, instruction, fetched, instruction_bytes, execute};
 ghost use Rattle.cet_cpu.specs.Changes.{finish_with, Stays};
 ghost use Rattle.cet_cpu.specs.Code.{IsCode};
 
 use crate::fetches::{Code, code_at};
-use crate::kernel::{RowEnd, deliver, syscall};
+use crate::kernel::{RowEnd, deliver_fault, deliver_pending, syscall};
+use crate::signals::{due_signal, pending_signal};
 use cet_decode::Decoded;
 use cet_isa::{Arch, Instr, is_canonical};
 use cet_page::{Cursor, Family, Suspended, family_of, general_protection, invalid_opcode, missing};
@@ -98,6 +100,27 @@ fn instruction(
     }
 }
 
+/// By what is pending: the delivery of a signal comes in place of the instruction.
+fn after_signals(
+    job: &Job,
+    arch: &mut Arch,
+    code: &mut Option<Code>,
+    pending: u64,
+    at: &mut Cursor,
+) -> Result<RowEnd, Suspended>
+    requires count { arch.old.count < 2 ^ 32 - 1 }
+    requires made { IsMade arch.old.made }
+    requires code { IfSome code.old (IsCode job.now.image.segments arch.old.rip) }
+    ensures comes { RefinesBy (finish_with arch.new) (play (after_signals job.now arch.old (pending_signal pending arch.old.mask)) at.old.left at.old.rest.now) result at.new.left at.new.rest.now }
+    ensures stays { Stays arch.old arch.new result }
+    ensures code { IfSome code.new (IsCode job.now.image.segments arch.old.rip) }
+{
+    match pending_signal(pending, arch.mask) {
+        Some(signal) => deliver_pending(job, arch, signal, at),
+        None => instruction(job, arch, code, at),
+    }
+}
+
 /// What a thread does between instructions, and then the instruction.
 #[tactic(auto, using(cet_page::proofs::ScriptLaws::play_bind), unfolding(cet_page::specs::Row::boundary))]
 fn boundary(
@@ -118,8 +141,44 @@ fn boundary(
     if ending != 0 {
         return Ok(RowEnd::Stopped);
     }
-    at.load(pend_word(arch.number))?;
-    instruction(job, arch, code, at)
+    let pending = at.load(pend_word(arch.number))?;
+    after_signals(job, arch, code, pending, at)
+}
+
+/// The posting of a listed signal, 1 to 31, which gives no record.
+#[tactic(auto, using(cet_page::proofs::ScriptLaws::play_bind), unfolding(cet_page::specs::Posting::posting))]
+fn posting(arch: &mut Arch, signal: u8, at: &mut Cursor) -> Result<RowEnd, Suspended>
+    requires number { arch.old.number < thread_limit }
+    requires signal { (1 ≤ signal) × (signal ≤ 31) }
+    requires posted { arch.old.posted < 2 ^ 32 - 1 }
+    ensures comes { RefinesBy (finish_with arch.new) (play (posting arch.old signal) at.old.left at.old.rest.now) result at.new.left at.new.rest.now }
+    ensures stays { Stays arch.old arch.new result }
+{
+    at.fetch_or(pend_word(arch.number), 1 << (signal - 1))?;
+    arch.posted += 1;
+    Ok(RowEnd::Posted)
+}
+
+/// A listed signal that is due is posted first.
+#[tactic(auto, unfolding(cet_page::specs::Row::between))]
+fn between(
+    job: &Job,
+    arch: &mut Arch,
+    code: &mut Option<Code>,
+    at: &mut Cursor,
+) -> Result<RowEnd, Suspended>
+    requires count { arch.old.count < 2 ^ 32 - 1 }
+    requires made { IsMade arch.old.made }
+    requires number { arch.old.number < thread_limit }
+    requires code { IfSome code.old (IsCode job.now.image.segments arch.old.rip) }
+    ensures comes { RefinesBy (finish_with arch.new) (play (between job.now arch.old (due_signal job.now arch.old)) at.old.left at.old.rest.now) result at.new.left at.new.rest.now }
+    ensures stays { Stays arch.old arch.new result }
+    ensures code { IfSome code.new (IsCode job.now.image.segments arch.old.rip) }
+{
+    match due_signal(job, arch) {
+        Some(signal) => posting(arch, signal, at),
+        None => boundary(job, arch, code, at),
+    }
 }
 
 /// The row of a thread in this state, as far as the cursor's accesses lead. It keeps the code at RIP,
@@ -139,7 +198,7 @@ pub fn row(
     ensures code { IfSome code.new (IsCode job.now.image.segments arch.old.rip) }
 {
     match arch.due {
-        Some(fault) => deliver(job, arch, &fault, at),
-        None => boundary(job, arch, code, at),
+        Some(fault) => deliver_fault(job, arch, &fault, at),
+        None => between(job, arch, code, at),
     }
 }

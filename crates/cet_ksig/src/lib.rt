@@ -17,4 +17,4 @@ mod structures;
 mod tests;
 
 pub use deliveries::{fault_delivery, pending_delivery};
-pub use services::{Work, follow, next};
+pub use services::{Work, follow, next, serves};

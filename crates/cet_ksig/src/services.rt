@@ -4,7 +4,7 @@ ghost use Rattle.std.specs.Prelude.{◌≡◌, ℕ, ◌-◌, ◌^◌, ◌<◌, �
 ghost use Rattle.cet_isa.specs.declared.threads.Fault.{Fault};
 ghost use Rattle.cet_page.specs.Script.{play};
 ghost use Rattle.cet_page.specs.Plays.{Refines, NextInRange, next_by, with_leaving};
-ghost use Rattle.cet_page.specs.SigReturn.{signal_service};
+ghost use Rattle.cet_page.specs.SigReturn.{is_signal_service, signal_service};
 ghost use Rattle.cet_page.specs.Delivery.{fault_delivery, pending_delivery};
 
 use crate::actions::rt_sigaction;
@@ -27,6 +27,13 @@ const RT_SIGRETURN: u64 = 15;
 
 /// The number of tgkill.
 const TGKILL: u64 = 234;
+
+/// Whether a number is one of these services.
+pub fn serves(number: u64) -> bool
+    ensures { result ≡ is_signal_service number }
+{
+    matches!(number, RT_SIGACTION | RT_SIGPROCMASK | RT_SIGRETURN | TGKILL)
+}
 
 /// What the kernel was entered for.
 #[derive(Clone, Copy, Debug, PartialEq, Eq)]

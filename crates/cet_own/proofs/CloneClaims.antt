@@ -13,8 +13,8 @@ use Rattle.cet_book.proofs.Edits.{current_holds}
 use Rattle.cet_book.proofs.Hand.{hand, Made, bears, born_others, hand_same, hand_other}
 use Rattle.cet_book.proofs.Top.{AtTop}
 use Rattle.cet_book.proofs.Ways.{born_way}
-use Rattle.cet_page.specs.Finish.{rdi}
-use Rattle.cet_page.specs.MapShadowStack.{drawn_page, drawn_start, rsi, shadow_entry}
+use Rattle.cet_page.specs.Finish.{rdi, rsi}
+use Rattle.cet_page.specs.MapShadowStack.{drawn_page, drawn_start, shadow_entry}
 use Rattle.cet_page.specs.Parts.{clears, fetch_add_as, stores}
 use Rattle.cet_page.specs.Processes.{bear, bear_by, bore, born_if, clone, draw_thread, give_up, makes_thread, thread_pages}
 use Rattle.cet_page.specs.Script.{done, ◌>>=◌}

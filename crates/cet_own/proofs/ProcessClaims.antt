@@ -5,9 +5,8 @@ use Rattle.std.proofs.lemmas.Bool.Decides.{nat_tests}
 use Rattle.cet_words.specs.Job.{JobData}
 use Rattle.cet_words.specs.Layout.{exit_word, first_kernel_page, token_word, word_in}
 use Rattle.cet_isa.specs.declared.threads.Arch.{Arch}
-use Rattle.cet_page.specs.Finish.{IsMade, rax, rdi}
+use Rattle.cet_page.specs.Finish.{IsMade, rax, rdi, rdx, rsi}
 use Rattle.cet_page.specs.Gate.{failed, serve}
-use Rattle.cet_page.specs.MapShadowStack.{rdx, rsi}
 use Rattle.cet_page.specs.Processes.{arch_prctl, arch_shstk_disable, arch_shstk_enable, arch_shstk_lock, arch_shstk_status, bytes_of, exit, exit_group, exit_status, in_one_word, load_last, made_page, process_service, put_status, taken_of, tell_status, thread_pages, write_bytes, write_first, write_of, write_words, wrote}
 use Rattle.cet_page.specs.Parts.{clears, load}
 use Rattle.cet_page.specs.Script.{done, ◌>>=◌}

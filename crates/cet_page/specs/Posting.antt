@@ -36,7 +36,7 @@ posting arch signal = do
 -- ---- pending signals
 
 -- the lowest of so many signals, from one on, whose bit is set
-abbrev pub lowest : (set from count : ℕ) → Option ℕ
+unfoldable pub lowest : (set from count : ℕ) → Option ℕ
 lowest set from zero = None
 lowest set from (suc count) = if set / 2 ^ (from - 1) % 2 == 1 then Some from else lowest set (from + 1) count
 
