@@ -1,4 +1,5 @@
 pub mod Changes
 pub mod Code
 pub mod Cpu
+pub mod Due
 pub mod Entry

@@ -10,12 +10,14 @@ ghost use Rattle.cet_page.specs.Posting.{due_signal, pending_signal, posting};
 ghost use Rattle.cet_page.specs.Row.{row, row_from, after_signals, between, boundary, instruction, fetched, instruction_bytes, execute};
 ghost use Rattle.cet_cpu.specs.Changes.{finish_with, Stays};
 ghost use Rattle.cet_cpu.specs.Code.{IsCode};
+ghost use Rattle.cet_cpu.specs.Due.{IsDue};
 
 use crate::fetches::{Code, code_at};
 use crate::kernel::{RowEnd, deliver_fault, deliver_pending, syscall};
 use crate::signals::{due_signal, pending_signal};
 use cet_decode::Decoded;
 use cet_isa::{Arch, Instr, is_canonical};
+use cet_ksig::signal_bit;
 use cet_page::{Cursor, Family, Suspended, family_of, general_protection, invalid_opcode, missing};
 use cet_words::{EXIT_WORD, Job, pend_word};
 
@@ -149,12 +151,11 @@ fn boundary(
 #[tactic(auto, using(cet_page::proofs::ScriptLaws::play_bind), unfolding(cet_page::specs::Posting::posting))]
 fn posting(arch: &mut Arch, signal: u8, at: &mut Cursor) -> Result<RowEnd, Suspended>
     requires number { arch.old.number < thread_limit }
-    requires signal { (1 ≤ signal) × (signal ≤ 31) }
-    requires posted { arch.old.posted < 2 ^ 32 - 1 }
+    requires due { IsDue arch.old signal }
     ensures comes { RefinesBy (finish_with arch.new) (play (posting arch.old signal) at.old.left at.old.rest.now) result at.new.left at.new.rest.now }
     ensures stays { Stays arch.old arch.new result }
 {
-    at.fetch_or(pend_word(arch.number), 1 << (signal - 1))?;
+    at.fetch_or(pend_word(arch.number), signal_bit(signal))?;
     arch.posted += 1;
     Ok(RowEnd::Posted)
 }

@@ -1,6 +1,7 @@
 //! Which listed signal a thread posts to itself, and which pending one is delivered to it.
 
 ghost use Rattle.std.specs.Prelude.{◌≡◌, ℕ, ◌-◌, ◌^◌, ◌<◌, ◌≤◌, IfSome, option_copied, slice_get};
+ghost use Rattle.cet_cpu.specs.Due.{IsDue};
 ghost use Rattle.cet_page.specs.Posting.{due_by, due_signal, listed, lowest, pending_signal};
 
 use cet_isa::Arch;
@@ -28,7 +29,8 @@ fn nth_listed(signals: &[Signal], thread: u8, posted: u32) -> Option<&Signal>
 /// The listed signal that a thread posts next, where its count isn't above the thread's.
 #[tactic(auto, unfolding(cet_page::specs::Posting::due_signal))]
 pub fn due_signal(job: &Job, arch: &Arch) -> Option<u8>
-    ensures { result ≡ due_signal job.now arch.now }
+    ensures signal { result ≡ due_signal job.now arch.now }
+    ensures due { IfSome result (IsDue arch.now) }
 {
     let signal = nth_listed(job.signals, arch.number, arch.posted)?;
     if signal.count <= arch.count {

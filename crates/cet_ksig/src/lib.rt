@@ -17,4 +17,5 @@ mod structures;
 mod tests;
 
 pub use deliveries::{fault_delivery, pending_delivery};
+pub use posts::signal_bit;
 pub use services::{Work, follow, next, serves};
