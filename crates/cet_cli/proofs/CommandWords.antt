@@ -9,9 +9,9 @@ use Rattle.cet_cli.specs.GoodTable.{good_table}
 use Rattle.cet_cli.specs.Grammar.{AreValues, CommandRow, FaultyWord, Given, IsAmong, IsIn, IsLine}
 use Rattle.cet_cli.specs.Reader.{Reader, find_command, forget, given_by, may_end, start, step}
 use Rattle.cet_cli.proofs.ReaderSteps.{steps}
-use Rattle.cet_cli.specs.Settings.{SettingsData}
 use Rattle.cet_cli.specs.Values.{Value}
-use Rattle.cet_cli.specs.Words.{IsCommand, Means, command_of, commands, defaults, settings_of, with_any, with_given}
+use Rattle.cet_cli.specs.Words.{IsCommand, Means, command_of, commands, defaults, choices_of, with_any, with_given}
+use Rattle.cet_cli.specs.declared.options.Choices.{Choices}
 use Rattle.cet_cli.specs.declared.options.OptionName.{OptionName}
 use Rattle.cet_cli.specs.declared.words.Command.{Command}
 use Rattle.cet_cli.specs.declared.words.CommandName.{CommandName}
@@ -42,7 +42,7 @@ few row m = (Decides-ltb (length row.operands) 16).0 (few_of row m)
 -- ---- commands are lines
 
 to_command : (words : List (List ℕ)) → IsIn commands words → IsCommand words
-to_command words is = (command_of is.row.name is.operands (settings_of is.given), record { row = is.row; among = is.among; operands = is.operands; given = is.given; line = is.line; is = refl })
+to_command words is = (command_of is.row.name is.operands (choices_of is.given), record { row = is.row; among = is.among; operands = is.operands; given = is.given; line = is.line; is = refl })
 
 to_line : (words : List (List ℕ)) → IsCommand words → IsIn commands words
 to_line words (c, m) = record { row = m.row; among = m.among; operands = m.operands; given = m.given; line = m.line }
@@ -109,54 +109,54 @@ so_far_misses row all r m f short = commanded (row.word ∷ all) (length all + 2
 pub so_far_means : (row : Row) (all : List (List ℕ)) (r : Reading) → IsAmong row commands → SoFar row all r → may_end r ≡ true → IsCommand (row.word ∷ all)
 so_far_means row all r m f h = to_command (row.word ∷ all) (read_accepted forget commands good tt row all r m f.read h)
 
--- ---- its settings
+-- ---- what its options set
 
--- what was read so far, and the settings that it makes
-pub record Made (row : Row) (words : List (List ℕ)) (r : Reading) (settings : SettingsData) : Type 0 where
+-- what was read so far, and what its options set
+pub record Made (row : Row) (words : List (List ℕ)) (r : Reading) (choices : Choices) : Type 0 where
   pub far : SoFar row words r
-  pub sets : steps with_given (start row defaults) words ≡ Some (with_kept r settings)
+  pub sets : steps with_given (start row defaults) words ≡ Some (with_kept r choices)
 
-pub made_none : (row : Row) (r : Reading) (settings : SettingsData) → r ≡ start row tt → settings ≡ defaults → Made row [] r settings
-made_none row r settings e d = record { far = so_far_none row r e; sets = rw (e, d) refl }
+pub made_none : (row : Row) (r : Reading) (choices : Choices) → r ≡ start row tt → choices ≡ defaults → Made row [] r choices
+made_none row r choices e d = record { far = so_far_none row r e; sets = rw (e, d) refl }
 
-any_given : (settings : SettingsData) (given : Option (Given OptionName)) → kept_by with_given settings given ≡ with_any settings given
-any_given settings None = refl
-any_given settings (Some g) = refl
+any_given : (choices : Choices) (given : Option (Given OptionName)) → kept_by with_given choices given ≡ with_any choices given
+any_given choices None = refl
+any_given choices (Some g) = refl
 
-pub made_more : (row : Row) (all : List (List ℕ)) (at : ℕ) (word : List ℕ) (r next : Reading) (settings after : SettingsData) → IsAmong row commands
-    → slice_get all at ≡ Some word → Made row (take at all) r settings → Some next ≡ step forget r word → after ≡ with_any settings (given_by r word)
+pub made_more : (row : Row) (all : List (List ℕ)) (at : ℕ) (word : List ℕ) (r next : Reading) (choices after : Choices) → IsAmong row commands
+    → slice_get all at ≡ Some word → Made row (take at all) r choices → Some next ≡ step forget r word → after ≡ with_any choices (given_by r word)
     → Made row (take (at + 1) all) next after
-made_more row all at word r next settings after m here f e is =
+made_more row all at word r next choices after m here f e is =
     let w = take_next all at word here in
-    let same : after ≡ kept_by with_given settings (given_by r word) = is ∙ sym (any_given settings (given_by r word)) in
+    let same : after ≡ kept_by with_given choices (given_by r word) = is ∙ sym (any_given choices (given_by r word)) in
     record {
       far = so_far_more row all at word r next m here f.far e;
       sets = ap (steps with_given (start row defaults)) w.0
           ∙ steps_append with_given (start row defaults) (take at all) (word ∷ [])
           ∙ ap (option_and_then (λ x. steps with_given x (word ∷ []))) f.sets
-          ∙ ap (option_and_then (λ x. Some x)) (other_step forget with_given r settings word next (sym e))
-          ∙ ap (λ (s : SettingsData). Some (with_kept next s)) (sym same);
+          ∙ ap (option_and_then (λ x. Some x)) (other_step forget with_given r choices word next (sym e))
+          ∙ ap (λ (s : Choices). Some (with_kept next s)) (sym same);
     }
 
-pub made_is : (row : Row) (all : List (List ℕ)) (at : ℕ) (r : Reading) (settings : SettingsData) → length all ≤ at → Made row (take at all) r settings → IsAmong row commands
-    → (operands : List (List ℕ)) (given : List (Given OptionName)) → IsLine row operands given (row.word ∷ all) → settings ≡ settings_of given
-made_is row all at r settings l f m operands given line =
-    let read : steps with_given (start row defaults) all ≡ Some (with_kept r settings) = subst (λ ws. steps with_given (start row defaults) ws ≡ Some (with_kept r settings)) (take_all at all l) f.sets in
+pub made_is : (row : Row) (all : List (List ℕ)) (at : ℕ) (r : Reading) (choices : Choices) → length all ≤ at → Made row (take at all) r choices → IsAmong row commands
+    → (operands : List (List ℕ)) (given : List (Given OptionName)) → IsLine row operands given (row.word ∷ all) → choices ≡ choices_of given
+made_is row all at r choices l f m operands given line =
+    let read : steps with_given (start row defaults) all ≡ Some (with_kept r choices) = subst (λ ws. steps with_given (start row defaults) ws ≡ Some (with_kept r choices)) (take_all at all l) f.sets in
     let led = line_read with_given row (good_among commands good row m) defaults operands given all line in
-    let same : with_kept r settings ≡ led.last = (let e = sym read ∙ led.read in cc) in
-    ap (λ (x : Reader CommandName OptionName SettingsData). x.kept) same ∙ led.kept_are
+    let same : with_kept r choices ≡ led.last = (let e = sym read ∙ led.read in cc) in
+    ap (λ (x : Reader CommandName OptionName Choices). x.kept) same ∙ led.kept_are
 
 -- no line goes on where the reader stops
-pub made_stops : (row : Row) (all : List (List ℕ)) (at : ℕ) (word : List ℕ) (r : Reading) (settings other : SettingsData) → IsAmong row commands → slice_get all at ≡ Some word → Made row (take at all) r settings → None ≡ step forget r word
-    → (operands : List (List ℕ)) (given : List (Given OptionName)) → IsLine row operands given (row.word ∷ all) → other ≡ settings_of given
-made_stops row all at word r settings other m here f e operands given line =
+pub made_stops : (row : Row) (all : List (List ℕ)) (at : ℕ) (word : List ℕ) (r : Reading) (choices other : Choices) → IsAmong row commands → slice_get all at ≡ Some word → Made row (take at all) r choices → None ≡ step forget r word
+    → (operands : List (List ℕ)) (given : List (Given OptionName)) → IsLine row operands given (row.word ∷ all) → other ≡ choices_of given
+made_stops row all at word r choices other m here f e operands given line =
     absurd ((so_far_stops row all at word r m here f.far e).refused (to_command (row.word ∷ all) (record { row = row; among = m; operands = operands; given = given; line = line })))
 
 -- a command is what its line means
-pub row_means : (row : Row) (all : List (List ℕ)) (settings : SettingsData) (c : Command) → IsAmong row commands → IsCommand (row.word ∷ all)
-    → ((operands : List (List ℕ)) (given : List (Given OptionName)) → IsLine row operands given (row.word ∷ all) → settings ≡ settings_of given)
-    → ((operands : List (List ℕ)) → c ≡ command_of row.name operands settings) → Means (row.word ∷ all) c
-row_means row all settings c m (d, means) set is =
+pub row_means : (row : Row) (all : List (List ℕ)) (choices : Choices) (c : Command) → IsAmong row commands → IsCommand (row.word ∷ all)
+    → ((operands : List (List ℕ)) (given : List (Given OptionName)) → IsLine row operands given (row.word ∷ all) → choices ≡ choices_of given)
+    → ((operands : List (List ℕ)) → c ≡ command_of row.name operands choices) → Means (row.word ∷ all) c
+row_means row all choices c m (d, means) set is =
     let whole : row.word ∷ all ≡ means.row.word ∷ (means.operands ++ means.line.options) = means.line.whole in
     let words : row.word ≡ means.row.word = cc in
     let same : means.row ≡ row = sym (same_row forget commands good tt row means.row m means.among words) in
@@ -180,11 +180,11 @@ are_as_many (v ∷ vs) [] h = absurd h
 are_as_many (v ∷ vs) (w ∷ ws) h = let e = are_as_many vs ws h.1 in omega arith
 
 -- what the words behind the command's own mean
-abbrev Meant : (row : Row) (tail : List (List ℕ)) → Reader CommandName OptionName SettingsData → Command
+abbrev Meant : (row : Row) (tail : List (List ℕ)) → Reader CommandName OptionName Choices → Command
 Meant row tail r = command_of row.name (take (length row.operands) tail) r.kept
 
 means_one : (row : Row) (tail : List (List ℕ)) (c : Command) → IsAmong row commands → Means (row.word ∷ tail) c
-    → (r : Reader CommandName OptionName SettingsData) × (steps with_given (start row defaults) tail ≡ Some r) × (c ≡ Meant row tail r)
+    → (r : Reader CommandName OptionName Choices) × (steps with_given (start row defaults) tail ≡ Some r) × (c ≡ Meant row tail r)
 means_one row tail c m means =
     let whole : row.word ∷ tail ≡ means.row.word ∷ (means.operands ++ means.line.options) = means.line.whole in
     let words : row.word ≡ means.row.word = cc in
@@ -197,8 +197,8 @@ means_one row tail c m means =
       l.last,
       l.read,
       means.is
-          ∙ ap (λ (x : Row). command_of x.name means.operands (settings_of means.given)) same
-          ∙ ap (λ (o : List (List ℕ)). command_of row.name o (settings_of means.given)) (sym first)
+          ∙ ap (λ (x : Row). command_of x.name means.operands (choices_of means.given)) same
+          ∙ ap (λ (o : List (List ℕ)). command_of row.name o (choices_of means.given)) (sym first)
           ∙ ap (command_of row.name (take (length row.operands) tail)) (sym l.kept_are),
     )
 

@@ -2,7 +2,8 @@
 use Rattle.std.proofs.Common.{ℕ, ◌≡◌, List, [], ◌∷◌, Option, Some, None, ap}
 use Rattle.std.proofs.lemmas.Option.{cond_some}
 use Rattle.cet_cli.specs.Grammar.{Given, OptionRow}
-use Rattle.cet_cli.specs.Reader.{Reader, back, ends_in, filled_by, find_option, found_ends, front, given_by, is_open, option_begins, option_by, option_ends, step, step_by, value_step}
+use Rattle.cet_cli.specs.Reader.{Reader, ends_in, equals, filled_by, find_option, found_ends, given_by, is_open, option_begins, option_by, option_ends, step, step_by, value_step}
+use Rattle.cet_cli.specs.Parts.{back, front}
 use Rattle.cet_cli.specs.Values.{Value, fits}
 use Rattle.cet_cli.proofs.WordSteps.{if_taken}
 
@@ -47,7 +48,7 @@ module _ {C O S T : Type 0} (keep : S → Given O → S) (other : T → Given O 
       let more : Reader C O S = record r { operands = vs } in
       let c = cond_some (fits v w) more next e in
       rw c.0 (ap (λ (n : Reader C O S). Some (with_kept n t)) c.1)
-  other_state None [] w next e = other_found (find_option r.row.options (front w)) (back w) next e
+  other_state None [] w next e = other_found (find_option r.row.options (front equals w)) (back equals w) next e
 
   pub other_step : (w : List ℕ) (next : Reader C O S) → step keep r w ≡ Some next → step other (with_kept r t) w ≡ Some (with_kept next (kept_by other t (given_by r w)))
   other_step w next e = other_state r.wants r.operands w next e

@@ -10,3 +10,5 @@ mod StopLaws
 mod Kept
 pub mod CommandWords
 mod EveryOption
+mod ItemLists
+mod SignalLaws

@@ -5,7 +5,7 @@ use Rattle.std.specs.List.{list_all}
 use Rattle.std.proofs.lemmas.Bool.{and_parts}
 use Rattle.cet_cli.specs.Grammar.{AreApart, AreOptions, AreTaken, AreValues, CommandRow, Given, IsAmong, IsLine, IsSpelled, OptionRow}
 use Rattle.cet_cli.specs.GoodTable.{good_values, has_example}
-use Rattle.cet_cli.specs.Reader.{Reader, ends_by, filled_by, is_filled, is_open, may_end, none_filled, start, step}
+use Rattle.cet_cli.specs.Reader.{Reader, ends_by, equals, filled_by, is_filled, is_open, may_end, none_filled, start, step}
 use Rattle.cet_cli.specs.Values.{Value, example, fits}
 use Rattle.cet_cli.proofs.ReaderSteps.{steps}
 use Rattle.cet_cli.proofs.Filled.{AllOpen, HasEach, Room, fill, fill_all, filled_here, filled_still, has_all, has_more, has_now, open_before, open_first, room_more, still_open}
@@ -45,14 +45,14 @@ module _ {C O S : Type 0} (keep : S → Given O → S) where
       → steps keep (at row [] filled kept) words ≡ Some (at row [] (slice_set filled o.part true) (keep kept (record { option = o; value = value })))
   spelled_read row good o None value words filled kept m free q (none, is) =
       let sign = (good.option o m).sign in
-      rw (is, none, front_whole o.word sign, back_none o.word sign, good.one o m, free, q) refl
+      rw (is, none, front_whole equals o.word sign, back_none equals o.word sign, good.one o m, free, q) refl
   spelled_read row good o (Some v) value words filled kept m free q (right, inl two) =
       let sign = (good.option o m).sign in
-      rw (two, front_whole o.word sign, back_none o.word sign, good.one o m, free, q, right) refl
+      rw (two, front_whole equals o.word sign, back_none equals o.word sign, good.one o m, free, q, right) refl
   spelled_read row good o (Some v) value words filled kept m free q (right, inr one) =
       let sign = (good.option o m).sign in
       let word : o.word ++ codes "=" ++ value ≡ o.word ++ 61 ∷ value = append_assoc o.word (codes "=") value in
-      rw (one, word, front_joined o.word value sign, back_joined o.word value sign, good.one o m, free, q, right) refl
+      rw (one, word, front_joined equals o.word value sign, back_joined equals o.word value sign, good.one o m, free, q, right) refl
 
   option_read : (row : CommandRow C O) (good : GoodRow row) (g : Given O) (words : List (List ℕ)) (filled : List Bool) (kept : S) → IsAmong g.option row.options → is_open filled g.option.part ≡ true → IsSpelled g.option.word g.option.value g.value words
       → steps keep (at row [] filled kept) words ≡ Some (at row [] (slice_set filled g.option.part true) (keep kept g))

@@ -7,8 +7,8 @@ use Rattle.std.proofs.lemmas.Bool.{and_parts}
 use Rattle.std.proofs.lemmas.Bool.Decides.{eqb_tells}
 use Rattle.std.proofs.lemmas.Slice.Eq.{bytes_eq-Decides}
 use Rattle.cet_cli.specs.Grammar.{CommandRow, IsAmong, OptionRow}
-use Rattle.cet_cli.specs.GoodTable.{differs, distinct, good_option, good_row, good_table, good_values, has_example, has_no_sign, has_rows}
-use Rattle.cet_cli.specs.Reader.{find_command, find_option}
+use Rattle.cet_cli.specs.GoodTable.{differs, distinct, good_option, good_row, good_table, good_values, has_example, has_no, has_rows}
+use Rattle.cet_cli.specs.Reader.{equals, find_command, find_option}
 use Rattle.cet_cli.proofs.Signs.{not_true}
 
 -- ---- rows by their words
@@ -64,7 +64,7 @@ any_among p (r ∷ rs) h = this_or_more p r rs (p r) refl h (λ later. any_among
 -- ---- what it tells
 
 pub record GoodOption {O : Type 0} (o : OptionRow O) : Type 0 where
-  pub sign : has_no_sign o.word ≡ true
+  pub sign : has_no equals o.word ≡ true
   pub room : nat_lt o.part 8 ≡ true
   pub example : has_example o.value ≡ true
 
@@ -76,7 +76,7 @@ pub record GoodRow {C O : Type 0} (row : CommandRow C O) : Type 0 where
 
 option_good : {O : Type 0} (o : OptionRow O) → good_option o ≡ true → GoodOption o
 option_good o h =
-    let p = and_parts (has_no_sign o.word) (nat_lt o.part 8 && has_example o.value) h in
+    let p = and_parts (has_no equals o.word) (nat_lt o.part 8 && has_example o.value) h in
     let q = and_parts (nat_lt o.part 8) (has_example o.value) p.1 in
     record { sign = p.0; room = q.0; example = q.1 }
 

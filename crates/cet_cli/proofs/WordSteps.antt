@@ -5,7 +5,8 @@ use Rattle.std.proofs.lemmas.Bool.{and_parts}
 use Rattle.std.proofs.lemmas.Option.{cond_some}
 use Rattle.cet_cli.specs.GoodTable.{good_values}
 use Rattle.cet_cli.specs.Grammar.{CommandRow, Given, IsAmong, OptionRow}
-use Rattle.cet_cli.specs.Reader.{Reader, back, filled_by, find_option, front, is_open, option_begins, option_by, start, step, step_by, value_step}
+use Rattle.cet_cli.specs.Reader.{Reader, equals, filled_by, find_option, is_open, option_begins, option_by, start, step, step_by, value_step}
+use Rattle.cet_cli.specs.Parts.{back, front}
 use Rattle.cet_cli.specs.Values.{Value, example, fits}
 use Rattle.cet_cli.proofs.ReaderSteps.{steps}
 use Rattle.cet_cli.proofs.Filled.{Room, opens, opens_less, room_first, room_more}
@@ -56,25 +57,25 @@ module _ {C O S : Type 0} (keep : S → Given O → S) where
   if_taken true x next e = (refl, e)
   if_taken false x next e = cc
 
-  option_taken : (r next : Reader C O S) (w : List ℕ) (o : OptionRow O) (value : Option Value) (text : Option (List ℕ)) → r.wants ≡ None → r.operands ≡ [] → IsAmong o r.row.options → is_open r.filled o.part ≡ true → o.word ≡ front w → o.value ≡ value → back w ≡ text → option_begins keep r o value text ≡ Some next → Stepped r w next
-  option_taken r next w o None None n p m free word q b e = (let same : filled_by keep r o [] ≡ next = cc in alone o n p m free q (sym (word ∙ whole_word w b)) (sym same))
+  option_taken : (r next : Reader C O S) (w : List ℕ) (o : OptionRow O) (value : Option Value) (text : Option (List ℕ)) → r.wants ≡ None → r.operands ≡ [] → IsAmong o r.row.options → is_open r.filled o.part ≡ true → o.word ≡ front equals w → o.value ≡ value → back equals w ≡ text → option_begins keep r o value text ≡ Some next → Stepped r w next
+  option_taken r next w o None None n p m free word q b e = (let same : filled_by keep r o [] ≡ next = cc in alone o n p m free q (sym (word ∙ whole_word equals w b)) (sym same))
   option_taken r next w o None (Some text) n p m free word q b e = cc
   option_taken r next w o (Some v) None n p m free word q b e =
       let begun : Reader C O S = record r { wants = Some o } in
       let same : begun ≡ next = cc in
-      begins o v n p m free q (sym (word ∙ whole_word w b)) (sym same)
+      begins o v n p m free q (sym (word ∙ whole_word equals w b)) (sym same)
   option_taken r next w o (Some v) (Some text) n p m free word q b e =
       let t = value_taken r next o (Some v) text e in
       let v_is : t.0 ≡ v = (let s = t.1 in cc) in
-      let whole : w ≡ o.word ++ codes "=" ++ text = parted_word w text b ∙ ap (λ (f : List ℕ). f ++ 61 ∷ text) (sym word) ∙ sym (append_assoc o.word (codes "=") text) in
+      let whole : w ≡ o.word ++ codes "=" ++ text = parted_word equals w text b ∙ ap (λ (f : List ℕ). f ++ 61 ∷ text) (sym word) ∙ sym (append_assoc o.word (codes "=") text) in
       joined o v text n p m free q (subst (λ (x : Value). fits x text ≡ true) v_is t.2) whole t.3
 
-  option_word : (r next : Reader C O S) (w : List ℕ) (found : Option (OptionRow O)) → r.wants ≡ None → r.operands ≡ [] → find_option r.row.options (front w) ≡ found → option_by keep r found (back w) ≡ Some next → Stepped r w next
+  option_word : (r next : Reader C O S) (w : List ℕ) (found : Option (OptionRow O)) → r.wants ≡ None → r.operands ≡ [] → find_option r.row.options (front equals w) ≡ found → option_by keep r found (back equals w) ≡ Some next → Stepped r w next
   option_word r next w None n p f e = cc
   option_word r next w (Some o) n p f e =
-      let a = option_found r.row.options (front w) o f in
-      let c = if_taken (is_open r.filled o.part) (option_begins keep r o o.value (back w)) next e in
-      option_taken r next w o o.value (back w) n p a.0 c.0 a.1 refl refl c.1
+      let a = option_found r.row.options (front equals w) o f in
+      let c = if_taken (is_open r.filled o.part) (option_begins keep r o o.value (back equals w)) next e in
+      option_taken r next w o o.value (back equals w) n p a.0 c.0 a.1 refl refl c.1
 
   by_state : (r next : Reader C O S) (w : List ℕ) (wants : Option (OptionRow O)) (vs : List Value) → r.wants ≡ wants → r.operands ≡ vs → step_by keep r wants vs w ≡ Some next → Stepped r w next
   by_state r next w (Some o) vs n p e = let t = value_taken r next o o.value w e in valued o t.0 n t.1 t.2 t.3
@@ -82,7 +83,7 @@ module _ {C O S : Type 0} (keep : S → Given O → S) where
       let more : Reader C O S = record r { operands = vs } in
       let c = cond_some (fits v w) more next e in
       operand v vs n p c.0 (sym c.1)
-  by_state r next w None [] n p e = option_word r next w (find_option r.row.options (front w)) n p refl e
+  by_state r next w None [] n p e = option_word r next w (find_option r.row.options (front equals w)) n p refl e
 
   pub stepped : (r next : Reader C O S) (w : List ℕ) → step keep r w ≡ Some next → Stepped r w next
   stepped r next w e = by_state r next w r.wants r.operands refl refl e

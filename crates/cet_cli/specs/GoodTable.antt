@@ -3,12 +3,13 @@ use Rattle.std.specs.Prelude.{ℕ, ◌==◌, ◌&&◌, not, nat_lt, Bool, true, 
 use Rattle.std.specs.List.{list_all, list_any}
 use Rattle.std.specs.Str.{bytes_eq}
 use Rattle.cet_cli.specs.Grammar.{CommandRow, OptionRow}
+use Rattle.cet_cli.specs.Reader.{equals}
 use Rattle.cet_cli.specs.Values.{Value, example, fits}
 
--- no `=` stands in the word
-abbrev pub has_no_sign : List ℕ → Bool
-has_no_sign [] = true
-has_no_sign (c ∷ cs) = not (c == 61) && has_no_sign cs
+-- the sign doesn't stand in the word
+abbrev pub has_no : (sign : ℕ) → List ℕ → Bool
+has_no sign [] = true
+has_no sign (c ∷ cs) = not (c == sign) && has_no sign cs
 
 -- no two rows have the same word
 module _ {A : Type 0} (word : A → List ℕ) where
@@ -26,7 +27,7 @@ has_example None = true
 has_example (Some v) = fits v (example v)
 
 abbrev pub good_option : {O : Type 0} → OptionRow O → Bool
-good_option o = has_no_sign o.word && (nat_lt o.part 8 && has_example o.value)
+good_option o = has_no equals o.word && (nat_lt o.part 8 && has_example o.value)
 
 abbrev pub good_values : List Value → Bool
 good_values [] = true

@@ -1,6 +1,8 @@
+pub mod Parts
 pub mod Settings
 pub mod Values
 pub mod Words
+pub mod Faults
 pub mod Grammar
 pub mod Reader
 pub mod Table

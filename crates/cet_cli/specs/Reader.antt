@@ -1,18 +1,14 @@
 -- How a line is read by a grammar's table, one word after another. Source: own.
-use Rattle.std.specs.Prelude.{ℕ, ◌+◌, ◌==◌, ◌≡◌, ◌↔◌, not, replicate, Bool, true, false, cond, List, [], ◌∷◌, Option, Some, None, slice_get, slice_set, unwrap_or, find}
+use Rattle.std.specs.Prelude.{ℕ, ◌+◌, ◌≡◌, ◌↔◌, not, replicate, Bool, true, false, cond, List, [], ◌∷◌, Option, Some, None, slice_get, slice_set, unwrap_or, find}
 use Rattle.std.specs.List.{list_all}
 use Rattle.std.specs.Str.{bytes_eq}
 use Rattle.cet_cli.specs.Grammar.{CommandRow, FaultyWord, Given, IsIn, OptionRow}
+use Rattle.cet_cli.specs.Parts.{back, front}
 use Rattle.cet_cli.specs.Values.{Value, fits}
 
--- a word up to its first `=`, and what stands behind that
-abbrev pub front : List ℕ → List ℕ
-front [] = []
-front (c ∷ cs) = cond (c == 61) [] (c ∷ front cs)
-
-abbrev pub back : List ℕ → Option (List ℕ)
-back [] = None
-back (c ∷ cs) = cond (c == 61) (Some cs) (back cs)
+-- the code of `=`, behind which a value may stand in its option's word
+abbrev pub equals : ℕ
+equals = 61
 
 -- What was read of a line, and what may still come: the words without a name that are still to come, the option whose value is,
 -- for each part whether there is an option of it, and what is kept of the options so far.
@@ -79,7 +75,7 @@ module _ {C O S : Type 0} (keep : S → Given O → S) where
   abbrev pub step_by : Reader C O S → Option (OptionRow O) → List Value → (word : List ℕ) → Option (Reader C O S)
   step_by r (Some o) vs word = value_step r o o.value word
   step_by r None (v ∷ vs) word = operand_step r v vs word
-  step_by r None [] word = option_by r (find_option r.row.options (front word)) (back word)
+  step_by r None [] word = option_by r (find_option r.row.options (front equals word)) (back equals word)
 
   -- one word more; none where no line goes on with it
   abbrev pub step : Reader C O S → (word : List ℕ) → Option (Reader C O S)
@@ -103,7 +99,7 @@ found_ends (Some o) text = option_ends o o.value text
 abbrev pub ends_in : {C O S : Type 0} → Reader C O S → Option (OptionRow O) → List Value → (word : List ℕ) → Option (Given O)
 ends_in r (Some o) vs word = Some (record { option = o; value = word })
 ends_in r None (v ∷ vs) word = None
-ends_in r None [] word = found_ends (find_option r.row.options (front word)) (back word)
+ends_in r None [] word = found_ends (find_option r.row.options (front equals word)) (back equals word)
 
 abbrev pub given_by : {C O S : Type 0} → Reader C O S → (word : List ℕ) → Option (Given O)
 given_by r word = ends_in r r.wants r.operands word

@@ -5,15 +5,18 @@ use Rattle.cet_cli.specs.Reader as reader
 use Rattle.cet_cli.specs.Values as values
 use Rattle.cet_cli.specs.declared.grammar.CommandRow.{CommandRow}
 use Rattle.cet_cli.specs.declared.grammar.OptionRow.{OptionRow}
-use Rattle.cet_cli.specs.declared.grammar.Value.{Value}
-use Rattle.cet_cli.specs.declared.grammar.Value.TheVariants.{Number}
+use Rattle.cet_cli.specs.declared.values.Value.{Value}
+use Rattle.cet_cli.specs.declared.values.Value.TheVariants as value
 use Rattle.cet_cli.specs.declared.grammar.Given.{Given}
 use Rattle.cet_cli.specs.declared.options.OptionName.{OptionName}
 use Rattle.cet_cli.specs.declared.reader.Reader.{Reader}
 use Rattle.cet_cli.specs.declared.words.CommandName.{CommandName}
 
 abbrev pub value_view : Value → values.Value
-value_view (Number low high) = values.Number low high
+value_view (value.Number low high) = values.Number low high
+value_view (value.OneOf first others) = values.OneOf first.now (map (λ w. w.now) others.now)
+value_view value.Signals = values.Signals
+value_view value.Turns = values.Turns
 
 abbrev pub option_view : OptionRow → grammar.OptionRow OptionName
 option_view r = record { name = r.name; word = r.word.now; value = option_map value_view r.value; part = r.part }

@@ -6,6 +6,7 @@ use Rattle.std.specs.List.{slice_split}
 use Rattle.std.specs.Str.{bytes_eq}
 use Rattle.cet_base.specs.Numbers.{number_of}
 use Rattle.cet_words.specs.declared.images.Signal.{Signal}
+use Rattle.cet_cli.specs.declared.turns.Repeat.{Repeat}
 
 -- a number from low to high, one of some words, a list of signals, or a list of turns
 pub data Value : Type 0 where
@@ -54,12 +55,7 @@ signal_of item = signal_by (items 58 item)
 abbrev pub signals_of : List ℕ → Option (List Signal)
 signals_of text = listed 256 signal_of text
 
--- some turns of one thread, one after another
-pub record Repeat : Type 0 where
-  pub thread : ℕ
-  pub turns : ℕ
-
--- `t`, or `t*n`
+-- `t`, or `t*n`: some turns of one thread, one after another
 abbrev pub repeat_by : List (List ℕ) → Option Repeat
 repeat_by (t ∷ []) = option_map (λ thread. record { thread = thread; turns = 1 }) (number_within 0 31 t)
 repeat_by (t ∷ n ∷ []) =

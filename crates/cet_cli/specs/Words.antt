@@ -1,10 +1,13 @@
 -- The words that are commands, and what they mean. Source: own.
-use Rattle.std.specs.Prelude.{ℕ, ◌≡◌, List, [], ◌∷◌, fold, codes, Option, Some, None, unwrap_or}
+use Rattle.std.specs.Prelude.{ℕ, ◌-◌, ◌^◌, ◌≡◌, List, [], ◌∷◌, fold, codes, Option, Some, None, option_map, unwrap_or}
 use Rattle.cet_cli.specs.Grammar.{CommandRow, Given, IsAmong, IsLine, OptionRow}
-use Rattle.cet_cli.specs.Values.{Number, number_within}
+use Rattle.cet_cli.specs.Values.{Number, number_within, schedule_of, signals_of}
 use Rattle.cet_cli.specs.Settings.{SettingsData, most_records}
+use Rattle.cet_cli.specs.declared.options.Choices.{Choices}
 use Rattle.cet_cli.specs.declared.options.OptionName.{OptionName}
 use Rattle.cet_cli.specs.declared.options.OptionName.TheVariants as option
+use Rattle.cet_cli.specs.declared.options.Plan.{Plan}
+use Rattle.cet_cli.specs.declared.options.Plan.TheVariants as plan
 use Rattle.cet_cli.specs.declared.words.Command.{Command}
 use Rattle.cet_cli.specs.declared.words.Command.TheVariants as command
 use Rattle.cet_cli.specs.declared.words.CommandName.{CommandName}
@@ -30,33 +33,57 @@ plain_row name word options = record { name = name; word = word; operands = []; 
 abbrev pub commands : List (CommandRow CommandName OptionName)
 commands = plain_row name.Run (codes "run") common ∷ plain_row name.Dis (codes "dis") [] ∷ plain_row name.Asm (codes "asm") [] ∷ plain_row name.Check (codes "check") [] ∷ []
 
--- ---- what they mean
+-- ---- what they set
 
 -- the settings where no option is given
-abbrev pub defaults : SettingsData
-defaults = record { limit = most_records; procs = 4 }
+abbrev pub default_settings : SettingsData
+default_settings = record { limit = most_records; procs = 4; signals = [] }
 
--- an option sets its setting to what its value means
-abbrev pub with_option : SettingsData → OptionName → (value : List ℕ) → SettingsData
-with_option settings option.Limit value = record settings { limit = unwrap_or (number_within 1 most_records value) settings.limit }
-with_option settings option.Procs value = record settings { procs = unwrap_or (number_within 1 8 value) settings.procs }
+-- what is set where no option is given
+abbrev pub defaults : Choices
+defaults = record { settings = default_settings; plan = plan.Schedule [] }
 
-abbrev pub with_given : SettingsData → Given OptionName → SettingsData
-with_given settings g = with_option settings g.option.name g.value
+abbrev pub with_limit : SettingsData → (value : List ℕ) → SettingsData
+with_limit s value = record s { limit = unwrap_or (number_within 1 most_records value) s.limit }
 
-abbrev pub with_any : SettingsData → Option (Given OptionName) → SettingsData
-with_any settings None = settings
-with_any settings (Some g) = with_given settings g
+abbrev pub with_procs : SettingsData → (value : List ℕ) → SettingsData
+with_procs s value = record s { procs = unwrap_or (number_within 1 8 value) s.procs }
 
-abbrev pub settings_of : List (Given OptionName) → SettingsData
-settings_of given = fold with_given defaults given
+abbrev pub with_signals : SettingsData → (value : List ℕ) → SettingsData
+with_signals s value = record s { signals = unwrap_or (signals_of value) s.signals }
 
--- the command of this name with these words without a name, of which no command has one yet, and these settings
-abbrev pub command_of : CommandName → (operands : List (List ℕ)) → SettingsData → Command
-command_of name.Run operands settings = command.Run settings
-command_of name.Dis operands settings = command.Dis
-command_of name.Asm operands settings = command.Asm
-command_of name.Check operands settings = command.Check
+abbrev pub with_schedule : Plan → (value : List ℕ) → Plan
+with_schedule p value = unwrap_or (option_map (λ turns. plan.Schedule turns) (schedule_of value)) p
+
+abbrev pub with_mix : Plan → (value : List ℕ) → Plan
+with_mix p value = unwrap_or (option_map (λ number. plan.Mix number) (number_within 0 (2 ^ 64 - 1) value)) p
+
+-- an option sets what it is for to what its value means
+abbrev pub with_option : Choices → OptionName → (value : List ℕ) → Choices
+with_option c option.Limit value = record c { settings = with_limit c.settings value }
+with_option c option.Procs value = record c { settings = with_procs c.settings value }
+with_option c option.Signals value = record c { settings = with_signals c.settings value }
+with_option c option.Schedule value = record c { plan = with_schedule c.plan value }
+with_option c option.Mix value = record c { plan = with_mix c.plan value }
+
+abbrev pub with_given : Choices → Given OptionName → Choices
+with_given c g = with_option c g.option.name g.value
+
+abbrev pub with_any : Choices → Option (Given OptionName) → Choices
+with_any c None = c
+with_any c (Some g) = with_given c g
+
+abbrev pub choices_of : List (Given OptionName) → Choices
+choices_of given = fold with_given defaults given
+
+-- ---- what they mean
+
+-- the command of this name with these words without a name, of which no command has one yet, and with what its options set
+abbrev pub command_of : CommandName → (operands : List (List ℕ)) → Choices → Command
+command_of name.Run operands choices = command.Run choices.settings
+command_of name.Dis operands choices = command.Dis
+command_of name.Asm operands choices = command.Asm
+command_of name.Check operands choices = command.Check
 
 -- the words, each as its bytes, are this command
 pub record Means (words : List (List ℕ)) (command : Command) : Type 0 where
@@ -65,7 +92,7 @@ pub record Means (words : List (List ℕ)) (command : Command) : Type 0 where
   pub operands : List (List ℕ)
   pub given : List (Given OptionName)
   pub line : IsLine row operands given words
-  pub is : command ≡ command_of row.name operands (settings_of given)
+  pub is : command ≡ command_of row.name operands (choices_of given)
 
 -- the words are some command
 abbrev pub IsCommand : List (List ℕ) → Type 0

@@ -1,27 +1,14 @@
-//! The grammar of the words: the commands, their options, and which values these have.
+//! The grammar of the words: the commands and their options.
 
 ghost use Rattle.std.specs.Prelude.{◌≡◌, map, option_map};
 ghost use Rattle.cet_cli.specs.Reader.{find_command, find_option};
-ghost use Rattle.cet_cli.specs.Table.{command_view, option_view, value_view};
-ghost use Rattle.cet_cli.specs.Values.{fits, number_within};
+ghost use Rattle.cet_cli.specs.Table.{command_view, option_view};
 ghost use Rattle.cet_cli.specs.Words.{commands};
 
+use crate::limits::{MOST_PROCS, MOST_RECORDS};
 use crate::options::OptionName;
+use crate::values::Value;
 use crate::words::CommandName;
-use cet_base::read_u64;
-
-/// The most records that the limit of a run allows, and its limit where no option says another.
-pub(crate) const MOST_RECORDS: u32 = 100_000;
-
-/// The most processors of a run.
-pub(crate) const MOST_PROCS: u8 = 8;
-
-/// Which texts are a value.
-#[derive(Clone, Copy, Debug, PartialEq, Eq)]
-pub(crate) enum Value {
-    /// The numbers from `low` to `high`.
-    Number { low: u64, high: u64 },
-}
 
 /// An option.
 #[derive(Clone, Copy, Debug)]
@@ -105,29 +92,6 @@ const COMMANDS: [CommandRow; 4] = [
         needs: &[],
     },
 ];
-
-/// The number that a text writes, where it is one from `low` to `high`.
-pub(crate) fn number_within(text: &str, low: u64, high: u64) -> Option<u64>
-    ensures { result ≡ number_within low high text.now }
-{
-    let number = read_u64(text.as_bytes())?;
-    if low <= number && number <= high {
-        Some(number)
-    } else {
-        None
-    }
-}
-
-impl Value {
-    /// Whether a text is such a value.
-    pub(crate) fn fits(self, text: &str) -> bool
-        ensures { result ≡ fits (value_view self) text.now }
-    {
-        match self {
-            Value::Number { low, high } => number_within(text, low, high).is_some(),
-        }
-    }
-}
 
 /// The first of these options that has a word.
 pub(crate) fn find_option(rows: &[OptionRow], word: &str) -> Option<OptionRow>

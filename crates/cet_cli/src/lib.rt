@@ -3,10 +3,17 @@
 
 mod grammar;
 mod laws;
+mod limits;
 mod options;
+mod parts;
 mod reader;
+mod signals;
+#[cfg(test)]
+mod tests;
+mod turns;
+mod values;
 mod words;
 
 pub use laws::tables_are_read;
 pub use options::Settings;
-pub use words::{Command, read_words};
+pub use words::{CliFault, Command, read_words};

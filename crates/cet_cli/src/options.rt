@@ -1,33 +1,47 @@
-//! The options of a command, and the settings that they make.
+//! The options of a command, and what they set.
 
-ghost use Rattle.std.specs.Prelude.{◌≡◌, option_map};
+ghost use Rattle.std.specs.Prelude.{◌≡◌, option_map, IfOk};
 ghost use Rattle.cet_cli.specs.Settings.{most_records};
 ghost use Rattle.cet_cli.specs.Table.{given_view};
 ghost use Rattle.cet_cli.specs.Values.{number_within};
-ghost use Rattle.cet_cli.specs.Words.{defaults, with_any, with_option};
+ghost use Rattle.cet_cli.specs.Words.{default_settings, defaults, with_any, with_limit, with_mix, with_option, with_procs, with_schedule, with_signals};
 
-use crate::grammar::{Given, MOST_PROCS, MOST_RECORDS, number_within};
+use crate::grammar::Given;
+use crate::limits::{MOST_PROCS, MOST_RECORDS};
+use crate::signals::signals_of;
+use crate::turns::{Turns, turns_of};
+use crate::values::number_within;
+use cet_words::{NoMemory, Signals};
+use std::alloc::Global;
 use std::marker::Model;
 
 /// The number of processors where no option says another.
 const PROCS: u8 = 4;
 
 /// An option, by its name.
-#[derive(Clone, Copy, Debug, PartialEq, Eq)]
+#[derive(Clone, Copy, Debug)]
 pub(crate) enum OptionName {
     /// `--limit`: the most records of each thread, 1 to 100,000.
     Limit,
     /// `--procs`: the number of processors, 1 to 8.
     Procs,
+    /// `--signals`: up to 256 signals. No command takes it yet.
+    Signals,
+    /// `--schedule`: up to 10,000 repeats, of 1,000,000 turns in all. No command takes it yet.
+    Schedule,
+    /// `--mix`: a number of 64 bits. No command takes it yet.
+    Mix,
 }
 
 /// The settings of a run.
-#[derive(Debug, Drop, PartialEq, Eq)]
+#[derive(Debug, Drop)]
 pub struct Settings {
     /// The most records of each thread, 1 to 100,000.
     pub limit: u32,
     /// The number of processors, 1 to 8.
     pub procs: u8,
+    /// The signals that threads post to themselves, at most 256.
+    pub signals: Signals,
 }
 
 impl Model for Settings {
@@ -35,11 +49,25 @@ impl Model for Settings {
 
     ghost Value = { SettingsData };
 
-    ghost view = { λ s. record { limit = s.limit; procs = s.procs } };
+    ghost view = { λ s. record { limit = s.limit; procs = s.procs; signals = s.signals } };
 
-    ghost invariant = { λ s. IsSettings (record { limit = s.limit; procs = s.procs }) };
+    ghost invariant = { λ s. IsSettings (record { limit = s.limit; procs = s.procs; signals = s.signals }) };
+}
 
-    ghost inverse = { λ d. record { limit = d.limit; procs = d.procs } };
+/// Which turns a run has.
+#[derive(Debug, Drop)]
+pub(crate) enum Plan {
+    /// These turns, and then the live threads in the order of their numbers.
+    Schedule(Turns),
+    /// The turns that a number leads to.
+    Mix(u64),
+}
+
+/// What the options of a line set.
+#[derive(Debug, Drop)]
+pub(crate) struct Choices {
+    pub settings: Settings,
+    pub plan: Plan,
 }
 
 /// The limit that a text is.
@@ -60,38 +88,108 @@ fn procs_of(text: &str) -> Option<u8>
 
 impl Settings {
     /// The settings where no option is given.
-    pub(crate) fn defaults() -> Settings
-        ensures { result ≡ defaults }
+    fn defaults(alloc: Global) -> Settings
+        ensures { result ≡ default_settings }
     {
         Settings {
             limit: MOST_RECORDS,
             procs: PROCS,
+            signals: Signals::new(alloc),
         }
     }
+}
 
-    /// The settings with an option's value. A value that the option can't have changes nothing.
-    fn with(self, option: OptionName, value: &str) -> Settings
-        ensures { result ≡ with_option self option value.now }
+impl Settings {
+    /// With the limit that a text is. A text that is none changes nothing, here and below.
+    fn with_limit(self, value: &str) -> Settings
+        ensures { result ≡ with_limit self value.now }
     {
-        match option {
-            OptionName::Limit => Settings {
-                limit: limit_of(value).unwrap_or(self.limit),
-                procs: self.procs,
-            },
-            OptionName::Procs => Settings {
-                limit: self.limit,
-                procs: procs_of(value).unwrap_or(self.procs),
-            },
+        Settings {
+            limit: limit_of(value).unwrap_or(self.limit),
+            procs: self.procs,
+            signals: self.signals,
         }
     }
 
-    /// The settings with an option, where one is given.
-    pub(crate) fn with_given(self, given: Option<Given>) -> Settings
-        ensures { result ≡ with_any self (option_map given_view given.entry) }
+    /// With the number of processors that a text is.
+    fn with_procs(self, value: &str) -> Settings
+        ensures { result ≡ with_procs self value.now }
+    {
+        Settings {
+            limit: self.limit,
+            procs: procs_of(value).unwrap_or(self.procs),
+            signals: self.signals,
+        }
+    }
+
+    /// With the signals that a text is a list of.
+    fn with_signals(self, alloc: Global, value: &str) -> Result<Settings, NoMemory>
+        ensures { IfOk result (λ settings. settings ≡ with_signals self value.now) }
+    {
+        let signals = signals_of(alloc, value)?;
+        Ok(Settings {
+            limit: self.limit,
+            procs: self.procs,
+            signals: signals.unwrap_or(self.signals),
+        })
+    }
+}
+
+impl Plan {
+    /// With the turns that a text is a list of.
+    fn with_schedule(self, alloc: Global, value: &str) -> Result<Plan, NoMemory>
+        ensures { IfOk result (λ plan. plan ≡ with_schedule self value.now) }
+    {
+        match turns_of(alloc, value)? {
+            Some(turns) => Ok(Plan::Schedule(turns)),
+            None => Ok(self),
+        }
+    }
+
+    /// With the number that a text is.
+    fn with_mix(self, value: &str) -> Plan
+        ensures { result ≡ with_mix self value.now }
+    {
+        match number_within(value, 0, u64::MAX) {
+            Some(number) => Plan::Mix(number),
+            None => self,
+        }
+    }
+}
+
+impl Choices {
+    /// What is set where no option is given.
+    pub(crate) fn defaults(alloc: Global) -> Choices
+        ensures { result ≡ defaults }
+    {
+        Choices {
+            settings: Settings::defaults(alloc),
+            plan: Plan::Schedule(Turns::new(alloc)),
+        }
+    }
+
+    /// With an option's value. A value that the option can't have changes nothing.
+    fn with(self, alloc: Global, option: OptionName, value: &str) -> Result<Choices, NoMemory>
+        ensures { IfOk result (λ choices. choices ≡ with_option self option value.now) }
+    {
+        let Choices { settings, plan } = self;
+        let (settings, plan) = match option {
+            OptionName::Limit => (settings.with_limit(value), plan),
+            OptionName::Procs => (settings.with_procs(value), plan),
+            OptionName::Signals => (settings.with_signals(alloc, value)?, plan),
+            OptionName::Schedule => (settings, plan.with_schedule(alloc, value)?),
+            OptionName::Mix => (settings, plan.with_mix(value)),
+        };
+        Ok(Choices { settings, plan })
+    }
+
+    /// With an option, where one is given.
+    pub(crate) fn with_given(self, alloc: Global, given: Option<Given>) -> Result<Choices, NoMemory>
+        ensures { IfOk result (λ choices. choices ≡ with_any self (option_map given_view given.entry)) }
     {
         match given {
-            Some(given) => self.with(given.option.name, given.value),
-            None => self,
+            Some(given) => self.with(alloc, given.option.name, given.value),
+            None => Ok(self),
         }
     }
 }

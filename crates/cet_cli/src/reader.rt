@@ -2,10 +2,12 @@
 
 ghost use Rattle.std.specs.Prelude.{◌≡◌, true, [], option_map, slice_set};
 ghost use Rattle.std.specs.List.{list_all};
-ghost use Rattle.cet_cli.specs.Reader.{back, filled_by, forget, front, given_by, is_filled, is_open, may_end, option_begins, option_ends, start, step, value_step};
+ghost use Rattle.cet_cli.specs.Reader.{filled_by, forget, given_by, is_filled, is_open, may_end, option_begins, option_ends, start, step, value_step};
 ghost use Rattle.cet_cli.specs.Table.{command_view, given_view, option_view, reader_view, value_view};
 
-use crate::grammar::{CommandRow, Given, OptionRow, Value, find_option};
+use crate::grammar::{CommandRow, Given, OptionRow, find_option};
+use crate::parts::parted;
+use crate::values::Value;
 
 /// What was read of a line, and what may still come.
 #[derive(Drop)]
@@ -17,17 +19,6 @@ pub(crate) struct Reader {
     wants: Option<OptionRow>,
     /// For each part of a line, whether there is an option of it.
     filled: [bool; 8],
-}
-
-/// A word up to its first `=`, and what stands behind that.
-fn parted(word: &str) -> (&str, Option<&str>)
-    ensures front { result.0.now ≡ front word.now }
-    ensures back { option_map (λ value. value.now) result.1 ≡ back word.now }
-{
-    match word.split_once('=') {
-        Some((front, value)) => (front, Some(value)),
-        None => (word, None),
-    }
 }
 
 /// The parts with one more that has an option.
@@ -123,7 +114,7 @@ impl Reader {
             self.operands = rest;
             return if value.fits(word) { Some(self) } else { None };
         }
-        let (front, text) = parted(word);
+        let (front, text) = parted(word, '=');
         let option = find_option(self.row.options, front)?;
         if !self.is_open(option.part) {
             return None;
@@ -158,7 +149,7 @@ impl Reader {
         if !self.operands.is_empty() {
             return None;
         }
-        let (front, text) = parted(word);
+        let (front, text) = parted(word, '=');
         let option = find_option(self.row.options, front)?;
         option_ends(option, text)
     }

@@ -1,9 +1,10 @@
 -- What follows of a command that was served.
 use Rattle.std.proofs.Common.{◌≡◌, ℕ, ◌<◌, ◌≤◌, arith, Bool, true, false, List, [], ◌∷◌, length, Option, Some, None, refl, sym, ap, subst, inl, inr, ◌⊎◌}
-use Rattle.std.specs.Io.KnownBytes.{Appends}
+use Rattle.std.specs.Prelude.{IfSome}
+use Rattle.std.specs.Io.KnownBytes.{Appends, Consumes}
 use Rattle.cet_top.specs.Answer.{Answers, reads, status_of}
 use Rattle.cet_top.specs.Serves.{Answering, Answered, Completes, CountsTooMuch, Cut, GaveTooMuch, IsAnswered, LostTooMuch, Serves, SinkState, Takes, Wrote}
-use Rattle.cet_io.specs.Stream.{AppendsSome, Rose, Tally}
+use Rattle.cet_io.specs.Stream.{AppendsSome, Rose, RoseBy, Tally}
 use Rattle.cet_top.specs.Reading.{ReadSome, ReadToEnd, ReadTooMuch, ReadUntilFault, SourceState, TakesAll, TalliesBy}
 use Rattle.cet_cli.specs.Words.{Means}
 use Rattle.cet_top.specs.declared.outcomes.ProcessEnd.{ProcessEnd}
@@ -226,3 +227,37 @@ served_too_long reads Answer src src' sink sink' s h g = elim (ways reads Answer
 -- the same of a command by other words for it
 pub means_serves : (words : List (List ℕ)) (c d : Command) (src src' : SourceState) (sink sink' : SinkState) (s : Status) → Means words c → Means words d → Serves (reads c) (Answers c) src src' sink sink' s → Serves (reads d) (Answers d) src src' sink sink' s
 means_serves words c d src src' sink sink' s m n h = subst (λ (x : Command). Serves (reads x) (Answers x) src src' sink sink' s) (means_same words c d m n) h
+
+-- ---- no memory for the words
+
+still_left : (left : Option (List ℕ)) → Consumes left left []
+still_left None = tt
+still_left (Some bytes) = refl
+
+still_count : (n : ℕ) → RoseBy 0 n n
+still_count n = (omega arith, omega arith)
+
+still_tally : (tally : Option Tally) → TalliesBy 0 0 tally tally
+still_tally None = tt
+still_tally (Some t) = record { given = still_count t.given; ends = still_count t.ends }
+
+still_faults : (tally : Option Tally) (faults : ℕ) → IfSome tally (λ t. faults ≡ faults)
+still_faults None faults = tt
+still_faults (Some t) faults = refl
+
+untouched : (src : SourceState) → ReadSome src src
+untouched src = record {
+  bytes = [];
+  taken = still_left src.left;
+  ends = 0;
+  once = omega arith;
+  reads = still_tally src.tally;
+  calm = still_faults src.tally src.faults;
+}
+
+-- nothing was read or written
+pub none_read : (c : Command) (src : SourceState) (sink : SinkState) → Serves (reads c) (Answers c) src src sink sink status.NoMemory
+none_read (command.Run settings) src sink = serves_no_memory (Answers (command.Run settings)) src src sink (untouched src) (omega arith)
+none_read command.Dis src sink = serves_no_memory (Answers command.Dis) src src sink (untouched src) (omega arith)
+none_read command.Asm src sink = serves_no_memory (Answers command.Asm) src src sink (untouched src) (omega arith)
+none_read command.Check src sink = serves_no_memory (Answers command.Check) src src sink (untouched src) (omega arith)

@@ -21,9 +21,9 @@ use Rattle.cet_top.specs.declared.status.Status.TheVariants as status
 use Rattle.cet_cli.specs.declared.words.Command.{Command}
 use Rattle.cet_cli.specs.declared.words.Command.TheVariants.{Run, Dis, Asm, Check}
 
--- the job of an image by these settings, with no signals
+-- the job of an image by these settings
 abbrev pub job_with : SettingsData → ImageData → JobData
-job_with settings image = record { image = image; procs = settings.procs; limit = settings.limit; signals = [] }
+job_with settings image = record { image = image; procs = settings.procs; limit = settings.limit; signals = settings.signals }
 
 abbrev pub job_of : SettingsData → List ℕ → JobData
 job_of settings bytes = job_with settings (image_of bytes)

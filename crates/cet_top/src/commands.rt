@@ -64,7 +64,7 @@ fn run_image(alloc: Global, settings: &Settings, image: &Image) -> Result<Answer
         image,
         procs: settings.procs,
         limit: settings.limit,
-        signals: &[],
+        signals: settings.signals.as_slice(),
     };
     run_job(alloc, &job, Style::Full)
 }

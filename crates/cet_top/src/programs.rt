@@ -10,7 +10,7 @@ ghost use Rattle.cet_cli.specs.declared.words.Command.{Command};
 
 use crate::commands::serve;
 use crate::status::Status;
-use cet_cli::read_words;
+use cet_cli::{CliFault, read_words};
 use cet_io::{Sink, Source};
 use std::alloc::Global;
 
@@ -59,8 +59,9 @@ pub fn plain<S: Source, K: Sink>(
         (source_state (S.left src.new) (S.faults src.new) (S.tally src.new)) →
         (result ≡ Status.TooLong) ⊎ (result ≡ Status.NoMemory) }
 {
-    match read_words(words) {
+    match read_words(alloc, words) {
         Ok(command) => serve(alloc, &command, src, sink),
-        Err(number) => Status::Usage(number),
+        Err(CliFault::Usage(number)) => Status::Usage(number),
+        Err(CliFault::NoMemory) => Status::NoMemory,
     }
 }

@@ -3,5 +3,5 @@ use Rattle.cet_cli.specs.Table.{command_view}
 use Rattle.cet_cli.proofs.CommandWords.{row_means}
 use Rattle.cet_cli.proofs.words.read_line.Goals as goal
 
-pub returns : goal.returns
-returns c = row_means (command_view c.args.row) (map string_bytes c.args.words.now) c.settings_of.result c.with.result c.requires (c.in_ok-check_line.ensures {u = tt}) c.settings_of.ensures c.with.ensures
+pub returns-in-Ok : goal.returns-in-Ok
+returns-in-Ok c = row_means (command_view c.args.row) (map string_bytes c.args.words.now) c.in-Ok.choices c.with.result c.requires (c.in_default.ensures {u = tt}) (c.in-Ok.ensures {u = tt}) c.with.ensures

@@ -1,10 +1,14 @@
-use Rattle.std.proofs.Common.{◌≡◌, ap, inl, inr, refl, subst}
+use Rattle.std.proofs.Common.{ℕ, ◌≡◌, ◌∙◌, ap, inr, subst, sym}
+use Rattle.cet_cli.specs.Faults.{HasCause}
 use Rattle.cet_cli.specs.Grammar.{FaultyWord}
 use Rattle.cet_cli.specs.Words.{IsCommand}
 use Rattle.cet_top.specs.declared.status.Status.TheVariants as status
 use Rattle.cet_cli.proofs.Faulty.{faulty_same}
-use Rattle.cet_top.proofs.Serving.{means_serves, none_given, served_completes, served_no_usage, served_too_long}
+use Rattle.cet_top.proofs.Serving.{means_serves, none_read, served_completes, served_no_usage, served_too_long}
 use Rattle.cet_top.proofs.programs.plain.Goals as goal
+
+usage_same : (a b : ℕ) → status.Usage a ≡ status.Usage b → a ≡ b
+usage_same a b e = cc
 
 pub returns-in-Ok-clause-command : goal.returns-in-Ok-clause-command
 returns-in-Ok-clause-command g c = inr (c.in-Ok.command, c.in-Ok.ensures)
@@ -27,20 +31,13 @@ returns-in-Ok-clause-completes g c = λ d m. served_completes _ _ _ _ _ _ _ (mea
 pub returns-in-Ok-clause-too_long : goal.returns-in-Ok-clause-too_long
 returns-in-Ok-clause-too_long g c = λ much. served_too_long _ _ _ _ _ _ c.serve.result c.serve.ensures much
 
-pub returns-in-Err-clause-command : goal.returns-in-Err-clause-command
-returns-in-Err-clause-command g c = inl (c.in-Err.number, c.in-Err.ensures)
+pub returns-in-Err-Usage-clause-usage : goal.returns-in-Err-Usage-clause-usage
+returns-in-Err-Usage-clause-usage g c =
+    let faulty : FaultyWord IsCommand _ c.in-Err-Usage.number = subst (HasCause _) c.in-Err-Usage.field-0-is (c.in-Err-Usage.ensures {u = tt}) in
+    λ n. (
+      λ e. subst (FaultyWord IsCommand _) (sym c.in-Err-Usage.number-is ∙ usage_same _ n e) faulty,
+      λ f. ap status.Usage (c.in-Err-Usage.number-is ∙ faulty_same IsCommand _ c.in-Err-Usage.number n faulty f),
+    )
 
-pub returns-in-Err-clause-usage : goal.returns-in-Err-clause-usage
-returns-in-Err-clause-usage g c = λ n. (
-  λ e. (let same : c.in-Err.number ≡ n = cc in subst (FaultyWord IsCommand _) same c.in-Err.ensures),
-  λ f. ap status.Usage (faulty_same IsCommand _ c.in-Err.number n c.in-Err.ensures f),
-)
-
-pub returns-in-Err-clause-serves : goal.returns-in-Err-clause-serves
-returns-in-Err-clause-serves g c = λ d m. absurd (c.in-Err.ensures.refused (d, m))
-
-pub returns-in-Err-clause-completes : goal.returns-in-Err-clause-completes
-returns-in-Err-clause-completes g c = λ d m. absurd (c.in-Err.ensures.refused (d, m))
-
-pub returns-in-Err-clause-too_long : goal.returns-in-Err-clause-too_long
-returns-in-Err-clause-too_long g c = λ much. absurd (none_given _ _ refl much)
+pub returns-in-Err-NoMemory-clause-serves : goal.returns-in-Err-NoMemory-clause-serves
+returns-in-Err-NoMemory-clause-serves g c = λ d m. none_read d _ _
