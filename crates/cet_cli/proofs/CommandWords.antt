@@ -24,7 +24,7 @@ use Rattle.cet_cli.proofs.WordSteps.{fewer_left, left, left_start, stepped, step
 
 -- the rows are good ones
 pub good : good_table commands ≡ true
-good = rw (number_of-decimal 1 (lit< tt)) refl
+good = rw (number_of-decimal 1 (lit< tt), number_of-decimal 0 (lit< tt)) refl
 
 abbrev pub Reading : Type 0
 Reading = Reader CommandName OptionName (Unit {0})

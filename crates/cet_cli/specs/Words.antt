@@ -1,7 +1,7 @@
 -- The words that are commands, and what they mean. Source: own.
-use Rattle.std.specs.Prelude.{ℕ, ◌-◌, ◌^◌, ◌≡◌, List, [], ◌∷◌, fold, codes, Option, Some, None, option_map, unwrap_or}
+use Rattle.std.specs.Prelude.{ℕ, ◌-◌, ◌^◌, ◌≡◌, List, [], ◌∷◌, ◌++◌, fold, codes, Option, Some, None, option_map, unwrap_or}
 use Rattle.cet_cli.specs.Grammar.{CommandRow, Given, IsAmong, IsLine, OptionRow}
-use Rattle.cet_cli.specs.Values.{Number, number_within, schedule_of, signals_of}
+use Rattle.cet_cli.specs.Values.{Number, Signals, Turns, number_within, schedule_of, signals_of}
 use Rattle.cet_cli.specs.Settings.{SettingsData, most_records}
 use Rattle.cet_cli.specs.declared.options.Choices.{Choices}
 use Rattle.cet_cli.specs.declared.options.OptionName.{OptionName}
@@ -21,17 +21,35 @@ limit = record { name = option.Limit; word = codes "--limit"; value = Some (Numb
 abbrev pub procs : OptionRow OptionName
 procs = record { name = option.Procs; word = codes "--procs"; value = Some (Number 1 8); part = 1 }
 
+abbrev pub signals : OptionRow OptionName
+signals = record { name = option.Signals; word = codes "--signals"; value = Some Signals; part = 2 }
+
 -- those of every run
 abbrev pub common : List (OptionRow OptionName)
-common = limit ∷ procs ∷ []
+common = limit ∷ procs ∷ signals ∷ []
+
+abbrev pub schedule : OptionRow OptionName
+schedule = record { name = option.Schedule; word = codes "--schedule"; value = Some Turns; part = 3 }
+
+abbrev pub mix : OptionRow OptionName
+mix = record { name = option.Mix; word = codes "--mix"; value = Some (Number 0 18446744073709551615); part = 3 }
+
+-- which turns a run has: one of them is given
+abbrev pub plans : List (OptionRow OptionName)
+plans = schedule ∷ mix ∷ []
 
 -- ---- the commands
 
 abbrev pub plain_row : CommandName → (word : List ℕ) → List (OptionRow OptionName) → CommandRow CommandName OptionName
 plain_row name word options = record { name = name; word = word; operands = []; options = options; needs = [] }
 
+abbrev pub replay : CommandRow CommandName OptionName
+replay = record { name = name.Replay; word = codes "replay"; operands = []; options = common ++ plans; needs = 3 ∷ [] }
+
 abbrev pub commands : List (CommandRow CommandName OptionName)
-commands = plain_row name.Run (codes "run") common ∷ plain_row name.Dis (codes "dis") [] ∷ plain_row name.Asm (codes "asm") [] ∷ plain_row name.Check (codes "check") [] ∷ []
+commands =
+    plain_row name.Run (codes "run") common ∷ replay ∷ plain_row name.Dis (codes "dis") [] ∷ plain_row name.Asm (codes "asm") []
+    ∷ plain_row name.Check (codes "check") [] ∷ []
 
 -- ---- what they set
 
@@ -81,6 +99,7 @@ choices_of given = fold with_given defaults given
 -- the command of this name with these words without a name, of which no command has one yet, and with what its options set
 abbrev pub command_of : CommandName → (operands : List (List ℕ)) → Choices → Command
 command_of name.Run operands choices = command.Run choices.settings
+command_of name.Replay operands choices = command.Replay choices.settings choices.plan
 command_of name.Dis operands choices = command.Dis
 command_of name.Asm operands choices = command.Asm
 command_of name.Check operands choices = command.Check

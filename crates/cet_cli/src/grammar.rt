@@ -40,35 +40,67 @@ pub(crate) struct CommandRow {
     pub needs: &'static [usize],
 }
 
-/// The options of every run.
-const COMMON: [OptionRow; 2] = [
-    OptionRow {
-        name: OptionName::Limit,
-        word: "--limit",
-        value: Some(Value::Number {
-            low: 1,
-            high: MOST_RECORDS as u64,
-        }),
-        part: 0,
-    },
-    OptionRow {
-        name: OptionName::Procs,
-        word: "--procs",
-        value: Some(Value::Number {
-            low: 1,
-            high: MOST_PROCS as u64,
-        }),
-        part: 1,
-    },
-];
+const LIMIT: OptionRow = OptionRow {
+    name: OptionName::Limit,
+    word: "--limit",
+    value: Some(Value::Number {
+        low: 1,
+        high: MOST_RECORDS as u64,
+    }),
+    part: 0,
+};
 
-const COMMANDS: [CommandRow; 4] = [
+const PROCS: OptionRow = OptionRow {
+    name: OptionName::Procs,
+    word: "--procs",
+    value: Some(Value::Number {
+        low: 1,
+        high: MOST_PROCS as u64,
+    }),
+    part: 1,
+};
+
+const SIGNALS: OptionRow = OptionRow {
+    name: OptionName::Signals,
+    word: "--signals",
+    value: Some(Value::Signals),
+    part: 2,
+};
+
+const SCHEDULE: OptionRow = OptionRow {
+    name: OptionName::Schedule,
+    word: "--schedule",
+    value: Some(Value::Turns),
+    part: 3,
+};
+
+const MIX: OptionRow = OptionRow {
+    name: OptionName::Mix,
+    word: "--mix",
+    value: Some(Value::Number {
+        low: 0,
+        high: u64::MAX,
+    }),
+    part: 3,
+};
+
+const RUN_OPTIONS: [OptionRow; 3] = [LIMIT, PROCS, SIGNALS];
+const REPLAY_OPTIONS: [OptionRow; 5] = [LIMIT, PROCS, SIGNALS, SCHEDULE, MIX];
+
+const COMMANDS: [CommandRow; 5] = [
     CommandRow {
         name: CommandName::Run,
         word: "run",
         operands: &[],
-        options: &COMMON,
+        options: &RUN_OPTIONS,
         needs: &[],
+    },
+    CommandRow {
+        name: CommandName::Replay,
+        word: "replay",
+        operands: &[],
+        options: &REPLAY_OPTIONS,
+        needs: &[3],
     },
     CommandRow {
         name: CommandName::Dis,

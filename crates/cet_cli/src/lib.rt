@@ -15,5 +15,6 @@ mod values;
 mod words;
 
 pub use laws::tables_are_read;
-pub use options::Settings;
+pub use options::{Plan, Settings};
+pub use turns::Turns;
 pub use words::{CliFault, Command, read_words};

@@ -25,11 +25,11 @@ pub(crate) enum OptionName {
     Limit,
     /// `--procs`: the number of processors, 1 to 8.
     Procs,
-    /// `--signals`: up to 256 signals. No command takes it yet.
+    /// `--signals`: up to 256 signals.
     Signals,
-    /// `--schedule`: up to 10,000 repeats, of 1,000,000 turns in all. No command takes it yet.
+    /// `--schedule`: up to 10,000 repeats, of 1,000,000 turns in all.
     Schedule,
-    /// `--mix`: a number of 64 bits. No command takes it yet.
+    /// `--mix`: a number of 64 bits.
     Mix,
 }
 
@@ -56,7 +56,7 @@ impl Model for Settings {
 
 /// Which turns a run has.
 #[derive(Debug, Drop)]
-pub(crate) enum Plan {
+pub enum Plan {
     /// These turns, and then the live threads in the order of their numbers.
     Schedule(Turns),
     /// The turns that a number leads to.

@@ -8,7 +8,7 @@ ghost use Rattle.cet_cli.specs.Words.{IsCommand, Means, choices_of, command_of, 
 ghost use Rattle.cet_cli.specs.declared.options.OptionName.{OptionName};
 
 use crate::grammar::{CommandRow, find_command};
-use crate::options::{Choices, Settings};
+use crate::options::{Choices, Plan, Settings};
 use crate::reader::Reader;
 use cet_words::NoMemory;
 use std::alloc::Global;
@@ -18,6 +18,8 @@ use std::alloc::Global;
 pub enum Command {
     /// `run`: runs the image that the source gives, and reports.
     Run(Settings),
+    /// `replay`: the same, with the turns of a schedule or of a number.
+    Replay(Settings, Plan),
     /// `dis`: lists the code of the image that the source gives.
     Dis,
     /// `asm`: assembles the text that the source gives.
@@ -40,6 +42,7 @@ pub enum CliFault {
 #[derive(Clone, Copy, Debug)]
 pub(crate) enum CommandName {
     Run,
+    Replay,
     Dis,
     Asm,
     Check,
@@ -52,6 +55,7 @@ impl CommandName {
     {
         match self {
             CommandName::Run => Command::Run(choices.settings),
+            CommandName::Replay => Command::Replay(choices.settings, choices.plan),
             CommandName::Dis => Command::Dis,
             CommandName::Asm => Command::Asm,
             CommandName::Check => Command::Check,
