@@ -1,6 +1,6 @@
 -- The classes of accesses that rows make: each pays what is owed. Source: own.
 use Rattle.std.proofs.Common.{◌≡◌, ◌≢◌, ℕ, ◌+◌, ◌-◌, ◌%◌, ◌^◌, ◌<◌, ◌≤◌, inl, inr, Bool, true, false, List, [], ◌∷◌, Option, Some, None, refl, sym, ◌∙◌, ap, subst, arith, get_or-set_other}
-use Rattle.std.specs.Prelude.{slice_index, slice_set, ◌==◌, if◌then◌else◌}
+use Rattle.std.specs.Prelude.{slice_index, slice_set, ◌==◌, if◌then◌else◌, bit_or, bit_and}
 use Rattle.cet_words.specs.Access.{answer, after}
 use Rattle.cet_words.specs.Entries.{entry_of}
 use Rattle.cet_words.specs.Job.{ImageData}
@@ -43,7 +43,7 @@ pub own_region : {image : ImageData} {words : List ℕ} {b : Book} (t m : ℕ) �
 own_region t m h e = record { shape = h.sound.book.shape; current = e }
 
 -- the token of a stack with a holder
-token_held : {image : ImageData} {words : List ℕ} {b : Book} (t k : ℕ) → Holds image words b → k < 8 → stack_of b k ≡ Some t → slice_index words (token_word k) ≡ token k + 1
+pub token_held : {image : ImageData} {words : List ℕ} {b : Book} (t k : ℕ) → Holds image words b → k < 8 → stack_of b k ≡ Some t → slice_index words (token_word k) ≡ token k + 1
 token_held t k h l e = h.gates k l ∙ ap (λ o. token k + busy o) e
 
 free_by : (o : Option ℕ) (p : ℕ) → p + busy o ≡ p → o ≡ None
@@ -143,7 +143,7 @@ exchange_other : (words : List ℕ) (word x w : ℕ) (c : Bool) → w ≢ word �
 exchange_other words word x w true n = word_other words word x w n
 exchange_other words word x w false n = refl
 
-token_spares : (words : List ℕ) (b : Book) (j expected x : ℕ) → j < 8 → Spared b words (after words (access.CompareExchange (token_word j) expected x))
+pub token_spares : (words : List ℕ) (b : Book) (j expected x : ℕ) → j < 8 → Spared b words (after words (access.CompareExchange (token_word j) expected x))
 token_spares words b j expected x l = record {
   own = λ y w own. exchange_other words (token_word j) x w (slice_index words (token_word j) == expected) (own_token y w j b l own);
   restorers = exchange_restorers words (token_word j) x (slice_index words (token_word j) == expected) (inr (omega arith));
@@ -218,6 +218,20 @@ module _ {image : ImageData} {t k : ℕ} {past : List Visit} {b : Book} {a : Acc
       quiet ev (leaves_by e (other_word word out.draw) (next_other word out.next)) (tells_below t b v e (λ j l. not_below word j (λ z. out.below j l (sym z)))) (λ words is h. subst (λ c. Holds image (after words c) b × Spared b words (after words c)) (sym e) (
         holds_out image words b word ((slice_index words word + value) % 2 ^ 64) out h,
         out_spared words b word ((slice_index words word + value) % 2 ^ 64) out,
+      ))
+
+  pub ors : (word value : ℕ) → a ≡ access.FetchOr word value → IsOut word → changes ≡ [] → Owed image t k past b a v changes
+  ors word value e out ev =
+      quiet ev (leaves_by e (other_word word out.draw) (next_other word out.next)) (tells_below t b v e (λ j l. not_below word j (λ z. out.below j l (sym z)))) (λ words is h. subst (λ c. Holds image (after words c) b × Spared b words (after words c)) (sym e) (
+        holds_out image words b word (bit_or (slice_index words word) value) out h,
+        out_spared words b word (bit_or (slice_index words word) value) out,
+      ))
+
+  pub ands : (word value : ℕ) → a ≡ access.FetchAnd word value → IsOut word → changes ≡ [] → Owed image t k past b a v changes
+  ands word value e out ev =
+      quiet ev (leaves_by e (other_word word out.draw) (next_other word out.next)) (tells_below t b v e (λ j l. not_below word j (λ z. out.below j l (sym z)))) (λ words is h. subst (λ c. Holds image (after words c) b × Spared b words (after words c)) (sym e) (
+        holds_out image words b word (bit_and (slice_index words word) value) out h,
+        out_spared words b word (bit_and (slice_index words word) value) out,
       ))
 
   -- the process ends, where it hasn't ended before

@@ -27,6 +27,9 @@ pub mod Changed
 pub mod Acquired
 pub mod Released
 pub mod Raised
+pub mod Pushed
+pub mod Popped
+pub mod Actions
 pub mod Claimed
 pub mod Seeded
 pub mod Born
@@ -46,6 +49,10 @@ pub mod MapClaims
 pub mod MmapClaims
 pub mod CloneClaims
 pub mod ProcessClaims
+pub mod StructureParts
+pub mod DeliveryClaims
+pub mod SignalClaims
+pub mod SigReturnClaims
 pub mod Steps
 pub mod Rows
 pub mod Threads

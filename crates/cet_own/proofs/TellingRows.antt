@@ -21,7 +21,7 @@ use Rattle.cet_isa.specs.declared.threads.Fault.{Fault}
 use Rattle.cet_isa.specs.declared.threads.Record.{Record}
 use Rattle.cet_page.specs.Script.{Script, done, fault, ask, tell, ◌>>=◌}
 use Rattle.cet_page.specs.Page.{allows, page_fault}
-use Rattle.cet_page.specs.Parts.{check_address_as, look_in_as, look_as, probe_in, probe, read_entry, load_as, store_as, compare_exchange_as, swap, fetch_add_as, stores, general_protection}
+use Rattle.cet_page.specs.Parts.{check_address_as, look_in_as, look_as, probe_in, probe, read_entry, load_as, store_as, compare_exchange_as, swap, fetch_add_as, fetch_and, fetch_or, loads, store_each, stores, general_protection}
 use Rattle.cet_page.specs.Values.{limit, width}
 use Rattle.cet_page.specs.Finish.{Row, noted, r10, rdi, rdx, rsi}
 use Rattle.cet_page.specs.Word64.{add64}
@@ -29,7 +29,7 @@ use Rattle.cet_page.specs.Family.{family_of}
 use Rattle.cet_page.specs.Operands.{register, load_word, load_at, write_place, store_at, read_operand}
 use Rattle.cet_page.specs.Arithmetic.{operated, alu, test, imul, move, movzx, movsxd, cmov, xchg, lock_xadd, lock_cmpxchg, arithmetic}
 use Rattle.cet_page.specs.Flow.{call, call_next, call_indirect, ret, push, pop, leave as leave_frame, jump_indirect, flow}
-use Rattle.cet_page.specs.Gate.{failed, gate_in, gate_out, freed, leave, entered, kill, delivery, deliver}
+use Rattle.cet_page.specs.Gate.{failed, gate_in, gate_out, freed, leave, entered, kill}
 use Rattle.cet_page.specs.MapShadowStack.{can_draw, claimed, drawn_page, drawn_start, fill_stack, draw_stack, map_by, map_shadow_stack, refused, seed_if}
 use Rattle.cet_page.specs.Mmap.{draw_pages, map_pages, map_refused, mmap, mmap_by, munmap, munmap_by, unmap_pages, unmapped_page}
 use Rattle.cet_page.specs.MemoryServices.{memory_service}
@@ -108,10 +108,32 @@ module _ {A : Type 0} {Q : Drawn → A → Type 0} {d : Drawn} (f : ℕ → Scri
   unfolding ◌>>=◌ fetch_add_as
   tells_fetch_add changes word value n h = record { tells = λ v. subst (λ x. Telling Q x (f v)) (sym (n v)) (h v).tells }
 
+  tells_fetch_or : (word value : ℕ) → ((v : ℕ) → Tells Q d (f v)) → Tells Q d (fetch_or word value >>= f)
+  unfolding ◌>>=◌ fetch_or
+  tells_fetch_or word value h = record { tells = λ v. (h v).tells }
+
+  tells_fetch_and : (word value : ℕ) → ((v : ℕ) → Tells Q d (f v)) → Tells Q d (fetch_and word value >>= f)
+  unfolding ◌>>=◌ fetch_and
+  tells_fetch_and word value h = record { tells = λ v. (h v).tells }
+
 stores_telling : {A : Type 0} (Q : Drawn → A → Type 0) (d : Drawn) (f : Unit {0} → Script A) (count word value step : ℕ) → Telling Q d (f tt) → Telling Q d (stores count word value step >>= f)
 unfolding ◌>>=◌ stores
 stores_telling Q d f zero word value step h = h
 stores_telling Q d f (suc count) word value step h = stores_telling Q d f count (word + 1) (value + step) step h
+
+each_telling : {A : Type 0} (Q : Drawn → A → Type 0) (d : Drawn) (f : Unit {0} → Script A) (word : ℕ) (values : List ℕ) → Telling Q d (f tt) → Telling Q d (store_each word values >>= f)
+unfolding ◌>>=◌ store_each
+each_telling Q d f word [] h = h
+each_telling Q d f word (value ∷ values) h = each_telling Q d f (word + 1) values h
+
+loads_telling : {A : Type 0} (Q : Drawn → A → Type 0) (d : Drawn) (f : List ℕ → Script A) (count word : ℕ) → ((values : List ℕ) → Telling Q d (f values)) → Telling Q d (loads count word >>= f)
+unfolding loads
+loads_telling Q d f zero word h = loaded Q d f h
+  where
+    loaded : {A : Type 0} (Q : Drawn → A → Type 0) (d : Drawn) (f : List ℕ → Script A) → ((values : List ℕ) → Telling Q d (f values)) → Telling Q d (done [] >>= f)
+    unfolding ◌>>=◌
+    loaded Q d f h = h []
+loads_telling Q d f (suc count) word h = λ v. loads_then Q d f v (loads count (word + 1)) (loads_telling Q d (λ values. f (v ∷ values)) count (word + 1) (λ values. h (v ∷ values)))
 
 module _ {A : Type 0} {Q : Drawn → A → Type 0} {d : Drawn} (f : Unit {0} → Script A) where
   tells_store : (changes : List Change) (word value : ℕ) → draws changes d ≡ d → Tells Q d (f tt) → Tells Q d (store_as changes word value >>= f)
@@ -125,6 +147,9 @@ module _ {A : Type 0} {Q : Drawn → A → Type 0} {d : Drawn} (f : Unit {0} →
 
   tells_stores : (count word value step : ℕ) → Tells Q d (f tt) → Tells Q d (stores count word value step >>= f)
   tells_stores count word value step h = record { tells = stores_telling Q d f count word value step h.tells }
+
+  tells_each : (word : ℕ) (values : List ℕ) → Tells Q d (f tt) → Tells Q d (store_each word values >>= f)
+  tells_each word values h = record { tells = each_telling Q d f word values h.tells }
 
   tells_tested : (misaligned : Fault) (addr size : ℕ) → d.kept ≡ [] → Tells Q d (f tt) → Tells Q d (check_address_as misaligned addr size >>= f)
   unfolding check_address_as
@@ -163,7 +188,7 @@ module _ {A B C : Type 0} {Q : Drawn → A → Type 0} {d : Drawn} where
   tells_assoc : (m : Script C) (h : C → Script B) (f : B → Script A) → Tells Q d (m >>= (λ x. h x >>= f)) → Tells Q d ((m >>= h) >>= f)
   tells_assoc m h f w = record { tells = assoc_telling Q d m h f w.tells }
 
-ruleset tells_parts = (tells_done, tells_fault, tells_if, tells_return, tells_fault_then, tells_if_then, tells_assoc, tells_peek, tells_load, tells_exchange, tells_swap, tells_fetch_add, tells_store, tells_stores, tells_tested, tells_look, tells_probe, draws_if, tells_nothing)
+ruleset tells_parts = (tells_done, tells_fault, tells_if, tells_return, tells_fault_then, tells_if_then, tells_assoc, tells_peek, tells_load, tells_loads, tells_exchange, tells_swap, tells_fetch_add, tells_fetch_or, tells_fetch_and, tells_store, tells_stores, tells_each, tells_tested, tells_look, tells_probe, draws_if, tells_nothing)
 
 -- ---- operands and the gate
 

@@ -83,7 +83,7 @@ thread_relies job t s now (Some thread) r h = (held_relies t s.book now.book thr
 
 recorded_stands : (job : JobData) (next : Arch) (s : State) (b : Bool) → IsJob job → AtRest next.number s.book next.ssp → CoreAt job (record { arch = next; vals = no_vals; over = if b then Some ending.Limit else None }) (if b then Some ending.Limit else None) → CoreStands job next.number s (record { arch = next; vals = no_vals; over = if b then Some ending.Limit else None }) (if b then Some ending.Limit else None)
 recorded_stands job next s true j rest w = (rest, refl, w, refl)
-recorded_stands job next s false j rest w = record { waits = w; number = refl; before = s; left = row_claim job j (unheld next) s s w.state.made rest }
+recorded_stands job next s false j rest w = record { waits = w; number = refl; before = s; left = row_claim job j (unheld next) s s (record { number = w.state.number; made = w.state.made }) rest }
 
 -- the thread and its record, by what its row has come to
 abbrev pub left_by : JobData → Arch → Option ℕ → ValsData → Played Finish → Option Core → After

@@ -108,14 +108,14 @@ led_wants job j words s core a own few h still held r w is_core =
     let holding = held_after changes core.arch.held in
     let shown = row_trail job core.arch (vals_by core words a) in
     let walks = (walk_row job (unheld core.arch)).walks in
-    let g = goes (rules job core.arch.number) (During (unheld core.arch)) (calls.Ends job (unheld core.arch)) (λ p. Fails job (unheld core.arch)) (Ends (unheld core.arch)) false 0 0 words [] r.before s
+    let g = goes (rules job core.arch.number) (During (unheld core.arch)) (calls.Ends job (unheld core.arch)) (λ p. Fails job (unheld core.arch)) (Ends job (unheld core.arch)) false 0 0 words [] r.before s
     (row job (unheld core.arch)) core.vals.accesses core.vals.values a own walks r.left w (known job.image core.arch.number words (trail_of job core) s.book a few h still) in
     let is = after_book core.arch.number s g.next (books_after core.arch.number s.book changes) g.is in
     let grown : shown ≡ visit a (answer words a) changes ∷ trail_of job core = rw add-one g.grown in
     let left : Left job (unheld core.arch) s g.next (vals_by core words a) = rw add-one g.left in
     let came = on_came (rules job core.arch.number) (During (unheld core.arch)) (calls.Ends job (unheld core.arch)) (λ p. Fails job (unheld core.arch)) [] s g.next
     (row job (unheld core.arch)) (core.vals.accesses + 1) (vals_by core words a).values left in
-    let over = over_play (Ends (unheld core.arch)) false (row job (unheld core.arch)) 0 0 (vals_by core words a).accesses (vals_by core words a).values walks in
+    let over = over_play (Ends job (unheld core.arch)) false (row job (unheld core.arch)) 0 0 (vals_by core words a).accesses (vals_by core words a).values walks in
     let came' : OnCame (rules job core.arch.number) (During (unheld core.arch)) (calls.Ends job (unheld core.arch)) (λ p. Fails job (unheld core.arch)) shown s g.next (come_to job core words a) = came in
     let pays = came_pays job core.arch holding (vals_by core words a) s g.next (come_to job core words a) came' over in
     let now : drew shown ≡ (is_draw a || drew (trail_of job core)) = ap drew grown in
