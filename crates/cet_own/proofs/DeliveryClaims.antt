@@ -29,6 +29,7 @@ use Rattle.cet_page.specs.Gate.{is_masked, kill, signal_of}
 use Rattle.cet_page.specs.Parts.{store, store_as, store_each}
 use Rattle.cet_page.specs.Posting.{lowest, pending_signal}
 use Rattle.cet_page.specs.Script.{done, ◌>>=◌}
+use Rattle.cet_page.specs.Structures.{without}
 use Rattle.cet_page.specs.Tokens.{frame_word}
 use Rattle.cet_page.specs.Trail.{Visit, visit}
 use Rattle.cet_page.specs.Word64.{sub64}
@@ -65,7 +66,7 @@ lowest_few set from (suc count) signal one e = by_bit (set / 2 ^ (from - 1) % 2 
     by_bit false later e = let r = later e in let low = r.0 in let high = r.1 in (low, omega arith)
 
 pub pending_few : (pending mask signal : ℕ) → pending_signal pending mask ≡ Some signal → (1 ≤ signal) × (signal < 32)
-pending_few pending mask signal e = lowest_few _ 1 31 signal (omega arith) e
+pending_few pending mask signal e = lowest_few (without pending mask) 1 31 signal (omega arith) e
 
 -- a restorer that is one is an address of the image
 restorer_at : (job : JobData) (addr : ℕ) (o : Option ℕ) → IsJob job → o ≢ None → code_byte job.image.segments addr ≡ o → IsReturn addr

@@ -14,7 +14,7 @@ use Rattle.cet_page.specs.Finish.{r10, rdi, rdx, rsi}
 use Rattle.cet_page.specs.Gate.{failed, serve}
 use Rattle.cet_page.specs.Parts.{load, store, store_as, store_each}
 use Rattle.cet_page.specs.Script.{Script, done, ◌>>=◌}
-use Rattle.cet_page.specs.Signals.{action_refused, allowed_flags, asked_action, asked_mask, change_action, change_mask, copy_action, copy_mask, group, has_handler, is_allowed, is_code, is_thread, last_signal, load_action, mask_refused, new_action, new_mask, old_action, old_mask, post, rt_sigaction, rt_sigprocmask, set_action, set_handler, tgkill}
+use Rattle.cet_page.specs.Signals.{action_refused, allowed_flags, asked_action, asked_mask, change_action, change_mask, copy_action, copy_mask, group, has_handler, is_allowed, is_code, is_thread, last_signal, load_action, mask_refused, mask_size, new_action, new_mask, old_action, old_mask, post, rt_sigaction, rt_sigprocmask, set_action, set_handler, tgkill}
 use Rattle.cet_page.specs.Structures.{Given, given_span, given_word}
 use Rattle.cet_page.specs.Trail.{Visit, visit}
 use Rattle.cet_page.specs.declared.actions.Action.{Action}
@@ -34,6 +34,7 @@ use Rattle.cet_own.proofs.Owed.{Owed, State, own_stack}
 use Rattle.cet_own.proofs.Parts.{Claim, claim_bind, claim_cond, fetch_or_then, kernel_load_then, store_then}
 use Rattle.cet_own.proofs.Progress.{progress, untouched}
 use Rattle.cet_own.proofs.Resting.{Inside, inside_kept, inside_left, inside_stacked, rested}
+use Rattle.cet_own.proofs.Still.{or_false}
 use Rattle.cet_own.proofs.StructureParts.{Below, given_load_span, given_load_word, given_store_span, given_store_word, low_word, store_each_claim}
 
 -- the word of a structure, where there is one, is below this one
@@ -179,16 +180,12 @@ module _ (job : JobData) (j : IsJob job) (arch : Arch) (l : own_stack job arch.n
       old_claim p z n new (few taken) low within1)))
     where
       few : action_refused (rdi arch) (rsi arch) (r10 arch) ≡ false → rdi arch < 64
-      few e = by_tests _ (rdi arch == 0) (nat_lt last_signal (rdi arch)) _ refl e
-        where
-          by_tests : (a b c d : Bool) → nat_lt last_signal (rdi arch) ≡ c → (a || (b || (c || d))) ≡ false → rdi arch < 64
-          by_tests a b true d e h = absurd (over a b d h)
-            where
-              over : (a b d : Bool) → (a || (b || (true || d))) ≡ false → ⊥
-              over true b d h = cc
-              over false true d h = cc
-              over false false d h = cc
-          by_tests a b false d e h = let most : rdi arch ≤ last_signal = grind (arith, nat_tests) in omega arith
+      few e =
+          let tests = or_false (not (r10 arch == mask_size) || rdi arch == 0 || nat_lt last_signal (rdi arch)) _ e in
+          let above = or_false (not (r10 arch == mask_size) || rdi arch == 0) (nat_lt last_signal (rdi arch)) tests.0 in
+          let most : nat_lt last_signal (rdi arch) ≡ false = above.1 in
+          let low : rdi arch ≤ last_signal = grind (arith, nat_tests) in
+          omega arith
 
   -- ---- rt_sigprocmask
 
