@@ -209,6 +209,8 @@ first_row job j =
     record {
       waits = w;
       number = refl;
+      holding = refl;
+      told = tt;
       before = record { book = first_book };
       left = row_claim job j (unheld (first_core job).arch) (record { book = first_book }) (record { book = first_book }) (record { number = w.state.number; made = w.state.made }) first_rest;
     }

@@ -20,7 +20,9 @@ pub mod CoveredRun
 pub mod ClassRun
 pub mod TokenWords
 pub mod Fits
+pub mod HeldAfter
 pub mod Owed
+pub mod Told
 pub mod ClassLaws
 pub mod Classes
 pub mod Changed
@@ -33,7 +35,6 @@ pub mod Actions
 pub mod Claimed
 pub mod Seeded
 pub mod Born
-pub mod HeldAfter
 pub mod Places
 pub mod Progress
 pub mod Resting

@@ -32,6 +32,7 @@ use Rattle.cet_own.proofs.Fits.{is_push_lower, none_of, of_class}
 use Rattle.cet_own.proofs.Holds.{Holds, Sound}
 use Rattle.cet_own.proofs.Kept.{ending_out, gates_out, gates_same, pages_out, pages_same, restorers_out, size_kept}
 use Rattle.cet_own.proofs.Marks.{marks_write, tokens_none, tokens_relist, writes_own}
+use Rattle.cet_own.proofs.HeldAfter.{notes_gate}
 use Rattle.cet_own.proofs.Owed.{Owed}
 use Rattle.cet_own.proofs.Own.{below_top, none_leads}
 use Rattle.cet_own.proofs.Standing.{Stacked}
@@ -126,6 +127,7 @@ module _ {image : ImageData} {t k : ℕ} {past : List Visit} {b : Book} {a : Acc
   -- a word that is no token is stored below the top of the thread's region, and is no entry yet
   pub stores_marker : (m x : ℕ) → (region b m).holder ≡ Current t → a ≡ access.Store (slot (top (region b m) - 8)) x → (region b m).start + 8 ≤ top (region b m) → x ≢ top (region b m) + 1 → changes ≡ [] → Owed image t k past b a v changes
   stores_marker m x current e room no_token ev = record {
+    notes = λ words is h. notes_gate v e ev (λ held. refl);
     below = λ words is h.
         let high = (below_top (own_region t m h current) room).place.high in
         tells_below t b v e (λ j l. not_below (slot (top (region b m) - 8)) j (λ z. omega arith));
@@ -147,6 +149,7 @@ module _ {image : ImageData} {t k : ℕ} {past : List Visit} {b : Book} {a : Acc
   -- the restorer is stored below the frame's word, which the row has stored
   pub stores_restorer : (m x : ℕ) → (region b m).holder ≡ Current t → a ≡ access.Store (slot (top (region b m) - 16)) x → (region b m).start + 16 ≤ top (region b m) → left_in past (slot (top (region b m) - 8)) ≡ Some (2 ^ 63 + top (region b m)) → IsReturn x → frame_pushed past ≡ false → changes ≡ Pushed x ∷ [] → Owed image t k past b a v changes
   stores_restorer m x current e room left is_return level ev = record {
+    notes = λ words is h. notes_gate v e ev (λ held. refl);
     below = λ words is h.
         let high = (lower_place image words (own_region t m h current) x room).0.high in
         tells_below t b v e (λ j l. not_below (slot (top (region b m) - 16)) j (λ z. omega arith));

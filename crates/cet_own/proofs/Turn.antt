@@ -16,7 +16,8 @@ use Rattle.cet_page.specs.Core.{Core, After, unheld, row_played, changes_of, nex
 use Rattle.cet_page.proofs.WalkRows.{Ends, walk_row}
 use Rattle.std.specs.Prelude.{slice_index, ◌||◌}
 use Rattle.cet_book.specs.Facts.{one}
-use Rattle.cet_own.specs.Stands.{paid_draws, paid_births}
+use Rattle.cet_own.specs.Stands.{AllTold, paid_draws, paid_births}
+use Rattle.cet_own.proofs.Told.{all_last, known_told}
 use Rattle.cet_own.proofs.Paid.{counted, came_pays}
 use Rattle.cet_own.proofs.Counters.{CountsBy, no_count, draws_pages, bears_child, bears_nobody, none_born, CountersTell}
 use Rattle.cet_words.specs.Change.{Change}
@@ -26,9 +27,9 @@ use Rattle.cet_page.proofs.WithinLaws.{taken_is}
 use Rattle.cet_own.specs.Safe.{NotedReturns}
 use Rattle.cet_own.specs.ToldTokens.{NotedTokens}
 use Rattle.cet_page.specs.Trail.{Visit, visit, row_trail, trail_of}
-use Rattle.cet_own.specs.Past.{claimed_in, draw_word, next_word, drew, is_draw, numbered, is_number}
+use Rattle.cet_own.specs.Past.{held_by as note_by, held_in, claimed_in, draw_word, next_word, drew, is_draw, numbered, is_number}
 use Rattle.cet_own.proofs.ClaimStays.{claim_stays}
-use Rattle.cet_book.proofs.Comes.{changes_come, other_apart}
+use Rattle.cet_book.proofs.Comes.{changes_come, changes_last, other_apart}
 use Rattle.cet_own.proofs.Still.{Still, still_own, still_kept}
 use Rattle.cet_own.proofs.Frame.{goes, on_came, OnCame}
 use Rattle.cet_own.proofs.Holds.{Holds}
@@ -124,12 +125,17 @@ led_wants job j words s core a own few h still held r w is_core =
     let step = counted words a (trail_of job core) h.size counts in
     let draws_now = step.draws in
     let nexts_now = step.nexts in
+    let note = changes_held core.arch.number changes s.book g.next.book core.arch.held h.sound.book is held in
+    let holds_now : holding ≡ held_in shown = g.owed.notes words refl h core.arch.held ∙ ap (note_by a (answer words a)) r.holding ∙ sym (ap held_in grown) in
+    let lasts = changes_last core.arch.number changes s.book g.next.book h.sound.book is in
+    let told : AllTold job.image g.next.book shown = subst (AllTold job.image g.next.book) (sym grown)
+    (all_last job.image lasts (visit a (answer words a) changes ∷ trail_of job core) (known_told a (known job.image core.arch.number words (trail_of job core) s.book a few h still), r.told)) in
     let all = pays.draws in
     let all' = pays.nexts in
     let one_now = ap one now in
     let one_now' = ap one now' in
     let k = came_stands job core holding (vals_by core words a) shown s g.next
-    (child_of core.arch changes) (come_to job core words a) j left came is_core in
+    (child_of core.arch changes) (come_to job core words a) note holds_now told j left came is_core in
     record {
       next = g.next;
       owed = g.owed;
@@ -145,7 +151,7 @@ led_wants job j words s core a own few h still held r w is_core =
           (λ w own. g.owed.spares words refl h y n w own) (g.owed.restorers words refl h) (claim_stays core.arch.number y changes s.book g.next.book (claimed_in past) h.sound.book n is) old;
       held = subst (Held core.arch.number g.next.book)
           (sym (held_by job core.arch holding (vals_by core words a) (come_to job core words a)))
-          (changes_held core.arch.number changes s.book g.next.book core.arch.held h.sound.book is held);
+          note;
       draws = omega (arith, draws_now, all, one_now);
       nexts = omega (arith, nexts_now, all', one_now');
       made = pays.made;
