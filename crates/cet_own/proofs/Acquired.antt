@@ -112,7 +112,7 @@ module _ {image : ImageData} {t k : ℕ} {past : List Visit} {b : Book} {a : Acc
       (ap (λ c. class_at c ssp held v) e ∙ is_acquire p ssp v held (token_place (token h.sound.book.shape)).0 (p + 9) (top (region b m) + 3) found))
       (λ words is h. let high = (token_place (token h.sound.book.shape)).0.high in no_count_by (leaves_by e (other_word (slot p) (omega arith)) (next_other (slot p) (omega arith))) (ap birth ev))
       (λ words is h. let high = (token_place (token h.sound.book.shape)).0.high in tells_below t b v e (λ j l. not_below (slot p) j (λ z. omega arith)))
-      (λ words is h. let high = (token_place (token h.sound.book.shape)).0.high in notes_gate v e ev (no_token (slot p) (p + 9) (top (region b m) + 3) v (λ j l z. omega arith)))
+      (λ words is h. let high = (token_place (token h.sound.book.shape)).0.high in notes_gate v e ev (no_token (slot p) (p + 9) (top (region b m) + 3) v (λ j l z. omega arith)) (λ held j q. inl q))
       (λ words is h. acquired_way (token h.sound.book.shape).takes p at)
       (λ words is h sound.
       let l = token h.sound.book.shape in

@@ -62,7 +62,7 @@ same_restorers image words word x other h s l = subst (IsRestorer image) (sym (w
 module _ {image : ImageData} {t k : ℕ} {past : List Visit} {b : Book} {a : Access} {v : ℕ} {changes : List Change} where
   acts : (word x : ℕ) → IsAction word → a ≡ access.Store word x → changes ≡ [] → ((words : List ℕ) → Holds image words b → Still words t b past → Restorers image (slice_set words word x)) → ((words : List ℕ) → Holds image words b → KeepsRestorers words (slice_set words word x)) → Owed image t k past b a v changes
   acts word x at e ev restorers keeps = record {
-    notes = λ words is h. notes_gate v e ev (λ held. refl);
+    notes = λ words is h. notes_gate v e ev (λ held. refl) (λ held j q. inl q);
     below = λ words is h. (let high = at.high in tells_below t b v e (λ j l. not_below word j (λ z. omega arith)));
     fits = λ words is h ssp held stands note. none_of _ ev;
     counts = λ words is h. (let low = at.low in no_count_by (leaves_by e (other_word word (omega arith)) (next_other word (omega arith))) (ap birth ev));

@@ -96,7 +96,7 @@ module _ {image : ImageData} {t k : ℕ} {past : List Visit} {b : Book} {a : Acc
       (λ words is h ssp held stands note. of_class class.Seed (Born v start ∷ []) ev refl (ap (λ c. class_at c ssp held v) e ∙ is_birth ssp v held few))
       (λ words is h. bears_child s start e few child once ev)
       (λ words is h. tells_below t b v e (λ j l. not_below next_word j (λ z. omega arith)))
-      (λ words is h. notes_gate v e ev (λ held. refl))
+      (λ words is h. notes_gate v e ev (λ held. refl) (λ held j q. inl q))
       (λ words is h. born_way (made h.sound.book.shape) v start child.first child.none.regions)
       (λ words is h sound.
       subst (λ c. Holds image (after words c) (hand s (region b s).entries (Current v) b) × Spares t b words (after words c)) (sym e) (
@@ -115,7 +115,7 @@ module _ {image : ImageData} {t k : ℕ} {past : List Visit} {b : Book} {a : Acc
   pub unborn : a ≡ access.FetchAdd next_word 1 → thread_limit ≤ v → numbered past ≡ false → changes ≡ [] → Owed image t k past b a v changes
   unborn e many once ev = record {
     below = λ words is h. tells_below t b v e (λ j l. not_below next_word j (λ z. omega arith));
-    notes = λ words is h. notes_gate v e ev (λ held. refl);
+    notes = λ words is h. notes_gate v e ev (λ held. refl) (λ held j q. inl q);
     counts = λ words is h. bears_nobody e many once (ap birth ev);
     fits = λ words is h ssp held stands note. none_of _ ev;
     keeps = λ words next is h still q. subst (Holds image (after words a)) (same_book t b next changes ev q) (does words h).0;

@@ -24,7 +24,7 @@ use Rattle.cet_book.proofs.Held.{Free}
 use Rattle.cet_own.proofs.Kept.{holds_ended, holds_out, holds_entry, holds_below_token}
 use Rattle.cet_own.proofs.Own.{below_top, holds_push, holds_pop}
 use Rattle.cet_own.proofs.Fits.{of_class, none_of, none_held, some_held, is_push, is_load, is_entry, is_end}
-use Rattle.cet_own.proofs.HeldAfter.{keeps_note, notes_gate, no_token, exchange_misses, takes_note, gives_note}
+use Rattle.cet_own.proofs.HeldAfter.{keeps_note, notes_gate, taken_own, no_token, exchange_misses, takes_note, gives_note}
 use Rattle.cet_own.proofs.Owed.{Owed}
 use Rattle.cet_book.proofs.Changes.{same_book, then_by}
 use Rattle.std.proofs.lemmas.Bool.Decides.{nat_tests}
@@ -179,7 +179,10 @@ next_other w n = grind (arith, nat_tests)
 
 pub quiet : {image : ImageData} {t k : ℕ} {past : List Visit} {b : Book} {a : Access} {v : ℕ} {changes : List Change} → changes ≡ [] → LeavesCounters a → TellsBelow t b a v → ((held : Option ℕ) → held ≡ held_by a v held) → ((words : List ℕ) → v ≡ answer words a → Holds image words b → Holds image (after words a) b × Spared b words (after words a)) → Owed image t k past b a v changes
 quiet {image = image} {t = t} {b = b} {a = a} {v = v} {changes = changes} ev leaves below notes h = record {
-  notes = λ words is h held. ap (λ cs. held_after cs held) ev ∙ notes held;
+  notes = λ words is h. record {
+    says = λ held. ap (λ cs. held_after cs held) ev ∙ notes held;
+    own = λ held j q. inl (sym (ap (λ cs. held_after cs held) ev) ∙ q);
+  };
   below = λ words is h. below;
   counts = λ words is holds. no_count_by leaves (ap birth ev);
   fits = λ words is holds ssp held stands note. none_of _ ev;
@@ -281,7 +284,7 @@ module _ {image : ImageData} {t k : ℕ} {past : List Visit} {b : Book} {a : Acc
   -- the way in stores the kernel's return address below its token
   pub settles : k < 8 → a ≡ access.Store (token_word k - 1) kernel_return → stack_of b k ≡ Some t → changes ≡ [] → Owed image t k past b a v changes
   settles l e held ev = record {
-    notes = λ words is h. notes_gate v e ev (λ note. refl);
+    notes = λ words is h. notes_gate v e ev (λ note. refl) (λ note j q. inl q);
     below = λ words is h j m own q. ap (λ c. leaves_word c v) e;
     fits = λ words is h ssp held stands note. none_of _ ev;
     counts = λ words is h. no_count_by (leaves_by e (other_word (token_word k - 1) (omega arith)) (next_other (token_word k - 1) (omega arith))) (ap birth ev);
@@ -304,7 +307,7 @@ module _ {image : ImageData} {t k : ℕ} {past : List Visit} {b : Book} {a : Acc
   -- a return address is stored below the top of the thread's region
   pub pushes : (m back : ℕ) → (region b m).holder ≡ Current t → a ≡ access.Store (slot (top (region b m) - 8)) back → (region b m).start + 8 ≤ top (region b m) → IsReturn back → frame_pushed past ≡ false → changes ≡ Called back ∷ [] → Owed image t k past b a v changes
   pushes m back current e room is_return level ev = record {
-    notes = λ words is h. notes_gate v e ev (λ note. refl);
+    notes = λ words is h. notes_gate v e ev (λ note. refl) (λ note j q. inl q);
     below = λ words is h.
         let high = (below_top (own_region t m h current) room).place.high in
         tells_below t b v e (λ j l. not_below (slot (top (region b m) - 8)) j (λ z. omega arith));
@@ -334,7 +337,7 @@ module _ {image : ImageData} {t k : ℕ} {past : List Visit} {b : Book} {a : Acc
   -- the newest entry goes, where the book has that change
   pub pops : (m : ℕ) → (region b m).holder ≡ Current t → a ≡ access.Load (slot (top (region b m))) → Free t b → frame_pushed past ≡ false → changes ≡ Returned ∷ [] → Owed image t k past b a v changes
   pops m current e free level ev = record {
-    notes = λ words is h. notes_gate v e ev (λ note. refl);
+    notes = λ words is h. notes_gate v e ev (λ note. refl) (λ note j q. inl q);
     below = λ words is h j l own q. absurd (free j own);
     fits = λ words is h ssp held stands note.
         let at' = subst (λ f. Stacked t b (below_frame f ssp)) level stands in
@@ -358,7 +361,7 @@ module _ {image : ImageData} {t k : ℕ} {past : List Visit} {b : Book} {a : Acc
   -- the way in takes the supervisor stack
   pub enters : k < 8 → a ≡ access.CompareExchange (token_word k) (token k) (token k + 1) → v ≡ token k → Free t b → changes ≡ Busied k ∷ [] → Owed image t k past b a v changes
   enters l e found free ev = record {
-    notes = λ words is h. notes_gate v e ev (takes_note k v l found);
+    notes = λ words is h. notes_gate v e ev (takes_note k v l found) (λ note j q. inr (taken_own k j q));
     below = λ words is h. tells_below t b v e (λ j m. not_below (token_word k) j (λ z. omega arith));
     fits = λ words is h ssp held stands note. of_class class.Neutral (Busied k ∷ []) ev refl (ap (λ c. class_at c ssp held v) e ∙ is_entry k (token k) (token k + 1) ssp v held l (none_held b held free note));
     counts = λ words is h. no_count_by (leaves_by e (other_word (token_word k) (omega arith)) (next_other (token_word k) (omega arith))) (ap birth ev);
@@ -377,7 +380,7 @@ module _ {image : ImageData} {t k : ℕ} {past : List Visit} {b : Book} {a : Acc
   -- the way out gives it back
   pub leaves : k < 8 → a ≡ access.CompareExchange (token_word k) (token k + 1) (token k) → stack_of b k ≡ Some t → changes ≡ Freed k ∷ [] → Owed image t k past b a v changes
   leaves l e held ev = record {
-    notes = λ words is h. notes_gate v e ev (gives_note k v l (is ∙ ap (answer words) e ∙ token_held t k h l held));
+    notes = λ words is h. notes_gate v e ev (gives_note k v l (is ∙ ap (answer words) e ∙ token_held t k h l held)) (λ note j q. cc);
     below = λ words is h. tells_below t b v e (λ j m. not_below (token_word k) j (λ z. omega arith));
     fits = λ words is h ssp noted stands note. of_class class.End (Freed k ∷ []) ev refl (ap (λ c. class_at c ssp noted v) e ∙ is_end k (token k + 1) (token k) ssp v noted l (some_held b noted k held note));
     counts = λ words is h. no_count_by (leaves_by e (other_word (token_word k) (omega arith)) (next_other (token_word k) (omega arith))) (ap birth ev);
@@ -396,7 +399,7 @@ module _ {image : ImageData} {t k : ℕ} {past : List Visit} {b : Book} {a : Acc
   -- and the thread's region may end with it
   pub exits : (m : ℕ) → k < 8 → a ≡ access.CompareExchange (token_word k) (token k + 1) (token k) → stack_of b k ≡ Some t → (region b m).holder ≡ Current t → changes ≡ Ended ∷ Freed k ∷ [] → Owed image t k past b a v changes
   exits m l e held current ev = record {
-    notes = λ words is h. notes_gate v e ev (gives_note k v l (is ∙ ap (answer words) e ∙ token_held t k h l held));
+    notes = λ words is h. notes_gate v e ev (gives_note k v l (is ∙ ap (answer words) e ∙ token_held t k h l held)) (λ note j q. cc);
     below = λ words is h. tells_below t b v e (λ j n. not_below (token_word k) j (λ z. omega arith));
     fits = λ words is h ssp noted stands note. of_class class.End (Ended ∷ Freed k ∷ []) ev refl (ap (λ c. class_at c ssp noted v) e ∙ is_end k (token k + 1) (token k) ssp v noted l (some_held b noted k held note));
     counts = λ words is h. no_count_by (leaves_by e (other_word (token_word k) (omega arith)) (next_other (token_word k) (omega arith))) (ap birth ev);

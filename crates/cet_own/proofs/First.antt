@@ -210,6 +210,7 @@ first_row job j =
       waits = w;
       number = refl;
       holding = refl;
+      own = λ k e. cc;
       told = tt;
       before = record { book = first_book };
       left = row_claim job j (unheld (first_core job).arch) (record { book = first_book }) (record { book = first_book }) (record { number = w.state.number; made = w.state.made }) first_rest;

@@ -1,5 +1,5 @@
 -- The supervisor stack that a thread holds after an access is the one that the book has for it. Source: own.
-use Rattle.std.proofs.Common.{◌≡◌, ◌≢◌, ℕ, ◌+◌, ◌-◌, ◌<◌, ◌≤◌, Bool, true, false, List, [], ◌∷◌, Option, Some, None, refl, sym, ◌∙◌, ap, subst, arith}
+use Rattle.std.proofs.Common.{◌≡◌, ◌≢◌, ℕ, ◌+◌, ◌-◌, ◌<◌, ◌≤◌, ◌⊎◌, Bool, true, false, List, [], ◌∷◌, Option, Some, None, refl, sym, ◌∙◌, ap, subst, arith}
 use Rattle.std.specs.Prelude.{◌/◌, ◌%◌, ◌==◌, ◌&&◌, if◌then◌else◌, nat_le}
 use Rattle.std.proofs.lemmas.Bool.Decides.{nat_tests}
 use Rattle.cet_words.specs.Layout.{token, token_word}
@@ -39,12 +39,19 @@ changes_held t (c ∷ cs) b next held h e old =
 
 -- ---- and what the access's answer says
 
--- an access leaves the note that its answer tells
-abbrev pub NotesGate : Access → (v : ℕ) → List Change → Type 0
-NotesGate a v changes = (held : Option ℕ) → held_after changes held ≡ held_by a v held
+-- an access leaves the note that its answer tells, and of no other stack than k
+pub record NotesGate (k : ℕ) (a : Access) (v : ℕ) (changes : List Change) : Type 0 where
+  pub says : (held : Option ℕ) → held_after changes held ≡ held_by a v held
+  pub own : (held : Option ℕ) (j : ℕ) → held_after changes held ≡ Some j → (held ≡ Some j) ⊎ (j ≡ k)
 
-pub notes_gate : {a c : Access} {changes l : List Change} (v : ℕ) → a ≡ c → changes ≡ l → ((held : Option ℕ) → held_after l held ≡ held_by c v held) → NotesGate a v changes
-notes_gate v e ev h held = ap (λ cs. held_after cs held) ev ∙ h held ∙ sym (ap (λ x. held_by x v held) e)
+pub notes_gate : {k : ℕ} {a c : Access} {changes l : List Change} (v : ℕ) → a ≡ c → changes ≡ l → ((held : Option ℕ) → held_after l held ≡ held_by c v held) → ((held : Option ℕ) (j : ℕ) → held_after l held ≡ Some j → (held ≡ Some j) ⊎ (j ≡ k)) → NotesGate k a v changes
+notes_gate v e ev h own = record {
+  says = λ held. ap (λ cs. held_after cs held) ev ∙ h held ∙ sym (ap (λ x. held_by x v held) e);
+  own = λ held j q. own held j (sym (ap (λ cs. held_after cs held) ev) ∙ q);
+}
+
+pub taken_own : (k j : ℕ) → Some k ≡ Some j → j ≡ k
+taken_own k j q = cc
 
 pub keeps_note : {a c : Access} (v : ℕ) → a ≡ c → ((held : Option ℕ) → held ≡ held_by c v held) → (held : Option ℕ) → held ≡ held_by a v held
 keeps_note v e h held = h held ∙ sym (ap (λ x. held_by x v held) e)

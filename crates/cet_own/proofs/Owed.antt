@@ -75,8 +75,8 @@ pub record Owed (image : ImageData) (t k : ℕ) (past : List Visit) (b : Book) (
   pub counts : (words : List ℕ) → v ≡ answer words a → Holds image words b → CountsBy t past b a v changes
   -- below the token of a stack of its own it reads or leaves the kernel's return address
   pub below : (words : List ℕ) → v ≡ answer words a → Holds image words b → TellsBelow t b a v
-  -- the supervisor stack that the thread holds is what the answer says
-  pub notes : (words : List ℕ) → v ≡ answer words a → Holds image words b → NotesGate a v changes
+  -- the supervisor stack that the thread holds is what the answer says, and its own
+  pub notes : (words : List ℕ) → v ≡ answer words a → Holds image words b → NotesGate k a v changes
   -- the changes are of the class of the access
   pub fits : (words : List ℕ) → v ≡ answer words a → Holds image words b → Fits t past b a v changes
 

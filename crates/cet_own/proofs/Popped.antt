@@ -47,7 +47,7 @@ went t m k es b next changes o list held ev q =
 
 pub pops_frame : {image : ImageData} {t k : ℕ} {past : List Visit} {b : Book} {a : Access} {v : ℕ} {changes : List Change} (m : ℕ) (es : List Entry) → k < 8 → a ≡ access.CompareExchange (token_word k) (token k + 1) (token k) → stack_of b k ≡ Some t → (region b m).holder ≡ Current t → (region b m).entries ≡ Frame ∷ es → changes ≡ Popped ∷ Freed k ∷ [] → Owed image t k past b a v changes
 pops_frame {image = image} {t = t} {k = k} {b = b} {v = v} {changes = changes} m es l e held current list ev = record {
-  notes = λ words is h. notes_gate v e ev (gives_note k v l (is ∙ ap (answer words) e ∙ token_held t k h l held));
+  notes = λ words is h. notes_gate v e ev (gives_note k v l (is ∙ ap (answer words) e ∙ token_held t k h l held)) (λ note j q. cc);
   below = λ words is h. tells_below t b v e (λ j n. not_below (token_word k) j (λ z. omega arith));
   fits = λ words is h ssp noted stands note. of_class class.End (Popped ∷ Freed k ∷ []) ev refl (ap (λ c. class_at c ssp noted v) e ∙ is_end k (token k + 1) (token k) ssp v noted l (some_held b noted k held note));
   counts = λ words is h. no_count_by (leaves_by e (other_word (token_word k) (omega arith)) (next_other (token_word k) (omega arith))) (ap birth ev);

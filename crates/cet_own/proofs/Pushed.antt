@@ -127,7 +127,7 @@ module _ {image : ImageData} {t k : ℕ} {past : List Visit} {b : Book} {a : Acc
   -- a word that is no token is stored below the top of the thread's region, and is no entry yet
   pub stores_marker : (m x : ℕ) → (region b m).holder ≡ Current t → a ≡ access.Store (slot (top (region b m) - 8)) x → (region b m).start + 8 ≤ top (region b m) → x ≢ top (region b m) + 1 → changes ≡ [] → Owed image t k past b a v changes
   stores_marker m x current e room no_token ev = record {
-    notes = λ words is h. notes_gate v e ev (λ held. refl);
+    notes = λ words is h. notes_gate v e ev (λ held. refl) (λ held j q. inl q);
     below = λ words is h.
         let high = (below_top (own_region t m h current) room).place.high in
         tells_below t b v e (λ j l. not_below (slot (top (region b m) - 8)) j (λ z. omega arith));
@@ -149,7 +149,7 @@ module _ {image : ImageData} {t k : ℕ} {past : List Visit} {b : Book} {a : Acc
   -- the restorer is stored below the frame's word, which the row has stored
   pub stores_restorer : (m x : ℕ) → (region b m).holder ≡ Current t → a ≡ access.Store (slot (top (region b m) - 16)) x → (region b m).start + 16 ≤ top (region b m) → left_in past (slot (top (region b m) - 8)) ≡ Some (2 ^ 63 + top (region b m)) → IsReturn x → frame_pushed past ≡ false → changes ≡ Pushed x ∷ [] → Owed image t k past b a v changes
   stores_restorer m x current e room left is_return level ev = record {
-    notes = λ words is h. notes_gate v e ev (λ held. refl);
+    notes = λ words is h. notes_gate v e ev (λ held. refl) (λ held j q. inl q);
     below = λ words is h.
         let high = (lower_place image words (own_region t m h current) x room).0.high in
         tells_below t b v e (λ j l. not_below (slot (top (region b m) - 16)) j (λ z. omega arith));

@@ -7,7 +7,7 @@ use Rattle.cet_book.proofs.Held.{Free, Held}
 use Rattle.cet_page.specs.Trail.{Visit, row_trail, trail_of}
 use Rattle.cet_words.specs.Layout.{token_word, kernel_return}
 use Rattle.std.proofs.Common.{◌≡◌, ℕ, ◌+◌, ◌-◌, ◌<◌, inl, inr, List, Option, Some, None, ap, sym, ◌∙◌, subst, arith, true, refl}
-use Rattle.std.specs.Prelude.{◌↔◌, slice_get, bit_or, is_some, slice_index}
+use Rattle.std.specs.Prelude.{◌↔◌, ◌%◌, slice_get, bit_or, is_some, slice_index}
 use Rattle.std.proofs.lemmas.Bool.Decides.{eqb_tells}
 use Rattle.cet_words.specs.Job.{JobData}
 use Rattle.cet_isa.specs.declared.threads.End.{End}
@@ -53,6 +53,12 @@ core_held job t s core None h held = h.holding
 core_held job t s core (Some (ending.Exit status)) h held = none_held job t s core h.1 h.0.free held
 core_held job t s core (Some ending.Group) h held = none_held job t s core h.2 h.0.free held
 core_held job t s core (Some ending.Limit) h held = none_held job t s core h.2 h.0.free held
+
+core_own : (job : JobData) (t : ℕ) (s : State) (core : Core) (over : Option End) → CoreStands job t s core over → Held t s.book core.arch.held → (k : ℕ) → core.arch.held ≡ Some k → k ≡ core.arch.number % job.procs
+core_own job t s core None h held k e = h.own k e
+core_own job t s core (Some (ending.Exit status)) h held k e = absurd (h.0.free k ((held k).0 e))
+core_own job t s core (Some ending.Group) h held k e = absurd (h.0.free k ((held k).0 e))
+core_own job t s core (Some ending.Limit) h held k e = absurd (h.0.free k ((held k).0 e))
 
 none_told : (job : JobData) (s : State) (core : Core) → Rests job core → AllTold job.image s.book (trail_of job core)
 none_told job s core rests = subst (λ vals. AllTold job.image s.book (row_trail job core.arch vals)) (sym rests.vals) tt
@@ -125,6 +131,7 @@ module _ (job : JobData) (m : Machine) (s : State) (st : Invariant job m s) wher
       waits = core_at job t s thread thread.core.over (thread_at t thread e).1;
       restorer = (st.still t thread e).restorer;
       held = core_held job t s thread.core thread.core.over (thread_at t thread e).1 (thread_at t thread e).0;
+      own = core_own job t s thread.core thread.core.over (thread_at t thread e).1 (thread_at t thread e).0;
       told = core_told job t s thread.core thread.core.over (thread_at t thread e).1;
     };
     counts = record {

@@ -1,5 +1,5 @@
 -- One access of a thread keeps where all threads stand. Source: own.
-use Rattle.std.proofs.Common.{[], ◌∷◌, add-one, ◌≡◌, ◌≢◌, ℕ, ◌+◌, ◌*◌, ◌≤◌, ap, arith, false, List, Option, Some, refl, sym, subst, ◌∙◌}
+use Rattle.std.proofs.Common.{inl, inr, [], ◌∷◌, add-one, ◌≡◌, ◌≢◌, ℕ, ◌+◌, ◌*◌, ◌≤◌, ap, arith, false, List, Option, Some, refl, sym, subst, ◌∙◌}
 use Rattle.cet_words.specs.Access.{answer, after}
 use Rattle.cet_words.specs.Job.{JobData, IsJob}
 use Rattle.cet_words.specs.declared.accesses.Access.{Access}
@@ -126,7 +126,9 @@ led_wants job j words s core a own few h still held r w is_core =
     let draws_now = step.draws in
     let nexts_now = step.nexts in
     let note = changes_held core.arch.number changes s.book g.next.book core.arch.held h.sound.book is held in
-    let holds_now : holding ≡ held_in shown = g.owed.notes words refl h core.arch.held ∙ ap (note_by a (answer words a)) r.holding ∙ sym (ap held_in grown) in
+    let notes = g.owed.notes words refl h in
+    let own_now : (i : ℕ) → holding ≡ Some i → i ≡ own_stack job core.arch.number = λ i e. elim (notes.own core.arch.held i e) [ inl old ↦ r.own i old | inr new ↦ new ] in
+    let holds_now : holding ≡ held_in shown = notes.says core.arch.held ∙ ap (note_by a (answer words a)) r.holding ∙ sym (ap held_in grown) in
     let lasts = changes_last core.arch.number changes s.book g.next.book h.sound.book is in
     let told : AllTold job.image g.next.book shown = subst (AllTold job.image g.next.book) (sym grown)
     (all_last job.image lasts (visit a (answer words a) changes ∷ trail_of job core) (known_told a (known job.image core.arch.number words (trail_of job core) s.book a few h still), r.told)) in
@@ -135,7 +137,7 @@ led_wants job j words s core a own few h still held r w is_core =
     let one_now = ap one now in
     let one_now' = ap one now' in
     let k = came_stands job core holding (vals_by core words a) shown s g.next
-    (child_of core.arch changes) (come_to job core words a) note holds_now told j left came is_core in
+    (child_of core.arch changes) (come_to job core words a) note holds_now own_now told j left came is_core in
     record {
       next = g.next;
       owed = g.owed;

@@ -1,6 +1,6 @@
 -- The ownership invariant: what holds of words, threads and book at each moment of each run. It is the only definition that
 -- has both words and lists. Source: own.
-use Rattle.std.specs.Prelude.{◌≡◌, ◌≢◌, ℕ, ◌+◌, ◌-◌, ◌*◌, ◌<◌, ◌≤◌, ◌⊎◌, ◌↔◌, true, List, [], ◌∷◌, length, slice_index, slice_get, sum_by, min, bit_or, if◌then◌else◌, Option, Some, None, is_some}
+use Rattle.std.specs.Prelude.{◌≡◌, ◌≢◌, ℕ, ◌+◌, ◌-◌, ◌*◌, ◌%◌, ◌<◌, ◌≤◌, ◌⊎◌, ◌↔◌, true, List, [], ◌∷◌, length, slice_index, slice_get, sum_by, min, bit_or, if◌then◌else◌, Option, Some, None, is_some}
 use Rattle.cet_words.specs.Entries.{entry_of}
 use Rattle.cet_words.specs.Bytes.{code_byte}
 use Rattle.cet_words.specs.Job.{JobData, ImageData}
@@ -138,6 +138,8 @@ pub record RowValues (job : JobData) (words : List ℕ) (b : Book) (core : Core)
   pub restorer : (s : ℕ) → s < 64 → has_restorer (trail_of job core) s ≡ true → slice_index words (restorer_word s) ≢ 0
   -- it holds the supervisor stack that its gate's first exchange has taken, and none before its first access
   pub held : core.arch.held ≡ held_in (trail_of job core)
+  -- which is that of its processor
+  pub own : (k : ℕ) → core.arch.held ≡ Some k → k ≡ core.arch.number % job.procs
   -- what it has seen of page entries and restorers
   pub told : AllTold job.image b (trail_of job core)
 
