@@ -23,7 +23,7 @@ use Rattle.cet_book.proofs.Relies.{Relies}
 use Rattle.cet_book.proofs.Top.{relist_top}
 use Rattle.cet_book.proofs.Ways.{pushed_way}
 use Rattle.cet_book.specs.Stack.{slot}
-use Rattle.cet_page.specs.Delivery.{cause_words, delivered, enter_handler, fault_delivery, frame_at, frame_places, frame_span, frame_words, handle, ignore, pending_delivery, push_frame, push_or_kill}
+use Rattle.cet_page.specs.Delivery.{cause_words, delivered, enter_handler, fault_delivery, frame_at, frame_places, frame_span, frame_words, handle, ignore, pending_delivery, push_frame, push_or_kill, segv}
 use Rattle.cet_page.specs.Finish.{rsp}
 use Rattle.cet_page.specs.Gate.{is_masked, kill, signal_of}
 use Rattle.cet_page.specs.Parts.{store, store_as, store_each}
@@ -222,7 +222,7 @@ module _ (job : JobData) (j : IsJob job) (arch : Arch) (l : own_stack job arch.n
   push_or_kill_claim : (past : List Visit) (before s : State) (signal : ℕ) (cause : Option Fault) (action : Action) → IsReturn action.restorer → Inner past s → Claim job arch (Leaves job arch l) past before s (frame_places arch >>= push_or_kill arch signal cause action)
   push_or_kill_claim past before s signal cause action is_return within =
       claim_bind job arch (Leaves job arch l) past before s (frame_places arch) (push_or_kill arch signal cause action)
-      (places_claim _ past before s within (λ p z n within1. kill_claim p z n 11 (by_signal Gp) within1)
+      (places_claim _ past before s within (λ p z n within1. kill_claim p z n segv (by_signal Gp) within1)
       (λ p z n places few at_marker at_restorer room within1. push_claim p z n signal cause action places few at_marker at_restorer is_return room within1))
 
   -- ---- the delivery

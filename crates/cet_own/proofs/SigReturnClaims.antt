@@ -17,7 +17,7 @@ use Rattle.cet_book.specs.Facts.{AllReturn, In}
 use Rattle.cet_book.specs.Shape.{Shape}
 use Rattle.cet_book.specs.Stack.{slot, tops}
 use Rattle.cet_book.proofs.Relies.{Relies}
-use Rattle.cet_page.specs.Delivery.{frame_last}
+use Rattle.cet_page.specs.Delivery.{frame_last, segv}
 use Rattle.cet_page.specs.Gate.{kill}
 use Rattle.cet_page.specs.Parts.{load, loads}
 use Rattle.cet_page.specs.Script.{done, ◌>>=◌}
@@ -92,7 +92,7 @@ module _ (job : JobData) (j : IsJob job) (arch : Arch) (l : own_stack job arch.n
 
   none_claim : (past : List Visit) (before s : State) → Inner past s → Claim job arch (Leaves job arch l) past before s (return_by arch None)
   unfolding return_by
-  none_claim past before s within = kill_claim job j arch l past before s 11 (by_signal Gp) within
+  none_claim past before s within = kill_claim job j arch l past before s segv (by_signal Gp) within
 
   -- by the word at SSP
   word_claim : (past : List Visit) (before s : State) (frame word : ℕ) (c : Bool) → is_frame_word word ≡ c → frame < first_kernel_word → (2 ^ 63 ≤ word → Pops s.book word) → Inner past s → Claim job arch (Leaves job arch l) past before s (return_by arch (if c then Some (frame, word) else None))
