@@ -58,6 +58,7 @@ use Rattle.cet_own.proofs.TokenWords.{frame_word_is}
 
 -- a signal that is pending is one of 31
 lowest_few : (set from count signal : ℕ) → 1 ≤ from → lowest set from count ≡ Some signal → (1 ≤ signal) × (signal < from + count)
+unfolding lowest
 lowest_few set from zero signal one e = cc
 lowest_few set from (suc count) signal one e = by_bit (set / 2 ^ (from - 1) % 2 == 1) (λ k. lowest_few set (from + 1) count signal (omega arith) k) e
   where

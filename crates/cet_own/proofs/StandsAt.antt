@@ -119,11 +119,12 @@ module _ (job : JobData) (m : Machine) (s : State) (st : Invariant job m s) wher
     entries_written = st.holds.stacks;
     tokens = tokens;
     previous_left = st.holds.sound.book.shape.chain;
-    supervisor_tokens = st.holds.gates;
-    below_tokens = λ t thread e k own q. below_told t k (trail_of job thread.core) (st.still t thread e) own (left_in (trail_of job thread.core) (token_word k - 1)) refl q;
+    supervisor_tokens = record {
+      token = st.holds.gates;
+      below = λ t thread e k own q. below_told t k (trail_of job thread.core) (st.still t thread e) own (left_in (trail_of job thread.core) (token_word k - 1)) refl q;
+    };
     restorers = st.holds.restorers;
-    row_steady = λ t thread e. (st.still t thread e).word;
-    row_claimed = λ t thread e. (st.still t thread e).claimed;
+    steady_rows = λ t thread e. record { word = (st.still t thread e).word; claimed = (st.still t thread e).claimed };
     counters = record { drawn = st.holds.marks.drawn; least = st.paid.least; number = st.paid.number };
     made = st.made;
     bounds = all_bounds;

@@ -143,7 +143,21 @@ pub record RowValues (job : JobData) (words : List ℕ) (b : Book) (core : Core)
   -- what it has seen of page entries and restorers
   pub told : AllTold job.image b (trail_of job core)
 
--- ---- the invariant
+-- ---- threads in the kernel and in their rows
+
+pub record SupervisorTokens (job : JobData) (m : Machine) (b : Book) : Type 0 where
+  -- a supervisor stack's token is busy where the stack has a holder
+  pub token : (k : ℕ) → k < 8 → slice_index m.words (token_word k) ≡ token k + busy (stack_of b k)
+  -- and below the token of a stack that a thread holds stands the kernel's return address, from its store there on
+  pub below : (t : ℕ) (thread : Thread) → slice_get m.threads t ≡ Some thread → (k : ℕ) → stack_of b k ≡ Some t → is_some (left_in (trail_of job thread.core) (token_word k - 1)) ≡ true → slice_index m.words (token_word k - 1) ≡ kernel_return
+
+pub record SteadyRow (job : JobData) (words : List ℕ) (b : Book) (t : ℕ) (core : Core) : Type 0 where
+  -- what a row has read or written in a word of its thread's own is still there
+  pub word : (word x : ℕ) → OwnWord t b word → left_in (trail_of job core) word ≡ Some x → slice_index words word ≡ x
+  -- the stack that it has claimed is in the book, and nobody else's
+  pub claimed : HasClaimed t (claimed_in (trail_of job core)) b
+
+-- ---- the invariant: thirteen facts
 
 pub record Stands (job : JobData) (m : Machine) (b : Book) : Type 0 where
   pub safe : IsSafeAt job m b
@@ -154,15 +168,9 @@ pub record Stands (job : JobData) (m : Machine) (b : Book) : Type 0 where
   pub tokens : (p : ℕ) → Place p → slot_word m.words p ≡ bit_or (p + 8) 1 ↔ IsToken b p
   -- Previous(s) stands once in the region that s was left for, and nowhere else
   pub previous_left : (q s : ℕ) → links s (region b q).entries ≡ one (is_left q (region b s).holder)
-  -- a supervisor stack's token is busy where the stack has a holder
-  pub supervisor_tokens : (k : ℕ) → k < 8 → slice_index m.words (token_word k) ≡ token k + busy (stack_of b k)
-  -- and below the token of a stack that a thread holds stands the kernel's return address, from its store there on
-  pub below_tokens : (t : ℕ) (thread : Thread) → slice_get m.threads t ≡ Some thread → (k : ℕ) → stack_of b k ≡ Some t → is_some (left_in (trail_of job thread.core) (token_word k - 1)) ≡ true → slice_index m.words (token_word k - 1) ≡ kernel_return
+  pub supervisor_tokens : SupervisorTokens job m b
   pub restorers : Restorers job.image m.words
-  -- what a row has read or written in a word of its thread's own is still there
-  pub row_steady : (t : ℕ) (thread : Thread) → slice_get m.threads t ≡ Some thread → (word x : ℕ) → OwnWord t b word → left_in (trail_of job thread.core) word ≡ Some x → slice_index m.words word ≡ x
-  -- the stack that it has claimed is in the book, and nobody else's
-  pub row_claimed : (t : ℕ) (thread : Thread) → slice_get m.threads t ≡ Some thread → HasClaimed t (claimed_in (trail_of job thread.core)) b
+  pub steady_rows : (t : ℕ) (thread : Thread) → slice_get m.threads t ≡ Some thread → SteadyRow job m.words b t thread.core
   pub counters : Counters m.words m.threads b
   -- each thread has the start of a region of eight pages
   pub made : (t : ℕ) (thread : Thread) → slice_get m.threads t ≡ Some thread → HasMade thread.core.arch.made b
