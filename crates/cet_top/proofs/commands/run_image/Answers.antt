@@ -1,9 +1,9 @@
 use Rattle.std.proofs.Common.{IfOk, subst, arith}
 use Rattle.cet_words.specs.Job.{ImageData, IsImage}
 use Rattle.cet_top.specs.Answer.{Reports, job_with}
-use Rattle.cet_top.specs.Schedule.{ByRobin}
+use Rattle.cet_run.specs.Schedule.{ByRobin}
 use Rattle.cet_cli.specs.Settings.{SettingsData}
-use Rattle.cet_top.specs.declared.outcomes.Style.TheVariants as style
+use Rattle.cet_top.specs.declared.styles.Style.TheVariants as style
 use Rattle.cet_top.proofs.commands.run_image.Goals as goal
 
 pub invariant_of-job : goal.invariant_of-job
