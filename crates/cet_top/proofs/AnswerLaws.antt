@@ -22,15 +22,15 @@ use Rattle.cet_page.specs.Machine.{Machine, Starts, machine, run}
 use Rattle.cet_top.specs.Answer.{Answers, Assembles, Faults, Refuses, Reports, job_of, status_of}
 use Rattle.cet_top.specs.Listing.{Instruction, IsCut, IsFirst, IsListing, Lists, ListsIf, Lone, Piece, piece_bytes, piece_lines}
 use Rattle.cet_top.specs.Report.{report_of}
-use Rattle.cet_top.specs.SafeRun.{SafeRun, outcome_of}
-use Rattle.cet_top.specs.Schedule.{ByRobin}
-use Rattle.cet_top.specs.declared.outcomes.Outcome.{Outcome}
-use Rattle.cet_top.specs.declared.outcomes.Style.TheVariants as style
+use Rattle.cet_run.specs.SafeRun.{SafeRun, outcome_of}
+use Rattle.cet_run.specs.Schedule.{ByRobin}
+use Rattle.cet_run.specs.declared.outcomes.Outcome.{Outcome}
+use Rattle.cet_top.specs.declared.styles.Style.TheVariants as style
 use Rattle.cet_top.specs.declared.status.Status.{Status}
 use Rattle.cet_top.specs.declared.status.Status.TheVariants as status
 use Rattle.cet_cli.specs.declared.words.Command.{Command}
 use Rattle.cet_cli.specs.declared.words.Command.TheVariants as command
-use Rattle.cet_top.proofs.ScheduleLaws.{robin_same}
+use Rattle.cet_run.proofs.ScheduleLaws.{robin_same}
 
 -- ---- refusals
 

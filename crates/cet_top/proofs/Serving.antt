@@ -7,8 +7,8 @@ use Rattle.cet_top.specs.Serves.{Answering, Answered, Completes, CountsTooMuch, 
 use Rattle.cet_io.specs.Stream.{AppendsSome, Rose, RoseBy, Tally}
 use Rattle.cet_top.specs.Reading.{ReadSome, ReadToEnd, ReadTooMuch, ReadUntilFault, SourceState, TakesAll, TalliesBy}
 use Rattle.cet_cli.specs.Words.{Means}
-use Rattle.cet_top.specs.declared.outcomes.ProcessEnd.{ProcessEnd}
-use Rattle.cet_top.specs.declared.outcomes.ProcessEnd.TheVariants as process
+use Rattle.cet_run.specs.declared.outcomes.ProcessEnd.{ProcessEnd}
+use Rattle.cet_run.specs.declared.outcomes.ProcessEnd.TheVariants as process
 use Rattle.cet_top.specs.declared.status.Status.{Status}
 use Rattle.cet_top.specs.declared.status.Status.TheVariants as status
 use Rattle.cet_cli.specs.declared.words.Command.{Command}

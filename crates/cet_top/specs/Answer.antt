@@ -8,14 +8,14 @@ use Rattle.cet_elf.specs.Written.{written}
 use Rattle.cet_page.specs.Machine.{Machine}
 use Rattle.cet_top.specs.Listing.{IsListing}
 use Rattle.cet_top.specs.Report.{report_of}
-use Rattle.cet_top.specs.SafeRun.{SafeRun}
-use Rattle.cet_top.specs.Schedule.{ByRobin}
+use Rattle.cet_run.specs.SafeRun.{SafeRun}
+use Rattle.cet_run.specs.Schedule.{ByRobin}
 use Rattle.cet_cli.specs.Settings.{SettingsData}
-use Rattle.cet_top.specs.declared.outcomes.Outcome.{Outcome}
-use Rattle.cet_top.specs.declared.outcomes.ProcessEnd.{ProcessEnd}
-use Rattle.cet_top.specs.declared.outcomes.ProcessEnd.TheVariants as process
-use Rattle.cet_top.specs.declared.outcomes.Style.{Style}
-use Rattle.cet_top.specs.declared.outcomes.Style.TheVariants as style
+use Rattle.cet_run.specs.declared.outcomes.Outcome.{Outcome}
+use Rattle.cet_run.specs.declared.outcomes.ProcessEnd.{ProcessEnd}
+use Rattle.cet_run.specs.declared.outcomes.ProcessEnd.TheVariants as process
+use Rattle.cet_top.specs.declared.styles.Style.{Style}
+use Rattle.cet_top.specs.declared.styles.Style.TheVariants as style
 use Rattle.cet_top.specs.declared.status.Status.{Status}
 use Rattle.cet_top.specs.declared.status.Status.TheVariants as status
 use Rattle.cet_cli.specs.declared.words.Command.{Command}

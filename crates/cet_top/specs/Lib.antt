@@ -2,12 +2,6 @@ pub mod Reading
 pub mod Status
 pub mod Line
 pub mod Report
-pub mod Schedule
-pub mod Turns
-pub mod TracedThreads
-pub mod Outcome
-pub mod Shown
 pub mod Listing
-pub mod SafeRun
 pub mod Answer
 pub mod Serves

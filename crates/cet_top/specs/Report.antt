@@ -13,12 +13,12 @@ use Rattle.cet_isa.specs.declared.threads.FaultName.TheVariants as fault
 use Rattle.cet_isa.specs.declared.threads.What.{What}
 use Rattle.cet_isa.specs.declared.threads.What.TheVariants as what
 use Rattle.cet_isa.specs.declared.threads.Record.{Record}
-use Rattle.cet_top.specs.declared.outcomes.Outcome.{Outcome}
-use Rattle.cet_top.specs.declared.outcomes.ProcessEnd.{ProcessEnd}
-use Rattle.cet_top.specs.declared.outcomes.ProcessEnd.TheVariants as process
-use Rattle.cet_top.specs.declared.outcomes.Style.{Style}
-use Rattle.cet_top.specs.declared.outcomes.Style.TheVariants as style
-use Rattle.cet_top.specs.declared.outcomes.ThreadOut.{ThreadOut}
+use Rattle.cet_run.specs.declared.outcomes.Outcome.{Outcome}
+use Rattle.cet_run.specs.declared.outcomes.ProcessEnd.{ProcessEnd}
+use Rattle.cet_run.specs.declared.outcomes.ProcessEnd.TheVariants as process
+use Rattle.cet_top.specs.declared.styles.Style.{Style}
+use Rattle.cet_top.specs.declared.styles.Style.TheVariants as style
+use Rattle.cet_run.specs.declared.outcomes.ThreadOut.{ThreadOut}
 use Rattle.cet_top.specs.Line.{line}
 
 abbrev pub fault_name : FaultName → List ℕ

@@ -5,20 +5,20 @@ ghost use Rattle.cet_top.specs.Answer.{Answers, Assembles, Checks, Disassembles,
 ghost use Rattle.cet_elf.specs.Accepts.{Accepts, image_of};
 ghost use Rattle.cet_elf.specs.Written.{written};
 ghost use Rattle.cet_top.specs.Listing.{IsListing};
-ghost use Rattle.cet_top.specs.Schedule.{ByRobin};
+ghost use Rattle.cet_run.specs.Schedule.{ByRobin};
 ghost use Rattle.cet_top.specs.Serves.{Serves, sink_state};
 ghost use Rattle.cet_top.specs.Reading.{most_input, source_state};
 
 use crate::listing::listing;
-use crate::outcomes::{ProcessEnd, Style};
 use crate::reports::report;
-use crate::runs::run;
 use crate::status::Status;
+use crate::styles::Style;
 use crate::transfers::{Unread, read_all, write_all};
 use cet_asm::{AsmFault, Program, assemble};
 use cet_cli::{Command, Settings};
 use cet_elf::{LoadFault, load, write};
 use cet_io::{Sink, Source};
+use cet_run::{ProcessEnd, robin};
 use cet_words::{Bytes, Image, Job, NoMemory};
 use std::alloc::Global;
 
@@ -45,7 +45,7 @@ fn run_job(alloc: Global, job: &Job, style: Style) -> Result<Answer, NoMemory>
     ensures { IfOk result (λ answer.
         Reports job.now (ByRobin job.now) style answer.status answer.output) }
 {
-    let outcome = run(alloc, job)?;
+    let outcome = robin(alloc, job)?;
     let output = report(alloc, &outcome, style)?;
     Ok(Answer {
         status: status_of(outcome.process),

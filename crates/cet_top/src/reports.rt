@@ -6,9 +6,10 @@ ghost use Rattle.cet_top.specs.Line.{line};
 ghost use Rattle.cet_top.specs.Report.{fault_name, record_name, record_text, thread_line, thread_text, entry_text, shown_from, shown_entries, stack_line, stack_text, process_text, report_of};
 
 use crate::lines::{Word, put_line};
-use crate::outcomes::{Outcome, ProcessEnd, Records, Style, ThreadOut};
+use crate::styles::Style;
 use cet_book::{Shown, StackReport};
 use cet_isa::{End, FaultName, Record, What};
+use cet_run::{Outcome, ProcessEnd, Records, ThreadOut};
 use cet_words::{Bytes, NoMemory};
 use std::alloc::Global;
 

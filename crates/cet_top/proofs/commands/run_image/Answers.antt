@@ -3,9 +3,9 @@ use Rattle.std.specs.Prelude.{All}
 use Rattle.cet_words.specs.Job.{ImageData, IsImage, IsSignal}
 use Rattle.cet_words.specs.declared.images.Signal.{Signal}
 use Rattle.cet_top.specs.Answer.{Reports, job_with}
-use Rattle.cet_top.specs.Schedule.{ByRobin}
+use Rattle.cet_run.specs.Schedule.{ByRobin}
 use Rattle.cet_cli.specs.Settings.{SettingsData}
-use Rattle.cet_top.specs.declared.outcomes.Style.TheVariants as style
+use Rattle.cet_top.specs.declared.styles.Style.TheVariants as style
 use Rattle.cet_top.proofs.commands.run_image.Goals as goal
 
 pub invariant_of-job : goal.invariant_of-job

@@ -1,0 +1,7 @@
+mod Steps
+mod LiveThreads
+mod Rounds
+mod InOrder
+mod ToldStacks
+pub mod ScheduleLaws
+mod Finished

@@ -1,0 +1,14 @@
+use Rattle.std.proofs.Common.{ap, sym, ◌∙◌}
+use Rattle.cet_page.specs.Machine.{step}
+use Rattle.cet_run.proofs.Steps.{reached_step, run_take}
+use Rattle.cet_run.proofs.turns.give_turns.Goals as goal
+
+pub loop-number-preserved : goal.loop-number-preserved
+loop-number-preserved g c = record {
+  guests = c.in_ok-give_turn.ensures.guests;
+  reached = reached_step c.args.job.now _ _ _ c.loop-number.invariant.reached c.in_ok-give_turn.ensures.step;
+  so_far =
+      c.in_ok-give_turn.ensures.step
+      ∙ ap (λ m. step c.args.job.now m _) c.loop-number.invariant.so_far
+      ∙ sym (run_take c.args.job.now _ c.args.schedule.now c.loop-number.number-index _ c.loop-number-test.true);
+}

@@ -1,0 +1,160 @@
+//! The guest threads of a run, by number, and which of them are live.
+
+ghost use Rattle.std.specs.Prelude.{◌≡◌, [], ◌∷◌, ◌++◌, ◌<◌, true, false, cond, length, None, OnOk, IfOk, IfSome};
+ghost use Rattle.cet_page.specs.Machine.{machine, step, with_child};
+ghost use Rattle.cet_cpu.specs.Cpu.{IsCpu, CpuData};
+ghost use Rattle.cet_run.specs.Schedule.{goes_on, live_from};
+ghost use Rattle.cet_run.specs.TracedThreads.{AllTraced, AreGuests, IsSetAt, LiveBefore, core_of, left_among, left_to, threads_of, with_traced};
+ghost use Rattle.cet_run.specs.Turns.{IsGoing, IsStill, IsTurned, Reached};
+
+use crate::traced_threads::TracedThread;
+use cet_cpu::Cpu;
+use cet_words::{Job, NoMemory, Perform};
+use std::alloc::Global;
+
+/// The guest threads, by number.
+#[derive(Drop)]
+pub struct Guests {
+    pub all: Vec<TracedThread>,
+    /// The numbers of the live ones, in order. A turn searches no thread: the list changes where a
+    /// thread is born or ends.
+    pub live: Vec<usize>,
+}
+
+/// Appends a thread's number where it is live.
+fn push_live(live: &mut Vec<usize>, at: usize, traced: &TracedThread) -> Result<(), NoMemory>
+    ensures { OnOk result (live.new.items ≡ live.old.items ++ cond (goes_on traced.now.cpu.core.over) (at ∷ []) []) }
+{
+    match traced.end() {
+        None => live.push(at)?,
+        Some(_) => {}
+    }
+    Ok(())
+}
+
+/// The numbers of the live threads, in order.
+fn live_numbers(alloc: Global, all_traced: &[TracedThread]) -> Result<Vec<usize>, NoMemory>
+    ensures { IfOk result (λ live. live.items ≡ live_from (threads_of all_traced.now) 0) }
+{
+    let mut live = Vec::new(alloc);
+    for at in 0..all_traced.len() {
+        push_live(&mut live, at, &all_traced[at])?;
+    }
+    Ok(live)
+}
+
+/// A thread makes its next access, and answers the thread that this bears, if any.
+fn step<P: Perform>(
+    alloc: Global,
+    job: &Job,
+    words: &mut P,
+    all_traced: &mut Vec<TracedThread>,
+    at: usize,
+) -> Result<Option<Cpu>, NoMemory>
+    requires cores { AllTraced job.now all_traced.old.items }
+    requires range { at < length all_traced.old.items }
+    requires going { IsGoing (threads_of all_traced.old.items) at }
+    ensures step { IfOk result (λ child. machine (P.words words.new) (with_child (threads_of all_traced.new.items) (core_of child)) ≡ step job.now (machine (P.words words.old) (threads_of all_traced.old.items)) at) }
+    ensures set { OnOk result (IsSetAt all_traced.old.items all_traced.new.items at) }
+    ensures cores { OnOk result (AllTraced job.now all_traced.new.items) }
+    ensures born { IfOk result (λ child. IfSome child (IsCpu job.now)) }
+    ensures lives { IfOk result (λ child. IfSome child (λ (cpu : CpuData). cpu.core.over ≡ None)) }
+    ensures falls { IfOk result (λ _. left_among job.now all_traced.new.items < left_among job.now all_traced.old.items) }
+{
+    all_traced[at].step(alloc, job, words)
+}
+
+/// Keeps the numbers of the live threads, after the turn of one of them.
+fn keep_live(
+    alloc: Global,
+    live: &mut Vec<usize>,
+    all_traced: &[TracedThread],
+    at: usize,
+) -> Result<(), NoMemory>
+    requires range { at < length all_traced.now }
+    requires live { LiveBefore all_traced.now live.old.items at }
+    ensures { OnOk result (live.new.items ≡ live_from (threads_of all_traced.now) 0) }
+{
+    if all_traced[at].end().is_some() {
+        *live = live_numbers(alloc, all_traced)?;
+    }
+    Ok(())
+}
+
+impl Guests {
+    /// Thread 0 alone, before its first access.
+    pub fn new(alloc: Global, job: &Job, first: Cpu) -> Result<Guests, NoMemory>
+        requires born { IsCpu job.now first }
+        requires lives { first.core.over ≡ None }
+        ensures all { IfOk result (λ guests. guests.all.items ≡ record { cpu = first; trace = [] } ∷ []) }
+        ensures guests { IfOk result (λ guests. AreGuests job.now guests.all.items guests.live.items) }
+    {
+        let mut guests = Guests {
+            all: Vec::new(alloc),
+            live: Vec::new(alloc),
+        };
+        guests.bear(alloc, job, first)?;
+        Ok(guests)
+    }
+
+    /// Whether there is a thread of this number which hasn't ended.
+    pub fn goes_on(&self, at: usize) -> bool
+        ensures going { result ≡ true → IsGoing (threads_of self.now.all.items) at }
+        ensures range { result ≡ true → at < length self.now.all.items }
+        ensures ended { result ≡ false → IsStill (threads_of self.now.all.items) at }
+    {
+        match self.all.get(at) {
+            Some(traced) => traced.end().is_none(),
+            None => false,
+        }
+    }
+
+    /// A thread is born.
+    fn bear(&mut self, alloc: Global, job: &Job, child: Cpu) -> Result<(), NoMemory>
+        requires born { IsCpu job.now child }
+        requires lives { child.core.over ≡ None }
+        requires guests { AreGuests job.now self.old.all.items self.old.live.items }
+        ensures all { OnOk result (self.new.all.items ≡ self.old.all.items ++ record { cpu = child; trace = [] } ∷ []) }
+        ensures guests { OnOk result (AreGuests job.now self.new.all.items self.new.live.items) }
+    {
+        self.live.push(self.all.len())?;
+        self.all.push(TracedThread::new(alloc, child))?;
+        Ok(())
+    }
+
+    /// The thread that an access bore, if any, is born.
+    fn bear_child(&mut self, alloc: Global, job: &Job, child: Option<Cpu>) -> Result<(), NoMemory>
+        requires born { IfSome child (IsCpu job.now) }
+        requires lives { IfSome child (λ (cpu : CpuData). cpu.core.over ≡ None) }
+        requires guests { AreGuests job.now self.old.all.items self.old.live.items }
+        ensures all { OnOk result (self.new.all.items ≡ with_traced self.old.all.items child) }
+        ensures guests { OnOk result (AreGuests job.now self.new.all.items self.new.live.items) }
+    {
+        match child {
+            Some(cpu) => self.bear(alloc, job, cpu),
+            None => Ok(()),
+        }
+    }
+
+    /// One turn of a live thread.
+    pub fn turn<P: Perform>(
+        &mut self,
+        alloc: Global,
+        job: &Job,
+        words: &mut P,
+        at: usize,
+    ) -> Result<(), NoMemory>
+        requires guests { AreGuests job.now self.old.all.items self.old.live.items }
+        requires reached { Reached job.now (machine (P.words words.old) (threads_of self.old.all.items)) }
+        requires range { at < length self.old.all.items }
+        requires going { IsGoing (threads_of self.old.all.items) at }
+        ensures step { OnOk result (machine (P.words words.new) (threads_of self.new.all.items) ≡ step job.now (machine (P.words words.old) (threads_of self.old.all.items)) at) }
+        ensures guests { OnOk result (AreGuests job.now self.new.all.items self.new.live.items) }
+        ensures falls { OnOk result (left_to job.now self.new.all.items < left_to job.now self.old.all.items) }
+        ensures turned { OnOk result (IsTurned (threads_of self.old.all.items) (threads_of self.new.all.items) at) }
+    {
+        let child = step(alloc, job, words, &mut self.all, at)?;
+        keep_live(alloc, &mut self.live, &self.all, at)?;
+        self.bear_child(alloc, job, child)
+    }
+}
