@@ -19,7 +19,7 @@ use Rattle.cet_elf.specs.Rules.{breach}
 use Rattle.cet_elf.specs.Written.{written}
 use Rattle.cet_own.specs.Event.{book_of}
 use Rattle.cet_page.specs.Machine.{Machine, Starts, machine, run}
-use Rattle.cet_top.specs.Answer.{Answers, Assembles, Faults, Refuses, Reports, job_of, status_of}
+use Rattle.cet_top.specs.Answer.{Answers, Assembles, Faults, Refuses, Reports, Runs, Turns, by_plan, job_of, status_of}
 use Rattle.cet_top.specs.Listing.{Instruction, IsCut, IsFirst, IsListing, Lists, ListsIf, Lone, Piece, piece_bytes, piece_lines}
 use Rattle.cet_top.specs.Report.{report_of}
 use Rattle.cet_run.specs.SafeRun.{SafeRun, outcome_of}
@@ -28,9 +28,12 @@ use Rattle.cet_run.specs.declared.outcomes.Outcome.{Outcome}
 use Rattle.cet_top.specs.declared.styles.Style.TheVariants as style
 use Rattle.cet_top.specs.declared.status.Status.{Status}
 use Rattle.cet_top.specs.declared.status.Status.TheVariants as status
+use Rattle.cet_cli.specs.Settings.{SettingsData}
+use Rattle.cet_cli.specs.declared.options.Plan.{Plan}
+use Rattle.cet_cli.specs.declared.options.Plan.TheVariants.{Mix, Schedule}
 use Rattle.cet_cli.specs.declared.words.Command.{Command}
 use Rattle.cet_cli.specs.declared.words.Command.TheVariants as command
-use Rattle.cet_run.proofs.ScheduleLaws.{robin_same}
+use Rattle.cet_run.proofs.ScheduleLaws.{full_same, mix_same, robin_same}
 
 -- ---- refusals
 
@@ -134,21 +137,36 @@ start_same job m n a b =
     let threads : m.threads ≡ n.threads = a.threads ∙ sym b.threads in
     ap (λ (w : List ℕ). machine w m.threads) words ∙ ap (machine n.words) threads
 
-run_same : (job : JobData) (o p : Outcome) → SafeRun job (ByRobin job) o → SafeRun job (ByRobin job) p → o ≡ p
-run_same job o p a b =
+-- turns of which there is one list
+abbrev OneList : (Machine → List ℕ → Type 0) → Type 0
+OneList Turned = (m : Machine) (xs ys : List ℕ) → Turned m xs → Turned m ys → xs ≡ ys
+
+run_same : (job : JobData) (Turned : Machine → List ℕ → Type 0) (o p : Outcome) → OneList Turned → SafeRun job Turned o → SafeRun job Turned p → o ≡ p
+run_same job Turned o p one a b =
     let start = start_same job a.start b.start a.starts b.starts in
-    let there : ByRobin job b.start a.turns = subst (λ m. ByRobin job m a.turns) start a.schedule in
-    let turns = robin_same job b.start None a.turns b.turns there b.schedule in
+    let there : Turned b.start a.turns = subst (λ m. Turned m a.turns) start a.schedule in
+    let turns = one b.start a.turns b.turns there b.schedule in
     let books : Some a.book ≡ Some b.book = sym a.legal ∙ ap (λ m. book_of job m a.turns) start ∙ ap (book_of job b.start) turns ∙ b.legal in
     let book : a.book ≡ b.book = cc in
     a.is ∙ ap (λ m. outcome_of (run job m a.turns) a.book) start ∙ ap (λ t. outcome_of (run job b.start t) a.book) turns ∙ ap (outcome_of (run job b.start b.turns)) book ∙ sym b.is
 
-reported_same : (job : JobData) (s t : Status) (x y : List ℕ) → Reports job (ByRobin job) style.Full s x → Reports job (ByRobin job) style.Full t y → One s t x y
-reported_same job s t x y a b =
-    let same = run_same job a.outcome b.outcome a.ran b.ran in (
+reported_same : (job : JobData) (Turned : Machine → List ℕ → Type 0) (s t : Status) (x y : List ℕ) → OneList Turned → Reports job Turned style.Full s x → Reports job Turned style.Full t y → One s t x y
+reported_same job Turned s t x y one a b =
+    let same = run_same job Turned a.outcome b.outcome one a.ran b.ran in (
       a.told.ends ∙ ap (λ (o : Outcome). status_of o.process) same ∙ sym b.told.ends,
       a.told.reports ∙ ap (λ (o : Outcome). report_of o style.Full) same ∙ sym b.told.reports,
     )
+
+planned_same : (job : JobData) (plan : Plan) → OneList (by_plan plan job)
+planned_same job (Schedule given) m xs ys a b = full_same job m given xs ys a b
+planned_same job (Mix number) m xs ys a b = mix_same job m number xs ys a b
+
+runs_same : (settings : SettingsData) (by : Turns) (bytes : List ℕ) (s t : Status) (x y : List ℕ) → OneList (by (job_of settings bytes))
+    → Refuses bytes s x ⊎ Runs by style.Full settings bytes s x → Refuses bytes t y ⊎ Runs by style.Full settings bytes t y → One s t x y
+runs_same settings by bytes s t x y one a b = elim a [
+  | inl r ↦ elim b [ inl q ↦ refused_same bytes s t x y r q | inr q ↦ absurd (not_both bytes s x r q.accepted) ]
+  | inr r ↦ elim b [ inl q ↦ absurd (not_both bytes t y q r.accepted) | inr q ↦ reported_same (job_of settings bytes) (by (job_of settings bytes)) s t x y one r.reported q.reported ]
+]
 
 -- ---- programs
 
@@ -183,10 +201,8 @@ not_assembled bytes s t x y a b = (let never = sym b.assembled.sound ∙ a.broke
 -- ---- every command
 
 pub answers_same : (c : Command) (bytes : List ℕ) (s t : Status) (x y : List ℕ) → Answers c bytes s x → Answers c bytes t y → One s t x y
-answers_same (command.Run settings) bytes s t x y a b = elim a [
-  | inl r ↦ elim b [ inl q ↦ refused_same bytes s t x y r q | inr q ↦ absurd (not_both bytes s x r q.accepted) ]
-  | inr r ↦ elim b [ inl q ↦ absurd (not_both bytes t y q r.accepted) | inr q ↦ reported_same (job_of settings bytes) s t x y r.reported q.reported ]
-]
+answers_same (command.Run settings) bytes s t x y a b = runs_same settings ByRobin bytes s t x y (λ m xs ys r q. robin_same (job_of settings bytes) m None xs ys r q) a b
+answers_same (command.Replay settings plan) bytes s t x y a b = runs_same settings (by_plan plan) bytes s t x y (planned_same (job_of settings bytes) plan) a b
 answers_same command.Dis bytes s t x y a b = elim a [
   | inl r ↦ elim b [ inl q ↦ refused_same bytes s t x y r q | inr q ↦ absurd (not_both bytes s x r q.accepted) ]
   | inr r ↦ elim b [ inl q ↦ absurd (not_both bytes t y q r.accepted) | inr q ↦ (r.done ∙ sym q.done, listing_same (image_of bytes).segments x y r.listed q.listed) ]

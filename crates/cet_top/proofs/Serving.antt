@@ -26,6 +26,10 @@ no_usage (command.Run settings) bytes output n a = elim a [
   | inl r ↦ (let e = r.refused in cc)
   | inr r ↦ run_no_usage r.reported.outcome.process n r.reported.told.ends
 ]
+no_usage (command.Replay settings plan) bytes output n a = elim a [
+  | inl r ↦ (let e = r.refused in cc)
+  | inr r ↦ run_no_usage r.reported.outcome.process n r.reported.told.ends
+]
 no_usage command.Dis bytes output n a = elim a [
   | inl r ↦ (let e = r.refused in cc)
   | inr r ↦ (let e = r.done in cc)
@@ -53,6 +57,10 @@ run_answered (process.Limit t) = tt
 
 pub answer_is_answered : (c : Command) (bytes output : List ℕ) (s : Status) → Answers c bytes s output → IsAnswered s
 answer_is_answered (command.Run settings) bytes output s a = elim a [
+  | inl r ↦ subst IsAnswered (sym r.refused) tt
+  | inr r ↦ subst IsAnswered (sym r.reported.told.ends) (run_answered r.reported.outcome.process)
+]
+answer_is_answered (command.Replay settings plan) bytes output s a = elim a [
   | inl r ↦ subst IsAnswered (sym r.refused) tt
   | inr r ↦ subst IsAnswered (sym r.reported.told.ends) (run_answered r.reported.outcome.process)
 ]
@@ -131,6 +139,7 @@ module _ (Answer : Answering) (src src' : SourceState) (sink sink' : SinkState) 
 -- each command reads
 pub reads_all : (c : Command) → reads c ≡ true
 reads_all (command.Run settings) = refl
+reads_all (command.Replay settings plan) = refl
 reads_all command.Dis = refl
 reads_all command.Asm = refl
 reads_all command.Check = refl
@@ -258,6 +267,7 @@ untouched src = record {
 -- nothing was read or written
 pub none_read : (c : Command) (src : SourceState) (sink : SinkState) → Serves (reads c) (Answers c) src src sink sink status.NoMemory
 none_read (command.Run settings) src sink = serves_no_memory (Answers (command.Run settings)) src src sink (untouched src) (omega arith)
+none_read (command.Replay settings plan) src sink = serves_no_memory (Answers (command.Replay settings plan)) src src sink (untouched src) (omega arith)
 none_read command.Dis src sink = serves_no_memory (Answers command.Dis) src src sink (untouched src) (omega arith)
 none_read command.Asm src sink = serves_no_memory (Answers command.Asm) src src sink (untouched src) (omega arith)
 none_read command.Check src sink = serves_no_memory (Answers command.Check) src src sink (untouched src) (omega arith)

@@ -9,7 +9,7 @@ use Rattle.cet_page.specs.Machine.{Machine}
 use Rattle.cet_top.specs.Listing.{IsListing}
 use Rattle.cet_top.specs.Report.{report_of}
 use Rattle.cet_run.specs.SafeRun.{SafeRun}
-use Rattle.cet_run.specs.Schedule.{ByRobin}
+use Rattle.cet_run.specs.Schedule.{ByRobin, IsFull, IsMix}
 use Rattle.cet_cli.specs.Settings.{SettingsData}
 use Rattle.cet_run.specs.declared.outcomes.Outcome.{Outcome}
 use Rattle.cet_run.specs.declared.outcomes.ProcessEnd.{ProcessEnd}
@@ -18,8 +18,12 @@ use Rattle.cet_top.specs.declared.styles.Style.{Style}
 use Rattle.cet_top.specs.declared.styles.Style.TheVariants as style
 use Rattle.cet_top.specs.declared.status.Status.{Status}
 use Rattle.cet_top.specs.declared.status.Status.TheVariants as status
+use Rattle.cet_cli.specs.declared.options.Plan.{Plan}
+use Rattle.cet_cli.specs.declared.options.Plan.TheVariants.{Mix, Schedule}
 use Rattle.cet_cli.specs.declared.words.Command.{Command}
-use Rattle.cet_cli.specs.declared.words.Command.TheVariants.{Run, Dis, Asm, Check}
+use Rattle.cet_cli.specs.declared.words.Command.TheVariants.{Run, Replay, Dis, Asm, Check}
+use Rattle.cet_top.specs.declared.commands.Course.{Course}
+use Rattle.cet_top.specs.declared.commands.Course.TheVariants as course
 
 -- the job of an image by these settings
 abbrev pub job_with : SettingsData → ImageData → JobData
@@ -39,10 +43,10 @@ pub record ReportsOf (outcome : Outcome) (style : Style) (s : Status) (output : 
   pub ends : s ≡ status_of outcome.process
   pub reports : output ≡ report_of outcome style
 
--- those of a run of the job by this schedule
-pub record Reports (job : JobData) (Schedule : Machine → List ℕ → Type 0) (style : Style) (s : Status) (output : List ℕ) : Type 0 where
+-- those of a run of the job with these turns
+pub record Reports (job : JobData) (Turned : Machine → List ℕ → Type 0) (style : Style) (s : Status) (output : List ℕ) : Type 0 where
   pub outcome : Outcome
-  pub ran : SafeRun job Schedule outcome
+  pub ran : SafeRun job Turned outcome
   pub told : ReportsOf outcome style s output
 
 -- a file that breaks a rule of the loader is refused by the first of them, at its place
@@ -54,13 +58,22 @@ pub record Refuses (bytes : List ℕ) (s : Status) (output : List ℕ) : Type 0 
   pub nothing : output ≡ []
 
 -- which turns a run of a job has
-abbrev pub Plan : Type 1
-Plan = JobData → Machine → (turns : List ℕ) → Type 0
+abbrev pub Turns : Type 1
+Turns = JobData → Machine → (turns : List ℕ) → Type 0
 
--- a file that is accepted runs by these settings and this plan, and is reported in this style
-pub record Runs (plan : Plan) (style : Style) (settings : SettingsData) (bytes : List ℕ) (s : Status) (output : List ℕ) : Type 0 where
+-- by a plan of the words: its turns and then Robin, or the numbers of Mix from its own on
+abbrev pub by_plan : Plan → Turns
+by_plan (Schedule given) job start turns = IsFull job start given turns
+by_plan (Mix number) job start turns = IsMix job start number turns
+
+abbrev pub by_course : Course → Turns
+by_course course.Robin job start turns = ByRobin job start turns
+by_course (course.Planned plan) job start turns = by_plan plan.now job start turns
+
+-- a file that is accepted runs by these settings with these turns, and is reported in this style
+pub record Runs (by : Turns) (style : Style) (settings : SettingsData) (bytes : List ℕ) (s : Status) (output : List ℕ) : Type 0 where
   pub accepted : Accepts bytes
-  pub reported : Reports (job_of settings bytes) (plan (job_of settings bytes)) style s output
+  pub reported : Reports (job_of settings bytes) (by (job_of settings bytes)) style s output
 
 -- a file that is accepted is listed
 pub record Disassembles (bytes : List ℕ) (s : Status) (output : List ℕ) : Type 0 where
@@ -92,12 +105,14 @@ pub record Assembles (bytes : List ℕ) (s : Status) (output : List ℕ) : Type 
 -- each command reads the source
 abbrev pub reads : Command → Bool
 reads (Run settings) = true
+reads (Replay settings plan) = true
 reads Dis = true
 reads Asm = true
 reads Check = true
 
 abbrev pub Answers : Command → (bytes : List ℕ) → Status → (output : List ℕ) → Type 0
 Answers (Run settings) bytes s output = Refuses bytes s output ⊎ Runs ByRobin style.Full settings bytes s output
+Answers (Replay settings plan) bytes s output = Refuses bytes s output ⊎ Runs (by_plan plan) style.Full settings bytes s output
 Answers Dis bytes s output = Refuses bytes s output ⊎ Disassembles bytes s output
 Answers Asm bytes s output = Faults bytes s output ⊎ Assembles bytes s output
 Answers Check bytes s output = Refuses bytes s output ⊎ Checks bytes s output

@@ -1,11 +1,11 @@
 //! What the commands do, between a source and a sink.
 
-ghost use Rattle.std.specs.Prelude.{◌≡◌, ◌≤◌, true, [], ◌∷◌, ◌++◌, codes, length, Ok, IfOk};
-ghost use Rattle.cet_top.specs.Answer.{Answers, Assembles, Checks, Disassembles, Faults, Reports, Runs, Refuses, job_of, job_with, reads, status_of};
+ghost use Rattle.std.specs.Prelude.{◌≡◌, ◌⊎◌, ◌≤◌, true, [], ◌∷◌, ◌++◌, codes, length, Ok, IfOk};
+ghost use Rattle.cet_top.specs.Answer.{Answers, Assembles, Checks, Disassembles, Faults, Reports, Runs, Refuses, by_course, by_plan, job_of, job_with, reads, status_of};
 ghost use Rattle.cet_elf.specs.Accepts.{Accepts, image_of};
 ghost use Rattle.cet_elf.specs.Written.{written};
 ghost use Rattle.cet_top.specs.Listing.{IsListing};
-ghost use Rattle.cet_run.specs.Schedule.{ByRobin};
+ghost use Rattle.cet_run.specs.SafeRun.{SafeRun};
 ghost use Rattle.cet_top.specs.Serves.{Serves, sink_state};
 ghost use Rattle.cet_top.specs.Reading.{most_input, source_state};
 
@@ -15,10 +15,10 @@ use crate::status::Status;
 use crate::styles::Style;
 use crate::transfers::{Unread, read_all, write_all};
 use cet_asm::{AsmFault, Program, assemble};
-use cet_cli::{Command, Settings};
+use cet_cli::{Command, Plan, Settings};
 use cet_elf::{LoadFault, load, write};
 use cet_io::{Sink, Source};
-use cet_run::{ProcessEnd, robin};
+use cet_run::{Outcome, ProcessEnd, mix, replay, robin};
 use cet_words::{Bytes, Image, Job, NoMemory};
 use std::alloc::Global;
 
@@ -27,6 +27,15 @@ use std::alloc::Global;
 pub(crate) struct Answer {
     pub status: Status,
     pub output: Bytes,
+}
+
+/// Which turns the threads of a run have.
+#[derive(Clone, Copy, Debug)]
+enum Course<'a> {
+    /// The live ones in the order of their numbers.
+    Robin,
+    /// Those of a plan.
+    Planned(&'a Plan),
 }
 
 /// The status of a run whose process ended so.
@@ -40,12 +49,32 @@ fn status_of(end: ProcessEnd) -> Status
     }
 }
 
-/// Runs a job and reports in this style.
-fn run_job(alloc: Global, job: &Job, style: Style) -> Result<Answer, NoMemory>
-    ensures { IfOk result (λ answer.
-        Reports job.now (ByRobin job.now) style answer.status answer.output) }
+/// The outcome of a run by a plan.
+fn run_planned(alloc: Global, job: &Job, plan: &Plan) -> Result<Outcome, NoMemory>
+    ensures { IfOk result (SafeRun job.now (by_plan plan.now job.now)) }
 {
-    let outcome = robin(alloc, job)?;
+    match plan {
+        Plan::Schedule(turns) => replay(alloc, job, turns.as_slice()),
+        Plan::Mix(number) => mix(alloc, job, *number),
+    }
+}
+
+/// The outcome of a run with these turns.
+fn run_course(alloc: Global, job: &Job, course: Course) -> Result<Outcome, NoMemory>
+    ensures { IfOk result (SafeRun job.now (by_course course job.now)) }
+{
+    match course {
+        Course::Robin => robin(alloc, job),
+        Course::Planned(plan) => run_planned(alloc, job, plan),
+    }
+}
+
+/// Runs a job and reports in this style.
+fn run_job(alloc: Global, job: &Job, course: Course, style: Style) -> Result<Answer, NoMemory>
+    ensures { IfOk result (λ answer.
+        Reports job.now (by_course course job.now) style answer.status answer.output) }
+{
+    let outcome = run_course(alloc, job, course)?;
     let output = report(alloc, &outcome, style)?;
     Ok(Answer {
         status: status_of(outcome.process),
@@ -54,9 +83,14 @@ fn run_job(alloc: Global, job: &Job, style: Style) -> Result<Answer, NoMemory>
 }
 
 /// Runs an image by the settings.
-fn run_image(alloc: Global, settings: &Settings, image: &Image) -> Result<Answer, NoMemory>
+fn run_image(
+    alloc: Global,
+    settings: &Settings,
+    course: Course,
+    image: &Image,
+) -> Result<Answer, NoMemory>
     ensures { IfOk result (λ answer. let job = job_with settings.now image.now in
-        Reports job (ByRobin job) Style.Full answer.status answer.output) }
+        Reports job (by_course course job) Style.Full answer.status answer.output) }
 {
     // The image's invariant holds of it from here on.
     let _entry = image.entry;
@@ -66,7 +100,7 @@ fn run_image(alloc: Global, settings: &Settings, image: &Image) -> Result<Answer
         limit: settings.limit,
         signals: settings.signals.as_slice(),
     };
-    run_job(alloc, &job, Style::Full)
+    run_job(alloc, &job, course, Style::Full)
 }
 
 /// The answer to a file that isn't accepted.
@@ -80,12 +114,17 @@ fn refused(alloc: Global, rule: u8, offset: u64) -> Answer
 }
 
 /// Runs the image that the bytes are, by the settings.
-fn run_bytes(alloc: Global, settings: &Settings, bytes: &[u8]) -> Result<Answer, NoMemory>
-    ensures { IfOk result (λ answer.
-        Answers (Command.Run settings.now) bytes.now answer.status answer.output) }
+fn run_bytes(
+    alloc: Global,
+    settings: &Settings,
+    course: Course,
+    bytes: &[u8],
+) -> Result<Answer, NoMemory>
+    ensures { IfOk result (λ answer. Refuses bytes.now answer.status answer.output
+        ⊎ Runs (by_course course) Style.Full settings.now bytes.now answer.status answer.output) }
 {
     match load(alloc, bytes) {
-        Ok(image) => run_image(alloc, settings, &image),
+        Ok(image) => run_image(alloc, settings, course, &image),
         Err(LoadFault::Refused { rule, offset }) => Ok(refused(alloc, rule, offset)),
         Err(LoadFault::NoMemory) => Err(NoMemory),
     }
@@ -175,7 +214,8 @@ fn answer_to(alloc: Global, command: &Command, bytes: &[u8]) -> Result<Answer, N
     ensures { IfOk result (λ answer. Answers command.now bytes.now answer.status answer.output) }
 {
     match command {
-        Command::Run(settings) => run_bytes(alloc, settings, bytes),
+        Command::Run(settings) => run_bytes(alloc, settings, Course::Robin, bytes),
+        Command::Replay(settings, plan) => run_bytes(alloc, settings, Course::Planned(plan), bytes),
         Command::Dis => list_bytes(alloc, bytes),
         Command::Asm => assemble_bytes(alloc, bytes),
         Command::Check => check_bytes(alloc, bytes),
@@ -224,8 +264,10 @@ pub(crate) fn serve<S: Source, K: Sink>(
         (sink_state (K.written sink.new) (K.faults sink.new)) result }
 {
     match command {
-        Command::Run(_) | Command::Dis | Command::Asm | Command::Check => {
-            read_and_answer(alloc, command, src, sink)
-        }
+        Command::Run(_)
+        | Command::Replay(_, _)
+        | Command::Dis
+        | Command::Asm
+        | Command::Check => read_and_answer(alloc, command, src, sink),
     }
 }

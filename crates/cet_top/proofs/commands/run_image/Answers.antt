@@ -2,8 +2,7 @@ use Rattle.std.proofs.Common.{◌≤◌, List, length, IfOk, subst, sym, arith}
 use Rattle.std.specs.Prelude.{All}
 use Rattle.cet_words.specs.Job.{ImageData, IsImage, IsSignal}
 use Rattle.cet_words.specs.declared.images.Signal.{Signal}
-use Rattle.cet_top.specs.Answer.{Reports, job_with}
-use Rattle.cet_run.specs.Schedule.{ByRobin}
+use Rattle.cet_top.specs.Answer.{Reports, by_course, job_with}
 use Rattle.cet_cli.specs.Settings.{SettingsData}
 use Rattle.cet_top.specs.declared.styles.Style.TheVariants as style
 use Rattle.cet_top.proofs.commands.run_image.Goals as goal
@@ -22,5 +21,5 @@ invariant_of-job c = record {
 pub returns : goal.returns
 returns c =
     let set : List Signal → SettingsData = λ l. record { limit = c.settings.inside.limit; procs = c.settings.inside.procs; signals = l } in
-    let told = subst (λ (l : List Signal). IfOk c.run_job.result (λ answer. Reports (job_with (set l) c.args.image.now) (ByRobin (job_with (set l) c.args.image.now)) style.Full answer.status answer.output)) c.as_slice.ensures c.run_job.ensures in
-    subst (λ (s : SettingsData). IfOk c.run_job.result (λ answer. Reports (job_with s c.args.image.now) (ByRobin (job_with s c.args.image.now)) style.Full answer.status answer.output)) c.settings.view_is told
+    let told = subst (λ (l : List Signal). IfOk c.run_job.result (λ answer. Reports (job_with (set l) c.args.image.now) (by_course c.args.course (job_with (set l) c.args.image.now)) style.Full answer.status answer.output)) c.as_slice.ensures c.run_job.ensures in
+    subst (λ (s : SettingsData). IfOk c.run_job.result (λ answer. Reports (job_with s c.args.image.now) (by_course c.args.course (job_with s c.args.image.now)) style.Full answer.status answer.output)) c.settings.view_is told
