@@ -1,5 +1,5 @@
 -- What is read of a finished run is its outcome by the last book.
-use Rattle.std.proofs.Common.{◌≡◌, ℕ, ◌≤◌, List, Option, Some, None, refl, ap, sym, ◌∙◌, subst}
+use Rattle.std.proofs.Common.{◌≡◌, ℕ, ◌≤◌, List, [], ◌++◌, Option, Some, None, refl, ap, sym, ◌∙◌, subst}
 use Rattle.std.specs.Prelude.{IsSome, length, map, slice_index}
 use Rattle.std.proofs.lemmas.Simd.{map-map}
 use Rattle.std.proofs.lemmas.List.{length-map}
@@ -10,20 +10,22 @@ use Rattle.cet_isa.specs.declared.threads.End.{End}
 use Rattle.cet_book.specs.Book.{Book, region, starting_at}
 use Rattle.cet_book.specs.View.{Covers, InStep, IsReadable, Span, shown_region}
 use Rattle.cet_book.specs.declared.regions.StackReport.{StackReport}
-use Rattle.cet_page.specs.Machine.{Machine, Thread, run}
+use Rattle.cet_page.specs.Machine.{Machine, Starts, Thread, machine, run}
 use Rattle.cet_own.specs.ExitWord.{IsExitWord}
-use Rattle.cet_own.specs.Told.{told_spans}
+use Rattle.cet_own.specs.Told.{kept_pointers, told_spans}
 use Rattle.cet_own.proofs.Covered.{AllEnded, LastCovered, told_numbers}
 use Rattle.cet_own.proofs.CoveredRun.{last_covered}
 use Rattle.cet_own.proofs.Run.{exit_run, safe_run, stands_run}
 use Rattle.cet_run.specs.Outcome.{process_end, thread_out}
 use Rattle.cet_run.specs.SafeRun.{IsLeft, IsThis, SafeRun, outcome_of}
-use Rattle.cet_run.specs.Schedule.{IsComplete}
+use Rattle.cet_run.specs.Schedule.{IsComplete, IsFull, IsRobin}
 use Rattle.cet_run.specs.Shown.{shown_stacks, told_by}
-use Rattle.cet_run.specs.Turns.{Finishes}
+use Rattle.cet_run.specs.Turns.{Finishes, Mixed, Reached, Robined}
 use Rattle.cet_run.specs.declared.outcomes.Outcome.{Outcome}
 use Rattle.cet_run.specs.declared.outcomes.ProcessEnd.{ProcessEnd}
 use Rattle.cet_run.specs.declared.outcomes.ThreadOut.{ThreadOut}
+use Rattle.cet_run.proofs.ScheduleLaws.{mix_complete, robin_complete}
+use Rattle.cet_run.proofs.Steps.{run_append}
 use Rattle.cet_run.proofs.ToldStacks.{told_same}
 
 abbrev pub shown_with : List ThreadOut → List StackReport → ProcessEnd → Outcome
@@ -111,3 +113,36 @@ by_schedule job start turns Schedule outcome h r = record {
   stands = r.stands;
   exit = r.exit;
 }
+
+-- what is left of a run that ended in this machine
+pub finished_left : (job : JobData) (start : Machine) (turns words : List ℕ) (threads : List Thread) (outs : List ThreadOut) (pointers : List (ℕ × ℕ)) → Finishes job start turns (machine words threads) → outs ≡ map thread_out threads → pointers ≡ kept_pointers threads → IsLeft job start turns words outs pointers
+finished_left job start turns words threads outs pointers f o p = record {
+  starts = f.starts;
+  complete = subst IsComplete (sym f.ran) f.complete;
+  words_left = ap (λ (m : Machine). m.words) (sym f.ran);
+  threads_left = o ∙ ap (λ (m : Machine). map thread_out m.threads) (sym f.ran);
+  pointers_left = p ∙ ap (λ (m : Machine). kept_pointers m.threads) (sym f.ran);
+}
+
+-- ---- the end of each schedule
+
+pub robined_finishes : (job : JobData) (start m : Machine) → Starts job start → (r : Robined job start m) → Finishes job start r.turns m
+robined_finishes job start m s r = record { starts = s; ran = r.ran; complete = subst IsComplete r.ran (robin_complete job start None r.turns r.robin) }
+
+pub mixed_finishes : (job : JobData) (seed : ℕ) (start m : Machine) → Starts job start → (r : Mixed job seed start m) → Finishes job start r.turns m
+mixed_finishes job seed start m s r = record { starts = s; ran = r.ran; complete = subst IsComplete r.ran (mix_complete job start seed r.turns r.mix) }
+
+-- given turns, and then Robin anew
+pub full_by : (job : JobData) (start mid m : Machine) (given : List ℕ) → mid ≡ run job start given → (r : Robined job mid m) → IsFull job start given (given ++ r.turns)
+full_by job start mid m given e r = record { rest = r.turns; whole = refl; robin = subst (λ x. IsRobin job x None r.turns) e r.robin }
+
+pub full_finishes : (job : JobData) (start mid m : Machine) (given : List ℕ) → Starts job start → mid ≡ run job start given → (r : Robined job mid m) → Finishes job start (given ++ r.turns) m
+full_finishes job start mid m given s e r = record {
+  starts = s;
+  ran = run_append job start given r.turns ∙ ap (λ x. run job x r.turns) (sym e) ∙ r.ran;
+  complete = subst IsComplete r.ran (robin_complete job mid None r.turns r.robin);
+}
+
+-- the start is a moment of the run
+pub reached_start : (job : JobData) (start : Machine) → IsJob job → Starts job start → Reached job start
+reached_start job start is s = record { is_job = is; start = start; starts = s; turns = []; ran = refl }
