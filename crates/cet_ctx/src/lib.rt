@@ -3,6 +3,8 @@
 
 mod bench;
 mod runtime;
+#[cfg(test)]
+mod tests;
 
 pub use bench::bench_text;
 pub use runtime::runtime_text;
