@@ -48,12 +48,13 @@ fn runtime_is_assembled(rt: HostRuntime) -> Result<(), Fail> {
 #[test]
 fn bench_is_assembled(rt: HostRuntime) -> Result<(), Fail> {
     let alloc = rt.alloc();
-    let rows: [(u32, usize, &[u8]); 2] = [
-        (1, 471, &[0xbd, 1, 0, 0, 0]),
-        (1000, 474, &[0xbd, 0xe8, 3, 0, 0]),
+    let rows: [(u32, &[u8], usize, &[u8]); 2] = [
+        (1, b"mov ebp, 1\nagain: ", 471, &[0xbd, 1, 0, 0, 0]),
+        (1000, b"mov ebp, 1000\nagain: ", 474, &[0xbd, 0xe8, 3, 0, 0]),
     ];
-    for (count, len, code) in rows {
+    for (count, line, len, code) in rows {
         let text = bench_text(alloc, count)?;
+        assert_eq!(rt; text.as_slice().get(193..193 + line.len()), Some(line));
         assert_eq!(rt; text.len(), len);
         let program = program_of(alloc, text.as_slice(), runtime_text().as_bytes())
             .ok()
