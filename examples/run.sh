@@ -1,7 +1,8 @@
 #!/bin/sh
 # Assembles, lists and runs each example with the program that `rt ci` has left, and compares with the files beside it:
 # NAME.listing, NAME.report where there is one, and NAME.status, which has the exit status and the line on standard
-# error. The text of each listing is assembled again, and listed the same. The first argument may name another program.
+# error. The text of each listing is assembled again, and listed the same. A NAME.words has two lines: the words by
+# which the program is assembled, and those by which it is run. The first argument may name another program.
 cd "$(dirname "$0")" || exit 1
 cetvm=${1:-../crates/cetvm/out/cetvm}
 if [ ! -x "$cetvm" ]; then
@@ -18,14 +19,26 @@ fail() {
     failed=1
 }
 
+# Assembles a source by the words given. The runtime is appended here, since the program has no option for it yet.
+assemble() {
+    if [ "$1" = "asm --runtime" ]; then
+        { cat "$2"; echo; ../tools/texts.py runtime; } | "$cetvm" asm
+    else
+        "$cetvm" $1 < "$2"
+    fi
+}
+
 for source in *.s; do
     name=${source%.s}
     count=$((count + 1))
-    "$cetvm" asm < "$source" > "$work/image" || fail "$source is not assembled"
+    printf 'asm\nrun\n' > "$work/words"
+    if [ -f "$name.words" ]; then cp "$name.words" "$work/words"; fi
+    { read -r made; read -r run; } < "$work/words"
+    assemble "$made" "$source" > "$work/image" || fail "$source is not assembled"
     "$cetvm" dis < "$work/image" > "$work/listing" || fail "$name is not listed"
     cmp "$work/listing" "$name.listing" || fail "the listing of $name is another one"
     cut -d' ' -f3- "$work/listing" | "$cetvm" asm | "$cetvm" dis | cmp - "$work/listing" || fail "the listing of $name isn't read back"
-    "$cetvm" run < "$work/image" > "$work/report" 2> "$work/line"
+    "$cetvm" $run < "$work/image" > "$work/report" 2> "$work/line"
     echo "$?" > "$work/status"
     cat "$work/line" >> "$work/status"
     cmp "$work/status" "$name.status" || fail "$name ends otherwise"

@@ -4,6 +4,7 @@ pub mod Values
 pub mod Words
 pub mod Faults
 pub mod Grammar
+pub mod Help
 pub mod Reader
 pub mod Table
 pub mod GoodTable

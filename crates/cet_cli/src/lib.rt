@@ -2,6 +2,7 @@
 #![tactic(auto)]
 
 mod grammar;
+mod help;
 mod laws;
 mod limits;
 mod options;
@@ -14,6 +15,7 @@ mod turns;
 mod values;
 mod words;
 
+pub use help::help_text;
 pub use laws::tables_are_read;
 pub use options::{Plan, Settings};
 pub use turns::Turns;
