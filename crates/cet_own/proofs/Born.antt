@@ -1,5 +1,6 @@
 -- The draw of a thread's number: a thread is born onto the shadow stack that was made for it, or there is no number left.
 -- Source: own.
+use Rattle.cet_own.proofs.Still.{tells_below, not_below}
 use Rattle.std.proofs.Common.{◌≡◌, ℕ, ◌+◌, ◌%◌, ◌^◌, ◌<◌, ◌≤◌, inl, inr, true, false, List, [], ◌∷◌, Option, refl, sym, ◌∙◌, ap, subst, arith}
 use Rattle.std.specs.Prelude.{nat_lt, slice_index, slice_set}
 use Rattle.std.proofs.lemmas.Bool.Decides.{nat_tests}
@@ -30,6 +31,7 @@ use Rattle.cet_own.proofs.Fits.{of_class, none_of}
 use Rattle.cet_own.proofs.Holds.{IsMaker, Sound, Holds}
 use Rattle.cet_own.proofs.Kept.{ending_out, restorers_out, size_kept, lists_out, pages_out, pages_same, gates_out, gates_same}
 use Rattle.cet_own.proofs.Marks.{SameTokens, marks_out, marks_same}
+use Rattle.cet_own.proofs.HeldAfter.{notes_gate}
 use Rattle.cet_own.proofs.Owed.{Owed}
 use Rattle.cet_own.proofs.Writes.{stack_agrees, top_even}
 
@@ -93,6 +95,8 @@ module _ {image : ImageData} {t k : ℕ} {past : List Visit} {b : Book} {a : Acc
       changed (Born v start) (hand s (region b s).entries (Current v) b) ev tt
       (λ words is h ssp held stands note. of_class class.Seed (Born v start ∷ []) ev refl (ap (λ c. class_at c ssp held v) e ∙ is_birth ssp v held few))
       (λ words is h. bears_child s start e few child once ev)
+      (λ words is h. tells_below t b v e (λ j l. not_below next_word j (λ z. omega arith)))
+      (λ words is h. notes_gate v e ev (λ held. refl) (λ held j q. inl q))
       (λ words is h. born_way (made h.sound.book.shape) v start child.first child.none.regions)
       (λ words is h sound.
       subst (λ c. Holds image (after words c) (hand s (region b s).entries (Current v) b) × Spares t b words (after words c)) (sym e) (
@@ -110,6 +114,8 @@ module _ {image : ImageData} {t k : ℕ} {past : List Visit} {b : Book} {a : Acc
   -- nobody is born
   pub unborn : a ≡ access.FetchAdd next_word 1 → thread_limit ≤ v → numbered past ≡ false → changes ≡ [] → Owed image t k past b a v changes
   unborn e many once ev = record {
+    below = λ words is h. tells_below t b v e (λ j l. not_below next_word j (λ z. omega arith));
+    notes = λ words is h. notes_gate v e ev (λ held. refl) (λ held j q. inl q);
     counts = λ words is h. bears_nobody e many once (ap birth ev);
     fits = λ words is h ssp held stands note. none_of _ ev;
     keeps = λ words next is h still q. subst (Holds image (after words a)) (same_book t b next changes ev q) (does words h).0;

@@ -16,6 +16,7 @@ use Rattle.cet_own.specs.Stands.{OwnWord, own_slot, below_token}
 use Rattle.cet_own.proofs.Still.{KeepsRestorers, TellsBelow}
 use Rattle.cet_own.proofs.Counters.{CountsBy}
 use Rattle.cet_own.proofs.Fits.{Fits}
+use Rattle.cet_own.proofs.HeldAfter.{NotesGate}
 use Rattle.cet_own.proofs.Owed.{Owed}
 use Rattle.cet_own.proofs.ClassLaws.{one_book, sound_after}
 use Rattle.cet_own.proofs.Classes.{word_other, keeps_restorers}
@@ -46,8 +47,9 @@ pub spares_none : (t : ℕ) (b : Book) (words : List ℕ) → Spares t b words w
 spares_none t b words = record { own = λ y n w own. refl; restorers = λ s l n. n }
 
 -- it is enough to say to which book the change leads, that words and book are in step there, and which words were spared
-pub changed : {image : ImageData} {t k : ℕ} {past : List Visit} {b : Book} {a : Access} {v : ℕ} {changes : List Change} → (c : Change) (to : Book) → changes ≡ c ∷ [] → ChangeReturns c → ((words : List ℕ) → v ≡ answer words a → Holds image words b → Fits t past b a v changes) → ((words : List ℕ) → v ≡ answer words a → Holds image words b → CountsBy t past b a v changes) → ((words : List ℕ) → v ≡ answer words a → Holds image words b → TellsBelow t b a v) → ((words : List ℕ) → v ≡ answer words a → Holds image words b → book_after t b c ≡ Some to) → ((words : List ℕ) → v ≡ answer words a → Holds image words b → Sound to → Holds image (after words a) to × Spares t b words (after words a)) → Owed image t k past b a v changes
-changed {image = image} {t = t} {b = b} {a = a} {v = v} {changes = changes} c to ev returns fits counts below way does = record {
+pub changed : {image : ImageData} {t k : ℕ} {past : List Visit} {b : Book} {a : Access} {v : ℕ} {changes : List Change} → (c : Change) (to : Book) → changes ≡ c ∷ [] → ChangeReturns c → ((words : List ℕ) → v ≡ answer words a → Holds image words b → Fits t past b a v changes) → ((words : List ℕ) → v ≡ answer words a → Holds image words b → CountsBy t past b a v changes) → ((words : List ℕ) → v ≡ answer words a → Holds image words b → TellsBelow t b a v) → ((words : List ℕ) → v ≡ answer words a → Holds image words b → NotesGate k a v changes) → ((words : List ℕ) → v ≡ answer words a → Holds image words b → book_after t b c ≡ Some to) → ((words : List ℕ) → v ≡ answer words a → Holds image words b → Sound to → Holds image (after words a) to × Spares t b words (after words a)) → Owed image t k past b a v changes
+changed {image = image} {t = t} {b = b} {a = a} {v = v} {changes = changes} c to ev returns fits counts below notes way does = record {
+  notes = notes;
   fits = fits;
   below = below;
   counts = counts;

@@ -34,6 +34,7 @@ use Rattle.cet_own.proofs.Holds.{InUse, Marks, Sound, Holds}
 use Rattle.cet_own.proofs.Kept.{ending_out, restorers_out, size_kept, lists_out, pages_out, gates_out, gates_same}
 use Rattle.cet_own.proofs.Marks.{parked_place}
 use Rattle.cet_own.proofs.Fits.{of_class, none_of, is_claim}
+use Rattle.cet_own.proofs.HeldAfter.{notes_gate}
 use Rattle.cet_own.proofs.Owed.{Owed}
 use Rattle.cet_own.proofs.Writes.{in_there, list_kept, slot_out}
 use Rattle.cet_book.proofs.Changes.{same_book}
@@ -138,6 +139,7 @@ module _ {image : ImageData} {t k : ℕ} {past : List Visit} {b : Book} {a : Acc
       (λ words is h ssp held stands note. of_class class.Claim (Claimed (shadow_start + 4096 * (v + 1)) pages maker ∷ []) ev refl (ap (λ c. class_at c ssp held v) e ∙ is_claim (pages + 1) ssp v held))
       (λ words is h. draws_pages (pages + 1) (omega arith) e once (ap birth ev))
       (λ words is h. tells_below t b v e (λ j l. not_below draw_word j (λ z. omega arith)))
+      (λ words is h. notes_gate v e ev (λ held. refl) (λ held j q. inl q))
       (λ words is h. claimed_way t (shadow_start + 4096 * (v + 1)) pages maker b (draw_can_claim b v pages (drawn words is h) least fits))
       (λ words is h sound.
       let here = found words is in
@@ -162,6 +164,7 @@ module _ {image : ImageData} {t k : ℕ} {past : List Visit} {b : Book} {a : Acc
   overdraws n e most few once ev = record {
     counts = λ words is h. draws_pages n most e once (ap birth ev);
     below = λ words is h. tells_below t b v e (λ j l. not_below draw_word j (λ z. omega arith));
+    notes = λ words is h. notes_gate v e ev (λ held. refl) (λ held j q. inl q);
     fits = λ words is h ssp held stands note. none_of _ ev;
     keeps = λ words next is h still q. subst (Holds image (after words a)) (same_book t b next changes ev q) (does words is h).0;
     spares = λ words is h y u w own. (does words is h).1.own y w own;

@@ -1,6 +1,6 @@
 -- The classes of accesses that rows make: each pays what is owed. Source: own.
 use Rattle.std.proofs.Common.{◌≡◌, ◌≢◌, ℕ, ◌+◌, ◌-◌, ◌%◌, ◌^◌, ◌<◌, ◌≤◌, inl, inr, Bool, true, false, List, [], ◌∷◌, Option, Some, None, refl, sym, ◌∙◌, ap, subst, arith, get_or-set_other}
-use Rattle.std.specs.Prelude.{slice_index, slice_set, ◌==◌, if◌then◌else◌}
+use Rattle.std.specs.Prelude.{slice_index, slice_set, ◌==◌, if◌then◌else◌, bit_or, bit_and}
 use Rattle.cet_words.specs.Access.{answer, after}
 use Rattle.cet_words.specs.Entries.{entry_of}
 use Rattle.cet_words.specs.Job.{ImageData}
@@ -24,14 +24,15 @@ use Rattle.cet_book.proofs.Held.{Free}
 use Rattle.cet_own.proofs.Kept.{holds_ended, holds_out, holds_entry, holds_below_token}
 use Rattle.cet_own.proofs.Own.{below_top, holds_push, holds_pop}
 use Rattle.cet_own.proofs.Fits.{of_class, none_of, none_held, some_held, is_push, is_load, is_entry, is_end}
+use Rattle.cet_own.proofs.HeldAfter.{keeps_note, notes_gate, taken_own, no_token, exchange_misses, takes_note, gives_note}
 use Rattle.cet_own.proofs.Owed.{Owed}
 use Rattle.cet_book.proofs.Changes.{same_book, then_by}
 use Rattle.std.proofs.lemmas.Bool.Decides.{nat_tests}
-use Rattle.cet_page.specs.Script.{birth}
+use Rattle.cet_page.specs.Script.{birth, held_after}
 use Rattle.cet_page.specs.Trail.{Visit}
 use Rattle.cet_own.specs.ExitWord.{IsEnding}
 use Rattle.cet_own.specs.Class.{class_at}
-use Rattle.cet_own.specs.Past.{next_word, draw_word, restorer_word, frame_pushed, below_frame, leaves_word}
+use Rattle.cet_own.specs.Past.{next_word, draw_word, restorer_word, frame_pushed, below_frame, held_by, leaves_word}
 use Rattle.cet_own.specs.declared.access_classes.Class.TheVariants as class
 use Rattle.cet_own.proofs.Counters.{CountsBy, no_count, LeavesCounters, alters}
 use Rattle.cet_own.specs.Stands.{OwnWord, own_slot, below_token}
@@ -43,7 +44,7 @@ pub own_region : {image : ImageData} {words : List ℕ} {b : Book} (t m : ℕ) �
 own_region t m h e = record { shape = h.sound.book.shape; current = e }
 
 -- the token of a stack with a holder
-token_held : {image : ImageData} {words : List ℕ} {b : Book} (t k : ℕ) → Holds image words b → k < 8 → stack_of b k ≡ Some t → slice_index words (token_word k) ≡ token k + 1
+pub token_held : {image : ImageData} {words : List ℕ} {b : Book} (t k : ℕ) → Holds image words b → k < 8 → stack_of b k ≡ Some t → slice_index words (token_word k) ≡ token k + 1
 token_held t k h l e = h.gates k l ∙ ap (λ o. token k + busy o) e
 
 free_by : (o : Option ℕ) (p : ℕ) → p + busy o ≡ p → o ≡ None
@@ -143,7 +144,7 @@ exchange_other : (words : List ℕ) (word x w : ℕ) (c : Bool) → w ≢ word �
 exchange_other words word x w true n = word_other words word x w n
 exchange_other words word x w false n = refl
 
-token_spares : (words : List ℕ) (b : Book) (j expected x : ℕ) → j < 8 → Spared b words (after words (access.CompareExchange (token_word j) expected x))
+pub token_spares : (words : List ℕ) (b : Book) (j expected x : ℕ) → j < 8 → Spared b words (after words (access.CompareExchange (token_word j) expected x))
 token_spares words b j expected x l = record {
   own = λ y w own. exchange_other words (token_word j) x w (slice_index words (token_word j) == expected) (own_token y w j b l own);
   restorers = exchange_restorers words (token_word j) x (slice_index words (token_word j) == expected) (inr (omega arith));
@@ -176,8 +177,12 @@ other_word w n = grind (arith, nat_tests)
 pub next_other : (w : ℕ) → w ≢ next_word → (w == next_word) ≡ false
 next_other w n = grind (arith, nat_tests)
 
-pub quiet : {image : ImageData} {t k : ℕ} {past : List Visit} {b : Book} {a : Access} {v : ℕ} {changes : List Change} → changes ≡ [] → LeavesCounters a → TellsBelow t b a v → ((words : List ℕ) → v ≡ answer words a → Holds image words b → Holds image (after words a) b × Spared b words (after words a)) → Owed image t k past b a v changes
-quiet {image = image} {t = t} {b = b} {a = a} {changes = changes} ev leaves below h = record {
+pub quiet : {image : ImageData} {t k : ℕ} {past : List Visit} {b : Book} {a : Access} {v : ℕ} {changes : List Change} → changes ≡ [] → LeavesCounters a → TellsBelow t b a v → ((held : Option ℕ) → held ≡ held_by a v held) → ((words : List ℕ) → v ≡ answer words a → Holds image words b → Holds image (after words a) b × Spared b words (after words a)) → Owed image t k past b a v changes
+quiet {image = image} {t = t} {b = b} {a = a} {v = v} {changes = changes} ev leaves below notes h = record {
+  notes = λ words is h. record {
+    says = λ held. ap (λ cs. held_after cs held) ev ∙ notes held;
+    own = λ held j q. inl (sym (ap (λ cs. held_after cs held) ev) ∙ q);
+  };
   below = λ words is h. below;
   counts = λ words is holds. no_count_by leaves (ap birth ev);
   fits = λ words is holds ssp held stands note. none_of _ ev;
@@ -188,21 +193,21 @@ quiet {image = image} {t = t} {b = b} {a = a} {changes = changes} ev leaves belo
 
 module _ {image : ImageData} {t k : ℕ} {past : List Visit} {b : Book} {a : Access} {v : ℕ} {changes : List Change} where
   pub looks : (page : ℕ) → a ≡ access.Look page → changes ≡ [] → Owed image t k past b a v changes
-  looks page e ev = quiet ev (leaves_by e refl refl) (tells_below t b v e (λ j l. refl)) (λ words is h. subst (λ c. Holds image (after words c) b × Spared b words (after words c)) (sym e) (h, record { own = λ y w own. refl; restorers = λ s l n. n }))
+  looks page e ev = quiet ev (leaves_by e refl refl) (tells_below t b v e (λ j l. refl)) (keeps_note v e (λ held. refl)) (λ words is h. subst (λ c. Holds image (after words c) b × Spared b words (after words c)) (sym e) (h, record { own = λ y w own. refl; restorers = λ s l n. n }))
 
   pub loads : (word : ℕ) → a ≡ access.Load word → TellsBelow t b a v → changes ≡ [] → Owed image t k past b a v changes
-  loads word e below ev = quiet ev (leaves_by e refl refl) below (λ words is h. subst (λ c. Holds image (after words c) b × Spared b words (after words c)) (sym e) (h, record { own = λ y w own. refl; restorers = λ s l n. n }))
+  loads word e below ev = quiet ev (leaves_by e refl refl) below (keeps_note v e (λ held. refl)) (λ words is h. subst (λ c. Holds image (after words c) b × Spared b words (after words c)) (sym e) (h, record { own = λ y w own. refl; restorers = λ s l n. n }))
 
   -- of a thread that holds no supervisor stack
   pub free_loads : (word : ℕ) → a ≡ access.Load word → Free t b → changes ≡ [] → Owed image t k past b a v changes
   free_loads word e free ev = loads word e (λ j l h q. absurd (free j h)) ev
 
   pub stores : (word value : ℕ) → a ≡ access.Store word value → IsOut word → changes ≡ [] → Owed image t k past b a v changes
-  stores word value e out ev = quiet ev (leaves_by e (other_word word out.draw) (next_other word out.next)) (tells_below t b v e (λ j l. not_below word j (λ z. out.below j l (sym z)))) (λ words is h. subst (λ c. Holds image (after words c) b × Spared b words (after words c)) (sym e) (holds_out image words b word value out h, out_spared words b word value out))
+  stores word value e out ev = quiet ev (leaves_by e (other_word word out.draw) (next_other word out.next)) (tells_below t b v e (λ j l. not_below word j (λ z. out.below j l (sym z)))) (keeps_note v e (λ held. refl)) (λ words is h. subst (λ c. Holds image (after words c) b × Spared b words (after words c)) (sym e) (holds_out image words b word value out h, out_spared words b word value out))
 
   pub exchanges : (word expected value : ℕ) → a ≡ access.CompareExchange word expected value → IsOut word → changes ≡ [] → Owed image t k past b a v changes
   exchanges word expected value e out ev =
-      quiet ev (leaves_by e (other_word word out.draw) (next_other word out.next)) (tells_below t b v e (λ j l. not_below word j (λ z. out.below j l (sym z)))) (λ words is h. subst (λ c. Holds image (after words c) b × Spared b words (after words c)) (sym e) (
+      quiet ev (leaves_by e (other_word word out.draw) (next_other word out.next)) (tells_below t b v e (λ j l. not_below word j (λ z. out.below j l (sym z)))) (keeps_note v e (no_token word expected value v out.token)) (λ words is h. subst (λ c. Holds image (after words c) b × Spared b words (after words c)) (sym e) (
         wrote image words b word expected value (slice_index words word == expected) refl h (λ _. holds_out image words b word value out h),
         record {
           own = λ y w own. exchange_other words word value w (slice_index words word == expected) (own_out y w word b out own);
@@ -211,19 +216,33 @@ module _ {image : ImageData} {t k : ℕ} {past : List Visit} {b : Book} {a : Acc
       ))
 
   pub swaps : (word value : ℕ) → a ≡ access.Swap word value → IsOut word → changes ≡ [] → Owed image t k past b a v changes
-  swaps word value e out ev = quiet ev (leaves_by e (other_word word out.draw) (next_other word out.next)) (tells_below t b v e (λ j l. not_below word j (λ z. out.below j l (sym z)))) (λ words is h. subst (λ c. Holds image (after words c) b × Spared b words (after words c)) (sym e) (holds_out image words b word value out h, out_spared words b word value out))
+  swaps word value e out ev = quiet ev (leaves_by e (other_word word out.draw) (next_other word out.next)) (tells_below t b v e (λ j l. not_below word j (λ z. out.below j l (sym z)))) (keeps_note v e (λ held. refl)) (λ words is h. subst (λ c. Holds image (after words c) b × Spared b words (after words c)) (sym e) (holds_out image words b word value out h, out_spared words b word value out))
 
   pub adds : (word value : ℕ) → a ≡ access.FetchAdd word value → IsOut word → changes ≡ [] → Owed image t k past b a v changes
   adds word value e out ev =
-      quiet ev (leaves_by e (other_word word out.draw) (next_other word out.next)) (tells_below t b v e (λ j l. not_below word j (λ z. out.below j l (sym z)))) (λ words is h. subst (λ c. Holds image (after words c) b × Spared b words (after words c)) (sym e) (
+      quiet ev (leaves_by e (other_word word out.draw) (next_other word out.next)) (tells_below t b v e (λ j l. not_below word j (λ z. out.below j l (sym z)))) (keeps_note v e (λ held. refl)) (λ words is h. subst (λ c. Holds image (after words c) b × Spared b words (after words c)) (sym e) (
         holds_out image words b word ((slice_index words word + value) % 2 ^ 64) out h,
         out_spared words b word ((slice_index words word + value) % 2 ^ 64) out,
+      ))
+
+  pub ors : (word value : ℕ) → a ≡ access.FetchOr word value → IsOut word → changes ≡ [] → Owed image t k past b a v changes
+  ors word value e out ev =
+      quiet ev (leaves_by e (other_word word out.draw) (next_other word out.next)) (tells_below t b v e (λ j l. not_below word j (λ z. out.below j l (sym z)))) (keeps_note v e (λ held. refl)) (λ words is h. subst (λ c. Holds image (after words c) b × Spared b words (after words c)) (sym e) (
+        holds_out image words b word (bit_or (slice_index words word) value) out h,
+        out_spared words b word (bit_or (slice_index words word) value) out,
+      ))
+
+  pub ands : (word value : ℕ) → a ≡ access.FetchAnd word value → IsOut word → changes ≡ [] → Owed image t k past b a v changes
+  ands word value e out ev =
+      quiet ev (leaves_by e (other_word word out.draw) (next_other word out.next)) (tells_below t b v e (λ j l. not_below word j (λ z. out.below j l (sym z)))) (keeps_note v e (λ held. refl)) (λ words is h. subst (λ c. Holds image (after words c) b × Spared b words (after words c)) (sym e) (
+        holds_out image words b word (bit_and (slice_index words word) value) out h,
+        out_spared words b word (bit_and (slice_index words word) value) out,
       ))
 
   -- the process ends, where it hasn't ended before
   pub finishes : (value : ℕ) → a ≡ access.CompareExchange exit_word 0 value → IsEnding value → changes ≡ [] → Owed image t k past b a v changes
   finishes value e ending ev =
-      quiet ev (leaves_by e (other_word exit_word (omega arith)) (next_other exit_word (omega arith))) (tells_below t b v e (λ j l. not_below exit_word j (λ z. omega arith))) (λ words is h. subst (λ c. Holds image (after words c) b × Spared b words (after words c)) (sym e) (
+      quiet ev (leaves_by e (other_word exit_word (omega arith)) (next_other exit_word (omega arith))) (tells_below t b v e (λ j l. not_below exit_word j (λ z. omega arith))) (keeps_note v e (no_token exit_word 0 value v (λ j l z. omega arith))) (λ words is h. subst (λ c. Holds image (after words c) b × Spared b words (after words c)) (sym e) (
         wrote image words b exit_word 0 value (slice_index words exit_word == 0) refl h (λ _. holds_ended image words b value ending h),
         record {
           own = λ y w own. exchange_other words exit_word value w (slice_index words exit_word == 0) (own_exit y w b own);
@@ -234,7 +253,7 @@ module _ {image : ImageData} {t k : ℕ} {past : List Visit} {b : Book} {a : Acc
   -- The entry of a page of the mmap area or the shadow area is stored: 0, or its present one; in the shadow area that of a page
   -- in a region.
   pub sets_page : (page x : ℕ) → a ≡ access.Store (entry_word page) x → first_mmap_page ≤ page → page < first_kernel_page → IsEntry image page x → (x ≢ 0 → first_shadow_page ≤ page → (i : ℕ) × LiesIn (region b i) page) → changes ≡ [] → Owed image t k past b a v changes
-  sets_page page x e lo hi entry lies ev = quiet ev (leaves_by e (other_word (entry_word page) (omega arith)) (next_other (entry_word page) (omega arith))) (tells_below t b v e (λ j l. not_below (entry_word page) j (λ z. omega arith))) (λ words is h. subst (λ c. Holds image (after words c) b × Spared b words (after words c)) (sym e) (
+  sets_page page x e lo hi entry lies ev = quiet ev (leaves_by e (other_word (entry_word page) (omega arith)) (next_other (entry_word page) (omega arith))) (tells_below t b v e (λ j l. not_below (entry_word page) j (λ z. omega arith))) (keeps_note v e (λ held. refl)) (λ words is h. subst (λ c. Holds image (after words c) b × Spared b words (after words c)) (sym e) (
     holds_entry image words b page x lo hi entry lies h,
     record {
       own = λ y w own. word_other words (entry_word page) x w (own_entry y w (entry_word page) b (omega arith) own);
@@ -251,7 +270,7 @@ module _ {image : ImageData} {t k : ℕ} {past : List Visit} {b : Book} {a : Acc
   -- the way in finds the supervisor stack busy
   pub refused : (value : ℕ) → k < 8 → a ≡ access.CompareExchange (token_word k) (token k) value → v ≢ token k → changes ≡ [] → Owed image t k past b a v changes
   refused value l e n ev =
-      quiet ev (leaves_by e (other_word (token_word k) (omega arith)) (next_other (token_word k) (omega arith))) (tells_below t b v e (λ j m. not_below (token_word k) j (λ z. omega arith))) (λ words is h.
+      quiet ev (leaves_by e (other_word (token_word k) (omega arith)) (next_other (token_word k) (omega arith))) (tells_below t b v e (λ j m. not_below (token_word k) j (λ z. omega arith))) (keeps_note v e (exchange_misses (token_word k) (token k) value v n)) (λ words is h.
       let n' : slice_index words (token_word k) ≢ token k = λ z. n (is ∙ ap (answer words) e ∙ z) in
       subst (λ c. Holds image (after words c) b × Spared b words (after words c)) (sym e) (
         subst (λ w. Holds image w b) (sym (exchange_fails words (token_word k) (token k) value n')) h,
@@ -265,6 +284,7 @@ module _ {image : ImageData} {t k : ℕ} {past : List Visit} {b : Book} {a : Acc
   -- the way in stores the kernel's return address below its token
   pub settles : k < 8 → a ≡ access.Store (token_word k - 1) kernel_return → stack_of b k ≡ Some t → changes ≡ [] → Owed image t k past b a v changes
   settles l e held ev = record {
+    notes = λ words is h. notes_gate v e ev (λ note. refl) (λ note j q. inl q);
     below = λ words is h j m own q. ap (λ c. leaves_word c v) e;
     fits = λ words is h ssp held stands note. none_of _ ev;
     counts = λ words is h. no_count_by (leaves_by e (other_word (token_word k - 1) (omega arith)) (next_other (token_word k - 1) (omega arith))) (ap birth ev);
@@ -287,6 +307,7 @@ module _ {image : ImageData} {t k : ℕ} {past : List Visit} {b : Book} {a : Acc
   -- a return address is stored below the top of the thread's region
   pub pushes : (m back : ℕ) → (region b m).holder ≡ Current t → a ≡ access.Store (slot (top (region b m) - 8)) back → (region b m).start + 8 ≤ top (region b m) → IsReturn back → frame_pushed past ≡ false → changes ≡ Called back ∷ [] → Owed image t k past b a v changes
   pushes m back current e room is_return level ev = record {
+    notes = λ words is h. notes_gate v e ev (λ note. refl) (λ note j q. inl q);
     below = λ words is h.
         let high = (below_top (own_region t m h current) room).place.high in
         tells_below t b v e (λ j l. not_below (slot (top (region b m) - 8)) j (λ z. omega arith));
@@ -316,6 +337,7 @@ module _ {image : ImageData} {t k : ℕ} {past : List Visit} {b : Book} {a : Acc
   -- the newest entry goes, where the book has that change
   pub pops : (m : ℕ) → (region b m).holder ≡ Current t → a ≡ access.Load (slot (top (region b m))) → Free t b → frame_pushed past ≡ false → changes ≡ Returned ∷ [] → Owed image t k past b a v changes
   pops m current e free level ev = record {
+    notes = λ words is h. notes_gate v e ev (λ note. refl) (λ note j q. inl q);
     below = λ words is h j l own q. absurd (free j own);
     fits = λ words is h ssp held stands note.
         let at' = subst (λ f. Stacked t b (below_frame f ssp)) level stands in
@@ -339,6 +361,7 @@ module _ {image : ImageData} {t k : ℕ} {past : List Visit} {b : Book} {a : Acc
   -- the way in takes the supervisor stack
   pub enters : k < 8 → a ≡ access.CompareExchange (token_word k) (token k) (token k + 1) → v ≡ token k → Free t b → changes ≡ Busied k ∷ [] → Owed image t k past b a v changes
   enters l e found free ev = record {
+    notes = λ words is h. notes_gate v e ev (takes_note k v l found) (λ note j q. inr (taken_own k j q));
     below = λ words is h. tells_below t b v e (λ j m. not_below (token_word k) j (λ z. omega arith));
     fits = λ words is h ssp held stands note. of_class class.Neutral (Busied k ∷ []) ev refl (ap (λ c. class_at c ssp held v) e ∙ is_entry k (token k) (token k + 1) ssp v held l (none_held b held free note));
     counts = λ words is h. no_count_by (leaves_by e (other_word (token_word k) (omega arith)) (next_other (token_word k) (omega arith))) (ap birth ev);
@@ -357,6 +380,7 @@ module _ {image : ImageData} {t k : ℕ} {past : List Visit} {b : Book} {a : Acc
   -- the way out gives it back
   pub leaves : k < 8 → a ≡ access.CompareExchange (token_word k) (token k + 1) (token k) → stack_of b k ≡ Some t → changes ≡ Freed k ∷ [] → Owed image t k past b a v changes
   leaves l e held ev = record {
+    notes = λ words is h. notes_gate v e ev (gives_note k v l (is ∙ ap (answer words) e ∙ token_held t k h l held)) (λ note j q. cc);
     below = λ words is h. tells_below t b v e (λ j m. not_below (token_word k) j (λ z. omega arith));
     fits = λ words is h ssp noted stands note. of_class class.End (Freed k ∷ []) ev refl (ap (λ c. class_at c ssp noted v) e ∙ is_end k (token k + 1) (token k) ssp v noted l (some_held b noted k held note));
     counts = λ words is h. no_count_by (leaves_by e (other_word (token_word k) (omega arith)) (next_other (token_word k) (omega arith))) (ap birth ev);
@@ -375,6 +399,7 @@ module _ {image : ImageData} {t k : ℕ} {past : List Visit} {b : Book} {a : Acc
   -- and the thread's region may end with it
   pub exits : (m : ℕ) → k < 8 → a ≡ access.CompareExchange (token_word k) (token k + 1) (token k) → stack_of b k ≡ Some t → (region b m).holder ≡ Current t → changes ≡ Ended ∷ Freed k ∷ [] → Owed image t k past b a v changes
   exits m l e held current ev = record {
+    notes = λ words is h. notes_gate v e ev (gives_note k v l (is ∙ ap (answer words) e ∙ token_held t k h l held)) (λ note j q. cc);
     below = λ words is h. tells_below t b v e (λ j n. not_below (token_word k) j (λ z. omega arith));
     fits = λ words is h ssp noted stands note. of_class class.End (Ended ∷ Freed k ∷ []) ev refl (ap (λ c. class_at c ssp noted v) e ∙ is_end k (token k + 1) (token k) ssp v noted l (some_held b noted k held note));
     counts = λ words is h. no_count_by (leaves_by e (other_word (token_word k) (omega arith)) (next_other (token_word k) (omega arith))) (ap birth ev);

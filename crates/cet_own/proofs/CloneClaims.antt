@@ -3,6 +3,7 @@ use Rattle.std.proofs.Common.{◌≡◌, ◌≢◌, ℕ, ◌+◌, ◌-◌, ◌*�
 use Rattle.std.specs.Prelude.{◌==◌, ◌&&◌, if◌then◌else◌, nat_lt}
 use Rattle.std.proofs.lemmas.Bool.Decides.{nat_tests}
 use Rattle.cet_words.specs.Change.{Born}
+use Rattle.cet_words.specs.Entries.{shadow_entry}
 use Rattle.cet_words.specs.Job.{JobData}
 use Rattle.cet_words.specs.Layout.{entry_word, next_thread_word, thread_limit, token_word}
 use Rattle.cet_words.specs.declared.accesses.Access.TheVariants as access
@@ -14,7 +15,7 @@ use Rattle.cet_book.proofs.Hand.{hand, Made, bears, born_others, hand_same, hand
 use Rattle.cet_book.proofs.Top.{AtTop}
 use Rattle.cet_book.proofs.Ways.{born_way}
 use Rattle.cet_page.specs.Finish.{rdi, rsi}
-use Rattle.cet_page.specs.MapShadowStack.{drawn_page, drawn_start, shadow_entry}
+use Rattle.cet_page.specs.MapShadowStack.{drawn_page, drawn_start}
 use Rattle.cet_page.specs.Parts.{clears, fetch_add_as, stores}
 use Rattle.cet_page.specs.Processes.{bear, bear_by, bore, born_if, clone, draw_thread, give_up, makes_thread, thread_pages}
 use Rattle.cet_page.specs.Script.{done, ◌>>=◌}
@@ -62,7 +63,7 @@ module _ (job : JobData) (arch : Arch) (l : own_stack job arch.number < 8) (free
 
   -- from the draw of a number on the row has drawn one
   numbers_on : {now : Progress} {left : Option ℕ} {b : Book} → Inside arch.number gate (counted_by true false) now left b arch.ssp → Inside arch.number gate (counted_by true true) (record { framed = now.framed; drawing = now.drawing; numbering = true }) left b arch.ssp
-  numbers_on i = record { stacked = i.stacked; holds = i.holds; level = ap (λ (x : Progress). record { framed = x.framed; drawing = x.drawing; numbering = true }) i.level; settled = i.settled }
+  numbers_on i = record { stacked = i.stacked; holds = i.holds; level = ap (λ (x : Progress). record { framed = x.framed; drawing = x.drawing; numbering = true }) i.level; settled = i.settled; alone = i.alone }
 
   bore_claim : (past : List Visit) (before s : State) (child start : ℕ) → Numbering past s → Leaves job arch l past before s (bore arch child start)
   bore_claim past before s child start within = gate_out_then job arch l (Ends job arch) past before s _ within (λ p z n rest. (rested rest, λ held now. free, tt))
@@ -92,7 +93,7 @@ module _ (job : JobData) (arch : Arch) (l : own_stack job arch.number < 8) (free
       let way = born_way m v (drawn_start d) begun.first none.regions in
       let top' = parent_top m v none.regions within.stacked.top in
       let within1 : Inside arch.number gate (counted_by true false) (progress past) (left_in past (token_word gate - 1)) (hand i (region now.book i).entries (Current v) now.book) arch.ssp
-      = record { stacked = record { top = top'; low = within.stacked.low; high = within.stacked.high }; holds = within.holds; level = within.level; settled = within.settled } in (
+      = record { stacked = record { top = top'; low = within.stacked.low; high = within.stacked.high }; holds = within.holds; level = within.level; settled = within.settled; alone = within.alone } in (
         births i (drawn_start d) refl few child once refl,
         record now { book = hand i (region now.book i).entries (Current v) now.book },
         one_after arch.number now (hand i (region now.book i).entries (Current v) now.book) (Born v (drawn_start d)) way,

@@ -209,8 +209,11 @@ first_row job j =
     record {
       waits = w;
       number = refl;
+      holding = refl;
+      own = λ k e. cc;
+      told = tt;
       before = record { book = first_book };
-      left = row_claim job j (unheld (first_core job).arch) (record { book = first_book }) (record { book = first_book }) w.state.made first_rest;
+      left = row_claim job j (unheld (first_core job).arch) (record { book = first_book }) (record { book = first_book }) (record { number = w.state.number; made = w.state.made }) first_rest;
     }
 
 first_thread : (job : JobData) → IsJob job → (t : ℕ) → ThreadStands job t (record { book = first_book }) (slice_get (record { core = first_core job; trace = [] } ∷ []) t)

@@ -80,6 +80,16 @@ module _ (p ssp v : ℕ) (held : Option ℕ) (place : Place p) where
       let plain : nat_lt next (2 ^ 63) ≡ true = grind (arith, nat_tests) in
       rw (low_in, high_in, no_token, here, plain) refl
 
+  -- two words below SSP, whatever is stored there
+  pub is_push_lower : (next : ℕ) → next ≢ p + 9 → p + 16 ≡ ssp → class_at (access.Store (slot p) next) ssp held v ≡ class.Push
+  is_push_lower next other below =
+      let t = token_is p place in
+      let at = address_is p place in
+      let no_token : (next == restore_token (address_of (slot p) + 8)) ≡ false = grind (arith, nat_tests) in
+      let not_here : (address_of (slot p) + 8 == ssp) ≡ false = (let n : address_of (slot p) + 8 ≢ ssp = omega arith in grind (arith, nat_tests)) in
+      let lower : (address_of (slot p) + 16 == ssp) ≡ true = grind (arith, nat_tests) in
+      rw (low_in, high_in, no_token, not_here, lower) refl
+
   pub is_load : is_some held ≡ false → p ≡ ssp → class_at (access.Load (slot p)) ssp held v ≡ class.Raise
   is_load free same =
       let at = address_is p place in

@@ -1,25 +1,31 @@
 -- What a thread claims of the gate's way in and way out. Source: own.
-use Rattle.std.proofs.Common.{◌≡◌, ℕ, ◌+◌, ◌-◌, ◌<◌, ◌≤◌, inl, inr, true, length, Option, Some, None, refl, sym, ◌∙◌, ap, arith, eqb, List, ◌≢◌}
+use Rattle.std.proofs.Common.{◌∷◌, suc, ◌≡◌, ℕ, ◌+◌, ◌-◌, ◌<◌, ◌≤◌, inl, inr, true, length, Option, Some, None, refl, sym, ◌∙◌, ap, arith, eqb, List, ◌≢◌}
 use Rattle.std.specs.Prelude.{option_map, option_and_then}
 use Rattle.std.proofs.lemmas.Bool.{cases_lt}
 use Rattle.std.proofs.lemmas.Bool.Decides.{eqb_tells, nat_tests}
 use Rattle.cet_words.specs.Layout.{token, token_page, token_word, kernel_return}
 use Rattle.cet_words.specs.Job.{JobData}
-use Rattle.cet_words.specs.Change.{Busied, Freed}
+use Rattle.cet_words.specs.Change.{Busied, Freed, Popped}
 use Rattle.cet_isa.specs.declared.threads.Arch.{Arch}
+use Rattle.cet_book.specs.declared.entries.Entry.{Entry}
+use Rattle.cet_book.specs.declared.entries.Entry.TheVariants.{Frame}
 use Rattle.cet_book.specs.declared.entries.Holder.TheVariants.{Lost}
-use Rattle.cet_book.specs.Book.{Book, region, top, stack_of, put_stack, current_of, book_after}
+use Rattle.cet_book.specs.Book.{Book, Region, region, relist, top, stack_of, put_stack, current_of, book_after}
 use Rattle.cet_book.specs.Shape.{StackShape}
 use Rattle.cet_book.proofs.Edits.{Owned, owned, current_holds}
 use Rattle.cet_book.proofs.Hand.{hand, end_none}
 use Rattle.cet_book.proofs.Supervisor.{stack_of-put_stack, current_of-put_stack}
-use Rattle.cet_book.proofs.Ways.{busied_way, freed_way, ended_way}
+use Rattle.cet_book.proofs.Kept.{book_kept}
+use Rattle.cet_book.proofs.Relies.{Relies, owns_current}
+use Rattle.cet_book.proofs.Top.{relist_top}
+use Rattle.cet_book.proofs.Ways.{busied_way, freed_way, ended_way, popped_way}
 use Rattle.cet_page.specs.Script.{Script, ◌>>=◌}
 use Rattle.cet_page.specs.Parts.{compare_exchange_as, store, store_as, load, load_as}
 use Rattle.cet_page.specs.declared.finishes.Leaving.TheVariants as leaving
 use Rattle.cet_page.specs.Gate.{gate_in, gate_out}
 use Rattle.cet_own.specs.Stands.{busy}
-use Rattle.cet_own.proofs.Standing.{Stacked, HasNone}
+use Rattle.cet_own.proofs.Popped.{pops_frame}
+use Rattle.cet_own.proofs.Standing.{Stacked, HasNone, stacked}
 use Rattle.cet_book.proofs.Held.{Free, given_held}
 use Rattle.cet_own.specs.Stands.{below_token}
 use Rattle.cet_own.proofs.Owed.{State, own_stack}
@@ -71,6 +77,13 @@ ended_none t m b o = elim (cases_lt (current_of t (hand m (region b m).entries L
   | inl l ↦ absurd (end_none o (current_of t (hand m (region b m).entries Lost b)) (current_holds t (hand m (region b m).entries Lost b) l))
   | inr g ↦ g
 ]
+
+-- the list of a thread's own region, whatever the others did
+own_entries : {t : ℕ} {b now : Book} {es : List Entry} → Relies t b now → current_of t b < length b.regions → (region b (current_of t b)).entries ≡ es → (region now (current_of t now)).entries ≡ es
+own_entries {t = t} {b = b} {now = now} r has list =
+    let same : region now (current_of t now) ≡ region b (current_of t b)
+    = ap (region now) (r.found has) ∙ r.kept (current_of t b) (owns_current t (region b (current_of t b)).holder (current_holds t b has)) in
+    ap (λ (q : Region). q.entries) same ∙ list
 
 module _ (job : JobData) (arch : Arch) (l : own_stack job arch.number < 8) where
   -- the thread's supervisor stack
@@ -154,6 +167,55 @@ module _ (job : JobData) (arch : Arch) (l : own_stack job arch.number < 8) where
                         stacked = stacked_put arch.number gate (below_frame d.framed arch.ssp) None later.book inside''.stacked;
                         level = inside''.level;
                         free = free_given arch.number gate later.book stacks.eight l stacks inside''.holds;
+                      }),
+                    ),
+              ),
+            ),
+      ))
+
+  -- the book after the newest entry of the thread's region went
+  abbrev pub popped : Book → List Entry → Book
+  popped b es = relist (current_of arch.number b) es b
+
+  -- the newest entry, a frame's, goes with the way out
+  pub popped_out_then : {A : Type 0} (Q : List Visit → State → State → A → Type 0) (past : List Visit) (before s : State) (es : List Entry) (f : Unit {0} → Script A) → (region s.book (current_of arch.number s.book)).entries ≡ Frame ∷ es → Inside arch.number gate untouched (progress past) (left_in past (token_word gate - 1)) s.book arch.ssp → ((p : List Visit) (z n : State) → Resting arch.number untouched (progress p) n.book (arch.ssp + 8) → Claim job arch Q p z n (f tt)) → Claim job arch Q past before s (gate_out leaving.Popped gate >>= f)
+  unfolding gate_out compare_exchange_as load_as
+  popped_out_then Q past before s es f list inside h =
+      claim_bind job arch Q past before s (gate_out leaving.Popped gate) f
+      (claim_bind job arch (λ p z n x. Claim job arch Q p z n (f x)) past before s (load (token_word gate - 1)) _ (
+        inside_stacked inside,
+        λ now r v known.
+            let inside' = inside_kept r inside in
+            let list' : (region now.book (current_of arch.number now.book)).entries ≡ Frame ∷ es = own_entries r inside.stacked.top.has list in
+            let found : v ≡ kernel_return = known.left (token_word gate - 1) kernel_return (below_token gate l inside'.holds refl) inside.settled refl in (
+              reloads l refl found refl,
+              now,
+              refl,
+              claim_bind job arch (λ p z n x. Claim job arch Q p z n (f x)) _ now now _ _ (
+                (inside_stacked inside'),
+                λ later r' found known.
+                    let inside'' = inside_kept r' inside' in
+                    let stacks = known.sound.book.stacks in
+                    let has = inside''.stacked.top.has in
+                    let at = inside''.stacked.top.at in
+                    let m = current_of arch.number later.book in
+                    let list'' : (region later.book (current_of arch.number later.book)).entries ≡ Frame ∷ es = own_entries r' inside'.stacked.top.has list' in
+                    let o : Owned arch.number (current_of arch.number later.book) later.book = owned arch.number later.book known.sound.book.shape has in
+                    let way = popped_way o es list'' in
+                    let sh = (book_kept arch.number Popped later.book (popped later.book es) known.sound.book way).book.shape in
+                    let room = (known.sound.book.shape.fits (current_of arch.number later.book)).room in
+                    let longer : length (region later.book (current_of arch.number later.book)).entries ≡ suc (length es) = ap (λ (q : List Entry). length q) list'' in
+                    let top' = relist_top o es sh (arch.ssp + 8) (omega arith) in
+                    let holds : stack_of (popped later.book es) gate ≡ Some arch.number = inside''.holds in (
+                      pops_frame (current_of arch.number later.book) es l refl inside''.holds o.current list'' refl,
+                      record later { book = given (popped later.book es) },
+                      ap (λ (q : Option Book). option_map (λ b. record later { book = b }) (option_and_then (λ n. option_and_then (λ x. Some x) (book_after arch.number n (Freed gate))) q)) way
+                          ∙ ap (λ (q : Option Book). option_map (λ b. record later { book = b }) (option_and_then (λ x. Some x) q))
+                          (freed_way arch.number gate (popped later.book es) holds),
+                      h _ later (record later { book = given (popped later.book es) }) (record {
+                        stacked = stacked_put arch.number gate (arch.ssp + 8) None (popped later.book es) (stacked arch.number (popped later.book es) (arch.ssp + 8) sh top');
+                        level = inside''.level;
+                        free = free_given arch.number gate (popped later.book es) stacks.eight l stacks holds;
                       }),
                     ),
               ),

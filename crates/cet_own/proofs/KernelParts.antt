@@ -15,13 +15,14 @@ use Rattle.cet_page.specs.declared.checks.Kind.{Kind}
 use Rattle.cet_page.specs.declared.checks.Who.{Who}
 use Rattle.cet_page.specs.declared.finishes.Leaving.{Leaving}
 use Rattle.cet_page.specs.declared.services.Errno.{Errno}
+use Rattle.cet_book.proofs.Relies.{Relies}
 use Rattle.cet_own.specs.Past.{left_in}
 use Rattle.cet_own.specs.Safe.{IsElsewhere}
 use Rattle.cet_own.specs.Stands.{IsEntry}
 use Rattle.cet_own.proofs.Calls.{Ends}
 use Rattle.cet_own.proofs.Classes.{looks}
 use Rattle.cet_own.proofs.GateParts.{gate_out_then}
-use Rattle.cet_own.proofs.Owed.{State, own_stack}
+use Rattle.cet_own.proofs.Owed.{State, Known, own_stack}
 use Rattle.cet_own.proofs.Parts.{Claim, claim_bind}
 use Rattle.cet_own.proofs.Progress.{Progress, progress}
 use Rattle.cet_own.proofs.Resting.{Inside, inside_kept, inside_stacked, rested}
@@ -50,7 +51,8 @@ module _ (job : JobData) (arch : Arch) (l : own_stack job arch.number < 8) where
   probed Q past now kd w page v f true e within none some = some e within
   probed Q past now kd w page v f false e within none some = none within
 
-  probe_at : {A : Type 0} {d : Progress} (Q : List Visit → State → State → A → Type 0) (past : List Visit) (before s : State) (at : Option ℕ) (kd : Kind) (w : Who) (f : Option ℕ → Script A) → Within d past s → ((p : List Visit) (z n : State) → Within d p n → Claim job arch Q p z n (f None)) → ((p : List Visit) (z n : State) (page v : ℕ) → IsEntry job.image page v → allows v kd w ≡ true → Within d p n → Claim job arch Q p z n (f (Some page))) → Claim job arch (λ p z n x. Claim job arch Q p z n (f x)) past before s (probe_in at kd w)
+  -- with the page's number and entry
+  probe_at : {A : Type 0} {d : Progress} (Q : List Visit → State → State → A → Type 0) (past : List Visit) (before s : State) (at : Option ℕ) (kd : Kind) (w : Who) (f : Option ℕ → Script A) → Within d past s → ((p : List Visit) (z n : State) → Within d p n → Claim job arch Q p z n (f None)) → ((p : List Visit) (z n : State) (page v : ℕ) → at ≡ Some page → Relies arch.number s.book n.book → Known job.image arch.number past n.book (access.Look page) v → allows v kd w ≡ true → Within d p n → Claim job arch Q p z n (f (Some page))) → Claim job arch (λ p z n x. Claim job arch Q p z n (f x)) past before s (probe_in at kd w)
   unfolding probe_in
   probe_at Q past before s None kd w f within none some = none past before s within
   probe_at {d = d} Q past before s (Some page) kd w f within none some = (
@@ -60,10 +62,13 @@ module _ (job : JobData) (arch : Arch) (l : own_stack job arch.number < 8) where
       now,
       refl,
       probed {d = d} Q (visit (access.Look page) v [] ∷ past) now kd w page v f (allows v kd w) refl (inside_kept r within)
-          (λ within1. none _ now now within1) (λ a within1. some _ now now page v (known.entry page refl) a within1),
+          (λ within1. none _ now now within1) (λ a within1. some _ now now page v refl r known a within1),
     ),
   )
 
-  pub probe_then : {A : Type 0} {d : Progress} (Q : List Visit → State → State → A → Type 0) (past : List Visit) (before s : State) (kd : Kind) (w : Who) (addr : ℕ) (f : Option ℕ → Script A) → Within d past s → ((p : List Visit) (z n : State) → Within d p n → Claim job arch Q p z n (f None)) → ((p : List Visit) (z n : State) (page v : ℕ) → IsEntry job.image page v → allows v kd w ≡ true → Within d p n → Claim job arch Q p z n (f (Some page))) → Claim job arch Q past before s (probe kd w addr >>= f)
+  pub probe_known : {A : Type 0} {d : Progress} (Q : List Visit → State → State → A → Type 0) (past : List Visit) (before s : State) (kd : Kind) (w : Who) (addr : ℕ) (f : Option ℕ → Script A) → Within d past s → ((p : List Visit) (z n : State) → Within d p n → Claim job arch Q p z n (f None)) → ((p : List Visit) (z n : State) (page v : ℕ) → page_at addr ≡ Some page → Relies arch.number s.book n.book → Known job.image arch.number past n.book (access.Look page) v → allows v kd w ≡ true → Within d p n → Claim job arch Q p z n (f (Some page))) → Claim job arch Q past before s (probe kd w addr >>= f)
   unfolding probe
-  probe_then Q past before s kd w addr f within none some = claim_bind job arch Q past before s (probe kd w addr) f (probe_at Q past before s (page_at addr) kd w f within none some)
+  probe_known Q past before s kd w addr f within none some = claim_bind job arch Q past before s (probe kd w addr) f (probe_at Q past before s (page_at addr) kd w f within none some)
+
+  pub probe_then : {A : Type 0} {d : Progress} (Q : List Visit → State → State → A → Type 0) (past : List Visit) (before s : State) (kd : Kind) (w : Who) (addr : ℕ) (f : Option ℕ → Script A) → Within d past s → ((p : List Visit) (z n : State) → Within d p n → Claim job arch Q p z n (f None)) → ((p : List Visit) (z n : State) (page v : ℕ) → IsEntry job.image page v → allows v kd w ≡ true → Within d p n → Claim job arch Q p z n (f (Some page))) → Claim job arch Q past before s (probe kd w addr >>= f)
+  probe_then {d = d} Q past before s kd w addr f within none some = probe_known {d = d} Q past before s kd w addr f within none (λ p z n page v at r known a within1. some p z n page v (known.entry page refl) a within1)

@@ -59,8 +59,11 @@ module _ {t child s start : ℕ} {b : Book} (shape : Shape b) (h : Bears t child
       record {
         waits = w;
         number = refl;
+        holding = refl;
+        own = λ k e. cc;
+        told = tt;
         before = next;
-        left = row_claim job j (unheld (child_arch arch child start)) next next w.state.made (subst (λ n. AtRest child n (start + thread_region_size)) is born_rest);
+        left = row_claim job j (unheld (child_arch arch child start)) next next (record { number = w.state.number; made = w.state.made }) (subst (λ n. AtRest child n (start + thread_region_size)) is born_rest);
       },
     );
     trail = refl;

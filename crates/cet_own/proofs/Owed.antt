@@ -22,6 +22,7 @@ use Rattle.cet_own.proofs.Still.{Still, KeepsRestorers, TellsBelow}
 use Rattle.cet_own.proofs.Standing.{HasNone}
 use Rattle.cet_own.proofs.Counters.{CountsBy}
 use Rattle.cet_own.proofs.Fits.{Fits}
+use Rattle.cet_own.proofs.HeldAfter.{NotesGate}
 
 -- what claims speak of
 pub record State : Type 0 where
@@ -74,6 +75,8 @@ pub record Owed (image : ImageData) (t k : ℕ) (past : List Visit) (b : Book) (
   pub counts : (words : List ℕ) → v ≡ answer words a → Holds image words b → CountsBy t past b a v changes
   -- below the token of a stack of its own it reads or leaves the kernel's return address
   pub below : (words : List ℕ) → v ≡ answer words a → Holds image words b → TellsBelow t b a v
+  -- the supervisor stack that the thread holds is what the answer says, and its own
+  pub notes : (words : List ℕ) → v ≡ answer words a → Holds image words b → NotesGate k a v changes
   -- the changes are of the class of the access
   pub fits : (words : List ℕ) → v ≡ answer words a → Holds image words b → Fits t past b a v changes
 

@@ -15,7 +15,7 @@ use Rattle.cet_book.specs.Book.{Book, book_after, region, top}
 use Rattle.cet_book.proofs.Relies.{Relies}
 use Rattle.cet_page.specs.Script.{Script, done, fault, ◌>>=◌, no_changes}
 use Rattle.cet_page.specs.Page.{allows, page_fault}
-use Rattle.cet_page.specs.Parts.{clears, check_address, check_address_as, look_in_as, look, look_as, read_entry, load_as, load, store_as, store, compare_exchange_as, compare_exchange, swap, fetch_add_as, fetch_add, stores, alignment_check}
+use Rattle.cet_page.specs.Parts.{clears, check_address, check_address_as, look_in_as, look, look_as, read_entry, load_as, load, store_as, store, compare_exchange_as, compare_exchange, swap, fetch_add_as, fetch_add, fetch_and, fetch_or, stores, alignment_check}
 use Rattle.cet_page.specs.declared.checks.Kind.{Kind}
 use Rattle.cet_page.specs.declared.checks.Kind.TheVariants as kind
 use Rattle.cet_page.specs.declared.checks.Who.{Who}
@@ -28,7 +28,7 @@ use Rattle.cet_own.proofs.Holds.{IsOut}
 use Rattle.cet_own.proofs.Standing.{Stacked, AtRest, free_kept}
 use Rattle.cet_own.proofs.Owed.{State, state_after, Known, rules}
 use Rattle.cet_own.specs.ExitWord.{IsEnding}
-use Rattle.cet_own.proofs.Classes.{looks, loads, stores as stored, exchanges, finishes, swaps, adds, clears as cleared, free_loads}
+use Rattle.cet_own.proofs.Classes.{looks, loads, stores as stored, exchanges, finishes, swaps, adds, ands, ors, clears as cleared, free_loads}
 use Rattle.cet_own.proofs.Places.{store_page, entry_there, shadow_page, in_page}
 use Rattle.cet_own.specs.Past.{left_in, frame_pushed, below_frame}
 use Rattle.cet_own.proofs.Progress.{Progress, progress, untouched}
@@ -110,10 +110,10 @@ module _ (job : JobData) (arch : Arch) where
   unfolding load_as
   load_then Q past before s word f rest h = claim_bind Q past before s (load word) f (rest_stacked rest, λ now r v known. (free_loads word refl (free_kept r rest.free) refl, now, refl, h now r v))
 
-  -- of a thread in the kernel, elsewhere than below its token
-  pub kernel_load_then : {A : Type 0} {d : Progress} (Q : List Visit → State → State → A → Type 0) (past : List Visit) (before s : State) (k word : ℕ) (f : ℕ → Script A) → word ≢ token_word k - 1 → Inside arch.number k d (progress past) (left_in past (token_word k - 1)) s.book arch.ssp → ((now : State) → Relies arch.number s.book now.book → (v : ℕ) → Inside arch.number k d (progress past) (left_in (visit (access.Load word) v [] ∷ past) (token_word k - 1)) now.book arch.ssp → Claim job arch Q (visit (access.Load word) v [] ∷ past) now now (f v)) → Claim job arch Q past before s (load word >>= f)
+  -- of a thread in the kernel, elsewhere than below its token, with what the answer tells
+  pub kernel_load_known : {A : Type 0} {d : Progress} (Q : List Visit → State → State → A → Type 0) (past : List Visit) (before s : State) (k word : ℕ) (f : ℕ → Script A) → word ≢ token_word k - 1 → Inside arch.number k d (progress past) (left_in past (token_word k - 1)) s.book arch.ssp → ((now : State) → Relies arch.number s.book now.book → (v : ℕ) → Known job.image arch.number past now.book (access.Load word) v → Inside arch.number k d (progress past) (left_in (visit (access.Load word) v [] ∷ past) (token_word k - 1)) now.book arch.ssp → Claim job arch Q (visit (access.Load word) v [] ∷ past) now now (f v)) → Claim job arch Q past before s (load word >>= f)
   unfolding load_as
-  kernel_load_then Q past before s k word f apart inside h =
+  kernel_load_known Q past before s k word f apart inside h =
       claim_bind Q past before s (load word) f (
         inside_stacked inside,
         λ now r v known.
@@ -122,9 +122,12 @@ module _ (job : JobData) (arch : Arch) where
               loads word refl (λ j l own q. absurd (apart (let same = inside'.alone j own in let here : word ≡ token_word j - 1 = eqb-true word (token_word j - 1) q in omega arith))) refl,
               now,
               refl,
-              h now r v (inside_left (rw other refl) inside'),
+              h now r v known (inside_left (rw other refl) inside'),
             ),
       )
+
+  pub kernel_load_then : {A : Type 0} {d : Progress} (Q : List Visit → State → State → A → Type 0) (past : List Visit) (before s : State) (k word : ℕ) (f : ℕ → Script A) → word ≢ token_word k - 1 → Inside arch.number k d (progress past) (left_in past (token_word k - 1)) s.book arch.ssp → ((now : State) → Relies arch.number s.book now.book → (v : ℕ) → Inside arch.number k d (progress past) (left_in (visit (access.Load word) v [] ∷ past) (token_word k - 1)) now.book arch.ssp → Claim job arch Q (visit (access.Load word) v [] ∷ past) now now (f v)) → Claim job arch Q past before s (load word >>= f)
+  kernel_load_then Q past before s k word f apart inside h = kernel_load_known Q past before s k word f apart inside (λ now r v known. h now r v)
 
   -- a store to a word that matters for no stack
   pub store_then : {A : Type 0} (Q : List Visit → State → State → A → Type 0) (past : List Visit) (before s : State) (word value : ℕ) (f : Unit {0} → Script A) → IsOut word → Stacked arch.number s.book (below_frame (frame_pushed past) arch.ssp) → ((now : State) → Relies arch.number s.book now.book → Claim job arch Q (visit (access.Store word value) 0 [] ∷ past) now now (f tt)) → Claim job arch Q past before s (store word value >>= f)
@@ -152,6 +155,16 @@ module _ (job : JobData) (arch : Arch) where
   unfolding fetch_add_as
   fetch_add_then Q past before s word value f out top h =
       claim_bind Q past before s (fetch_add word value) f (top, λ now r v known. (adds word value refl out refl, now, refl, h now r v))
+
+  pub fetch_or_then : {A : Type 0} (Q : List Visit → State → State → A → Type 0) (past : List Visit) (before s : State) (word value : ℕ) (f : ℕ → Script A) → IsOut word → Stacked arch.number s.book (below_frame (frame_pushed past) arch.ssp) → ((now : State) → Relies arch.number s.book now.book → (v : ℕ) → Claim job arch Q (visit (access.FetchOr word value) v [] ∷ past) now now (f v)) → Claim job arch Q past before s (fetch_or word value >>= f)
+  unfolding fetch_or
+  fetch_or_then Q past before s word value f out top h =
+      claim_bind Q past before s (fetch_or word value) f (top, λ now r v known. (ors word value refl out refl, now, refl, h now r v))
+
+  pub fetch_and_then : {A : Type 0} (Q : List Visit → State → State → A → Type 0) (past : List Visit) (before s : State) (word value : ℕ) (f : ℕ → Script A) → IsOut word → Stacked arch.number s.book (below_frame (frame_pushed past) arch.ssp) → ((now : State) → Relies arch.number s.book now.book → (v : ℕ) → Claim job arch Q (visit (access.FetchAnd word value) v [] ∷ past) now now (f v)) → Claim job arch Q past before s (fetch_and word value >>= f)
+  unfolding fetch_and
+  fetch_and_then Q past before s word value f out top h =
+      claim_bind Q past before s (fetch_and word value) f (top, λ now r v known. (ands word value refl out refl, now, refl, h now r v))
 
   -- a thread in the kernel stores 0 to entries of pages of the mmap area or the shadow area
   stores_claim : {d : Progress} (k : ℕ) (lk : k < 8) (Q : List Visit → State → State → Unit {0} → Type 0) (past : List Visit) (before s : State) (count page word value : ℕ) → word ≡ entry_word page → value ≡ 0 → first_mmap_page ≤ page → page + count ≤ first_kernel_page → Inside arch.number k d (progress past) (left_in past (token_word k - 1)) s.book arch.ssp → ((p : List Visit) (z n : State) → Inside arch.number k d (progress p) (left_in p (token_word k - 1)) n.book arch.ssp → Q p z n tt) → Claim job arch Q past before s (stores count word value 0)

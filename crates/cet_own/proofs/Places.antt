@@ -162,3 +162,27 @@ room_below b m i h l inn =
             ]
           ])
     ]
+
+-- and room for one more word, by another address
+pub room_two_below : (b : Book) (m i : ℕ) → Shape b → m < length b.regions → (region b m).start + 8 ≤ top (region b m) → In (region b i) (top (region b m) - 16) → (region b m).start + 16 ≤ top (region b m)
+room_two_below b m i h l some inn =
+    let d = h.bounds m l in
+    let lo = d.low in
+    let first = d.first in
+    let last = d.last in
+    let o = (h.fits m).room in
+    elim (cases_lt (top (region b m)) ((region b m).start + 16)) [
+      | inr g ↦ g
+      | inl g ↦ absurd (
+          let li = in_there b i (top (region b m) - 16) inn in
+          let low = inn.low in
+          let hi = inn.high in
+          let e : top (region b m) ≡ (region b m).start + 8 = omega arith in
+          elim (cases_lt i m) [
+            | inl q ↦ (let a = h.apart i m q l in let el = (h.bounds i li).last in omega arith)
+            | inr q ↦ elim (cases_lt m i) [
+              | inl q' ↦ (let a = h.apart m i q' li in omega arith)
+              | inr q' ↦ (let u : i ≡ m = omega arith in let low' : (region b m).start ≤ top (region b m) - 16 = subst (λ n. (region b n).start ≤ top (region b m) - 16) u low in omega arith)
+            ]
+          ])
+    ]

@@ -1,5 +1,5 @@
 -- INCSSPQ's last look: the newest entries of the thread's own region go, and no word is written. Source: own.
-use Rattle.std.proofs.Common.{◌≡◌, ℕ, ◌<◌, ◌≤◌, List, [], ◌∷◌, Some, refl, sym, ◌∙◌, ap, subst}
+use Rattle.std.proofs.Common.{◌≡◌, ℕ, ◌<◌, ◌≤◌, List, [], ◌∷◌, Some, refl, sym, ◌∙◌, ap, subst, inl}
 use Rattle.std.specs.Prelude.{slice_index}
 use Rattle.cet_words.specs.Access.{after}
 use Rattle.cet_words.specs.Change.{Change, Raised}
@@ -24,6 +24,7 @@ use Rattle.cet_own.proofs.Classes.{leaves_by, no_count_by, own_region}
 use Rattle.cet_own.proofs.Holds.{Sound, Holds}
 use Rattle.cet_own.proofs.Own.{holds_pop}
 use Rattle.cet_own.proofs.Fits.{of_class, none_held, is_look}
+use Rattle.cet_own.proofs.HeldAfter.{notes_gate}
 use Rattle.cet_own.proofs.Owed.{Owed}
 use Rattle.cet_own.proofs.Still.{KeepsRestorers}
 
@@ -43,6 +44,7 @@ raises {image = image} {t = t} {b = b} {v = v} {changes = changes} m n page curr
   fits = λ words is h ssp held stands note. of_class class.Raise (Raised n ∷ []) ev refl (ap (λ c. class_at c ssp held v) e ∙ is_look page ssp v held low high (none_held b held free note));
   counts = λ words is h. no_count_by (leaves_by e refl refl) (ap birth ev);
   below = λ words is h j l own q. absurd (free j own);
+  notes = λ words is h. notes_gate v e ev (λ held. refl) (λ held j q. inl q);
   keeps = λ words next is h still q.
       let o = own_region t m h current in
       let r : book_after t b (Raised n) ≡ Some next = one_book t b next (Raised n) changes ev q in

@@ -94,7 +94,7 @@ drawn_more P wrote (tell word value changes s) n k (suc i) vs past a own v f h w
 row_more : (job : JobData) (core : Core) (a : Access) (own : ℕ → List Change) (v : ℕ) → Waits job core → row_played job core.arch core.vals ≡ Wants a own → drawn (row_trail job core.arch (vals_after core.vals a v)) ≡ draws (own v) (drawn (trail_of job core))
 row_more job core a own v h w =
     let arch = unheld core.arch in
-    rw add-one (drawn_more (Ends arch) false (row job arch) 0 0 core.vals.accesses core.vals.values [] a own v (walk_row job arch).walks (spent job core h) w)
+    rw add-one (drawn_more (Ends job arch) false (row job arch) 0 0 core.vals.accesses core.vals.values [] a own v (walk_row job arch).walks (spent job core h) w)
 
 -- ---- what a thread tells after its access
 

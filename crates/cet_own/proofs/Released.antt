@@ -27,6 +27,7 @@ use Rattle.cet_own.proofs.Kept.{ending_out, restorers_out, size_kept, pages_out,
 use Rattle.cet_own.proofs.Marks.{WritesAt, marks_write, other_holder}
 use Rattle.cet_own.proofs.Own.{none_leads, tail_of}
 use Rattle.cet_own.proofs.Fits.{of_class, none_held, is_release}
+use Rattle.cet_own.proofs.HeldAfter.{notes_gate}
 use Rattle.cet_own.proofs.Owed.{Owed}
 use Rattle.cet_own.proofs.Writes.{in_place, list_kept, list_free}
 
@@ -96,6 +97,7 @@ releases {image = image} {t = t} {b = b} {a = a} {v = v} m s es current list roo
     (ap (λ c. class_at c ssp held v) (e ∙ ap (access.Store (slot (top (region b s) - 8))) value) ∙ is_release (top (region b s) - 8) ssp v held place (none_held b held free note)))
     (λ words is h. let high = (save_place (link h.sound.book.shape) room).0.high in no_count_by (leaves_by e (other_word (slot (top (region b s) - 8)) (omega arith)) (next_other (slot (top (region b s) - 8)) (omega arith))) (ap birth ev))
     (λ words is h j l own q. absurd (free j own))
+    (λ words is h. notes_gate v e ev (λ held. refl) (λ held j q. inl q))
     (λ words is h. let fits = (h.sound.book.shape.fits s).room in released_way (link h.sound.book.shape) (omega arith))
     (λ words is h sound.
     let l = link h.sound.book.shape in

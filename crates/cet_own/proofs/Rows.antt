@@ -1,12 +1,11 @@
 -- What a thread claims of each of its rows. Source: own.
-use Rattle.std.proofs.Common.{◌≢◌, ◌≡◌, ℕ, zero, suc, ◌+◌, ◌-◌, ◌<◌, ◌≤◌, true, length, Option, Some, None, refl, ap, subst, arith, false, List, []}
+use Rattle.std.proofs.Common.{◌≡◌, ℕ, zero, suc, ◌+◌, ◌-◌, ◌<◌, ◌≤◌, true, length, Option, Some, None, refl, ap, subst, arith, false, List, []}
 use Rattle.std.specs.Prelude.{◌==◌}
 use Rattle.std.proofs.Math.Nat.{mod-lt}
 use Rattle.cet_words.specs.Bytes.{code_byte}
 use Rattle.cet_words.proofs.ByteLaws.{code_place}
 use Rattle.cet_words.specs.Job.{JobData, IsJob}
-use Rattle.std.proofs.lemmas.Bool.Decides.{nat_tests}
-use Rattle.cet_words.specs.Layout.{page_at, token_word, exit_word, pend_word, action_word, image_end, image_start}
+use Rattle.cet_words.specs.Layout.{page_at, exit_word, pend_word, image_end, image_start}
 use Rattle.cet_isa.specs.Address.{canonical}
 use Rattle.cet_isa.specs.Reading.{Decoding, Read, Short, Unknown, decoded}
 use Rattle.cet_isa.proofs.ReadingLaws.{decoded_within}
@@ -24,32 +23,37 @@ use Rattle.cet_page.specs.Family.{family_of}
 use Rattle.cet_page.specs.Flow.{flow}
 use Rattle.cet_page.specs.declared.families.Family.{Family}
 use Rattle.cet_page.specs.declared.families.Family.TheVariants as families
-use Rattle.cet_page.specs.Gate.{Work, inside, leave, entered, signal_of, is_masked, kill, delivery}
+use Rattle.cet_page.specs.Delivery.{fault_delivery, pending_delivery}
+use Rattle.cet_page.specs.Gate.{Work, inside, leave, entered}
+use Rattle.cet_page.specs.Posting.{due_signal, pending_signal, posting}
+use Rattle.cet_page.specs.SigReturn.{is_signal_service, signal_service}
+use Rattle.cet_page.specs.Within.{IsState}
 use Rattle.cet_page.specs.Processes.{is_process_service}
 use Rattle.cet_page.specs.Services.{service}
 use Rattle.cet_page.specs.declared.finishes.Leaving.{Leaving}
 use Rattle.cet_page.specs.declared.services.Errno.TheVariants as errno
 use Rattle.cet_page.specs.Parts.{invalid_opcode}
-use Rattle.cet_page.specs.Row.{execute_family, fetched, instruction, instruction_bytes, boundary, row, row_from}
+use Rattle.cet_page.specs.Row.{after_signals, between, execute_family, fetched, instruction, instruction_bytes, boundary, row, row_from}
 use Rattle.cet_own.specs.Safe.{is_near_return, IsElsewhere, IsNearReturn}
 use Rattle.cet_own.proofs.Standing.{AtRest}
 use Rattle.cet_own.proofs.Owed.{State, own_stack}
 use Rattle.cet_own.proofs.Classes.{looks}
-use Rattle.cet_own.specs.ExitWord.{IsEnding}
-use Rattle.cet_own.proofs.Endings.{by_signal}
-use Rattle.cet_own.proofs.Parts.{Fails, Claim, claim_bind, claim_cond, load_then, kernel_load_then, end_then}
-use Rattle.cet_own.proofs.GateParts.{gate_in_then, gate_out_then}
+use Rattle.cet_own.proofs.Parts.{Fails, Claim, claim_bind, claim_cond, fetch_or_then, load_then}
+use Rattle.cet_own.proofs.GateParts.{gate_in_then}
 use Rattle.cet_own.proofs.KernelParts.{Leaves as LeavesOf, Within as WithinBy, failed_claim}
 use Rattle.cet_own.proofs.MapClaims.{map_shadow_stack_claim}
 use Rattle.cet_own.proofs.MmapClaims.{mmap_claim, munmap_claim}
+use Rattle.cet_own.proofs.DeliveryClaims.{fault_delivery_claim, pend_out, pending_delivery_claim, pending_few}
 use Rattle.cet_own.proofs.ProcessClaims.{process_claim}
+use Rattle.cet_own.proofs.SignalClaims.{rt_sigaction_claim, rt_sigprocmask_claim, tgkill_claim}
+use Rattle.cet_own.proofs.SigReturnClaims.{rt_sigreturn_claim}
 use Rattle.cet_own.proofs.ShadowClaims.{shadow_stacks_claim}
 use Rattle.cet_own.proofs.Calls.{Ends, EndsRow, call_relative_claim, call_indirect_claim}
 use Rattle.cet_own.proofs.Returns.{ret_claim}
 use Rattle.cet_own.proofs.Steps.{push_claim, pop_claim, leave_claim, jump_indirect_claim, arithmetic_claim}
 use Rattle.cet_own.proofs.Progress.{Progress, progress, untouched}
 use Rattle.cet_page.specs.Trail.{Visit}
-use Rattle.cet_own.proofs.Resting.{Resting, rest_kept, inside_kept, inside_left, rest_stacked, inside_stacked, rested, row_starts}
+use Rattle.cet_own.proofs.Resting.{Resting, rest_kept, rest_stacked, rested, row_starts}
 
 -- ---- where instructions lie
 
@@ -90,10 +94,6 @@ returns_flow instr.Ret r = refl
 returns_flow (instr.RetImm bytes) r = refl
 returns_flow i r = cc
 
--- no word below a token
-exit_apart : (k : ℕ) → (exit_word == token_word k - 1) ≡ false
-exit_apart k = let n : exit_word ≢ token_word k - 1 = omega arith in grind (arith, nat_tests)
-
 module _ (job : JobData) (j : IsJob job) (arch : Arch) where
   -- an invalid opcode is at no return
   elsewhere : (d : Decoding) → decoded (instruction_bytes job arch) ≡ d → (IsNearReturn d → ⊥) → IsElsewhere job arch
@@ -102,7 +102,7 @@ module _ (job : JobData) (j : IsJob job) (arch : Arch) where
   no_return : {down : Progress} (s : State) (d : Decoding) → Resting arch.number untouched down s.book arch.ssp → decoded (instruction_bytes job arch) ≡ d → (IsNearReturn d → ⊥) → Fails job arch s invalid_opcode
   no_return s d rest e n = (rested rest, λ r. absurd (elsewhere d e n r), tt)
 
-  -- ---- kernel calls and the kill
+  -- ---- kernel calls
 
   abbrev below_eight : own_stack job arch.number < 8
   below_eight = stack_below job arch.number j
@@ -113,25 +113,22 @@ module _ (job : JobData) (j : IsJob job) (arch : Arch) where
   abbrev Leaves : List Visit → State → State → Arch × Record × Leaving → Type 0
   Leaves past before s x = LeavesOf job arch below_eight past before s x
 
-  service_claim : (past : List Visit) (before s : State) → IsElsewhere job arch → IsMade arch.made → Within past s → Claim job arch Leaves past before s (service arch)
+  signal_claim : (past : List Visit) (before s : State) → IsElsewhere job arch → Within past s → Claim job arch Leaves past before s (signal_service job arch)
+  signal_claim past before s free within =
+      claim_cond job arch Leaves past before s (rax arch == 13) _ _ (λ _. rt_sigaction_claim job j arch below_eight free past before s within)
+      (λ _. claim_cond job arch Leaves past before s (rax arch == 14) _ _ (λ _. rt_sigprocmask_claim job j arch below_eight free past before s within)
+      (λ _. claim_cond job arch Leaves past before s (rax arch == 15) _ _ (λ _. rt_sigreturn_claim job j arch below_eight free past before s within)
+      (λ _. claim_cond job arch Leaves past before s (rax arch == 234) _ _ (λ _. tgkill_claim job j arch below_eight free past before s within)
+      (λ _. failed_claim job arch below_eight {drawing = false} {numbering = false} past before s errno.NoSys free within))))
+
+  service_claim : (past : List Visit) (before s : State) → IsElsewhere job arch → IsMade arch.made → Within past s → Claim job arch Leaves past before s (service job arch)
   service_claim past before s free made within =
       claim_cond job arch Leaves past before s (is_process_service (rax arch)) _ _ (λ _. process_claim job arch below_eight free past before s made within)
+      (λ _. claim_cond job arch Leaves past before s (is_signal_service (rax arch)) _ _ (λ _. signal_claim past before s free within)
       (λ _. claim_cond job arch Leaves past before s (rax arch == 9) _ _ (λ _. mmap_claim job arch below_eight free past before s within)
       (λ _. claim_cond job arch Leaves past before s (rax arch == 11) _ _ (λ _. munmap_claim job arch below_eight free past before s within)
       (λ _. claim_cond job arch Leaves past before s (rax arch == 453) _ _ (λ _. map_shadow_stack_claim job arch below_eight free past before s within)
-      (λ _. failed_claim job arch below_eight {drawing = false} {numbering = false} past before s errno.NoSys free within))))
-
-  kill_claim : (past : List Visit) (before s : State) (signal : ℕ) → IsEnding (0x200 + signal) → Within past s → Claim job arch Leaves past before s (kill arch signal)
-  unfolding kill
-  kill_claim past before s signal is within =
-      end_then job arch Leaves past before s (0x200 + signal) _ is (inside_stacked within) (λ now r found.
-      gate_out_then job arch (stack_below job arch.number j) (Ends job arch) _ now now _ (inside_left (rw (exit_apart (own_stack job arch.number)) refl) (inside_kept r within)) (λ p z n rest. (rested rest, λ held later. tt, tt)))
-
-  delivery_claim : (past : List Visit) (before s : State) (signal : ℕ) → IsEnding (0x200 + signal) → Within past s → Claim job arch Leaves past before s (delivery arch signal)
-  unfolding delivery
-  delivery_claim past before s signal is within =
-      claim_cond job arch Leaves past before s (is_masked arch.mask signal) _ _ (λ _. kill_claim past before s signal is within)
-      (λ _. kernel_load_then job arch Leaves past before s (own_stack job arch.number) (action_word signal) _ (λ z. omega arith) within (λ now r v within'. kill_claim _ now now signal is within'))
+      (λ _. failed_claim job arch below_eight {drawing = false} {numbering = false} past before s errno.NoSys free within)))))
 
   -- the kernel's entry round a piece of work
   entered_claim : (past : List Visit) (before s : State) (work : Work) → Resting arch.number untouched (progress past) s.book arch.ssp → ((p : List Visit) (z n : State) → Within p n → Claim job arch Leaves p z n work) → Claim job arch (Ends job arch) past before s (entered job arch work)
@@ -168,7 +165,7 @@ module _ (job : JobData) (j : IsJob job) (arch : Arch) where
   family_claim past before s i len families.ShadowStacks f made rest e =
       noted_claim past before s _ (shadow_stacks_claim job arch (elsewhere _ e (λ r. let t = returns_flow i r in cc)) past before s i (add64 arch.rip len) rest)
   family_claim past before s i len families.SystemCall f made rest e =
-      entered_claim past before s (service arch) rest (λ p z n within. service_claim p z n (elsewhere _ e (λ r. let t = returns_flow i r in cc)) made within)
+      entered_claim past before s (service job arch) rest (λ p z n within. service_claim p z n (elsewhere _ e (λ r. let t = returns_flow i r in cc)) made within)
   family_claim past before s i len families.Supervisor f made rest e = (rested rest, λ r. tt, tt)
 
   missing_claim : (past : List Visit) (before s : State) (at : Option ℕ) (addr : ℕ) → Resting arch.number untouched (progress past) s.book arch.ssp → Claim job arch (Ends job arch) past before s (missing_in at addr)
@@ -187,19 +184,38 @@ module _ (job : JobData) (j : IsJob job) (arch : Arch) where
       claim_cond job arch (Ends job arch) past before s (canonical arch.rip) _ _
       (λ _. fetched_claim past before s (decoded (instruction_bytes job arch)) made rest refl) (λ _. (rested rest, λ r. tt, tt))
 
-  boundary_claim : (past : List Visit) (before s : State) → IsMade arch.made → Resting arch.number untouched (progress past) s.book arch.ssp → Claim job arch (Ends job arch) past before s (boundary job arch)
+  -- the delivery of a pending signal, or the instruction
+  after_claim : (past : List Visit) (before s : State) (o : Option ℕ) → IsState arch → ((signal : ℕ) → o ≡ Some signal → (1 ≤ signal) × (signal < 32)) → Resting arch.number untouched (progress past) s.book arch.ssp → Claim job arch (Ends job arch) past before s (after_signals job arch o)
+  after_claim past before s None is few rest = instruction_claim past before s is.made rest
+  after_claim past before s (Some signal) is few rest =
+      entered_claim past before s (pending_delivery arch signal) rest (λ p z n within. pending_delivery_claim job j arch below_eight p z n signal is.number (few signal refl) within)
+
+  boundary_claim : (past : List Visit) (before s : State) → IsState arch → Resting arch.number untouched (progress past) s.book arch.ssp → Claim job arch (Ends job arch) past before s (boundary job arch)
   unfolding boundary
-  boundary_claim past before s made rest =
+  boundary_claim past before s is rest =
       load_then job arch (Ends job arch) past before s exit_word _ rest (λ now r ending.
       let rest1 = rest_kept r rest in
       claim_cond job arch (Ends job arch) _ now now (ending == 0) _ _
-      (λ _. load_then job arch (Ends job arch) _ now now (pend_word arch.number) _ rest1 (λ now2 r2 v. instruction_claim _ now2 now2 made (rest_kept r2 rest1)))
+      (λ _. load_then job arch (Ends job arch) _ now now (pend_word arch.number) _ rest1 (λ now2 r2 pending.
+      after_claim _ now2 now2 (pending_signal pending arch.mask) is (pending_few pending arch.mask) (rest_kept r2 rest1)))
       (λ _. (rested rest1, ap (λ (x : Progress). x.drawing) rest1.level, ap (λ (x : Progress). x.numbering) rest1.level)))
 
-  from_claim : (past : List Visit) (before s : State) (due : Option Fault) → IsMade arch.made → Resting arch.number untouched (progress past) s.book arch.ssp → Claim job arch (Ends job arch) past before s (row_from job arch due)
-  from_claim past before s (Some e) made rest = entered_claim past before s (delivery arch (signal_of e.name)) rest (λ p z n within. delivery_claim p z n (signal_of e.name) (by_signal e.name) within)
-  from_claim past before s None made rest = boundary_claim past before s made rest
+  -- a listed signal is posted
+  posting_claim : (past : List Visit) (before s : State) (signal : ℕ) → IsState arch → Resting arch.number untouched (progress past) s.book arch.ssp → Claim job arch (Ends job arch) past before s (posting arch signal)
+  unfolding posting
+  posting_claim past before s signal is rest =
+      fetch_or_then job arch (Ends job arch) past before s (pend_word arch.number) _ _ (pend_out arch.number is.number) (rest_stacked rest) (λ now r v.
+      let rest1 = rest_kept r rest in
+      (rested rest1, ap (λ (x : Progress). x.drawing) rest1.level, ap (λ (x : Progress). x.numbering) rest1.level))
+
+  between_claim : (past : List Visit) (before s : State) (o : Option ℕ) → IsState arch → Resting arch.number untouched (progress past) s.book arch.ssp → Claim job arch (Ends job arch) past before s (between job arch o)
+  between_claim past before s None is rest = boundary_claim past before s is rest
+  between_claim past before s (Some signal) is rest = posting_claim past before s signal is rest
+
+  from_claim : (past : List Visit) (before s : State) (due : Option Fault) → IsState arch → Resting arch.number untouched (progress past) s.book arch.ssp → Claim job arch (Ends job arch) past before s (row_from job arch due)
+  from_claim past before s (Some e) is rest = entered_claim past before s (fault_delivery arch e) rest (λ p z n within. fault_delivery_claim job j arch below_eight p z n e within)
+  from_claim past before s None is rest = between_claim past before s (due_signal job arch) is rest
 
   -- a thread at rest claims its whole next row
-  pub row_claim : (before s : State) → IsMade arch.made → AtRest arch.number s.book arch.ssp → Claim job arch (Ends job arch) [] before s (row job arch)
-  row_claim before s made rest = from_claim [] before s arch.due made (row_starts rest)
+  pub row_claim : (before s : State) → IsState arch → AtRest arch.number s.book arch.ssp → Claim job arch (Ends job arch) [] before s (row job arch)
+  row_claim before s is rest = from_claim [] before s arch.due is (row_starts rest)

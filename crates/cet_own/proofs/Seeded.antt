@@ -29,6 +29,7 @@ use Rattle.cet_own.proofs.Holds.{IsMaker, Marks, Sound, Holds}
 use Rattle.cet_own.proofs.Kept.{ending_out, restorers_out, size_kept, pages_out, pages_same, gates_out, gates_same}
 use Rattle.cet_own.proofs.Marks.{WritesAt, marks_write}
 use Rattle.cet_own.proofs.Fits.{of_class, some_held, is_seed}
+use Rattle.cet_own.proofs.HeldAfter.{notes_gate}
 use Rattle.cet_own.proofs.Owed.{Owed}
 use Rattle.cet_own.proofs.Writes.{in_one, in_place, list_kept, list_free, slot_other}
 
@@ -119,6 +120,7 @@ seeds_region {image = image} {t = t} {k = k} {b = b} {v = v} s n p start maker f
     (ap (λ c. class_at c ssp held v) e ∙ is_seed p ssp v held (seed_place (made h.sound.book.shape) n p (omega arith) at).0 (some_held b held k inside note)))
     (λ words is h. let high = (seed_place (made h.sound.book.shape) n p (omega arith) at).0.high in no_count_by (leaves_by e (other_word (slot p) (omega arith)) (next_other (slot p) (omega arith))) (ap birth ev))
     (λ words is h. let high = (seed_place (made h.sound.book.shape) n p (omega arith) at).0.high in tells_below t b v e (λ j l. not_below (slot p) j (λ z. omega arith)))
+    (λ words is h. notes_gate v e ev (λ held. refl) (λ held j q. inl q))
     (λ words is h. seeded_way (made h.sound.book.shape) n start first (omega arith))
     (λ words is h sound.
     let m = made h.sound.book.shape in

@@ -1,11 +1,13 @@
 -- The facts of the ownership invariant, from what is carried from turn to turn. Source: own.
 use Rattle.cet_book.proofs.Supervisor.{stack_there}
 use Rattle.cet_own.proofs.Still.{Still}
-use Rattle.cet_own.specs.Past.{left_in}
-use Rattle.cet_page.specs.Trail.{Visit, trail_of}
+use Rattle.cet_own.specs.Past.{held_in, left_in}
+use Rattle.cet_own.proofs.Told.{free_note}
+use Rattle.cet_book.proofs.Held.{Free, Held}
+use Rattle.cet_page.specs.Trail.{Visit, row_trail, trail_of}
 use Rattle.cet_words.specs.Layout.{token_word, kernel_return}
-use Rattle.std.proofs.Common.{◌≡◌, ℕ, ◌+◌, ◌-◌, ◌<◌, inl, inr, List, Option, Some, None, sym, ◌∙◌, subst, arith, true, refl}
-use Rattle.std.specs.Prelude.{◌↔◌, slice_get, bit_or, is_some, slice_index}
+use Rattle.std.proofs.Common.{◌≡◌, ℕ, ◌+◌, ◌-◌, ◌<◌, inl, inr, List, Option, Some, None, ap, sym, ◌∙◌, subst, arith, true, refl}
+use Rattle.std.specs.Prelude.{◌↔◌, ◌%◌, slice_get, bit_or, is_some, slice_index}
 use Rattle.std.proofs.lemmas.Bool.Decides.{eqb_tells}
 use Rattle.cet_words.specs.Job.{JobData}
 use Rattle.cet_isa.specs.declared.threads.End.{End}
@@ -15,9 +17,10 @@ use Rattle.cet_book.specs.Facts.{Place}
 use Rattle.cet_book.specs.Stack.{slot_word}
 use Rattle.cet_book.proofs.Hand.{Made, made_empty}
 use Rattle.cet_page.specs.Machine.{Machine, Thread}
-use Rattle.cet_page.specs.Within.{CoreAt}
+use Rattle.cet_page.specs.Core.{Core}
+use Rattle.cet_page.specs.Within.{CoreAt, Rests}
 use Rattle.cet_own.specs.ToldTokens.{IsToken}
-use Rattle.cet_own.specs.Stands.{ShadowPages, AllBounds, Stands, below_token}
+use Rattle.cet_own.specs.Stands.{AllTold, ShadowPages, AllBounds, Stands, below_token}
 use Rattle.cet_own.proofs.Holds.{Marks}
 use Rattle.cet_own.proofs.TokenWords.{restore_token_is}
 use Rattle.cet_own.proofs.Owed.{State}
@@ -40,6 +43,31 @@ core_at job t s thread None h = h.waits
 core_at job t s thread (Some (ending.Exit status)) h = h.1
 core_at job t s thread (Some ending.Group) h = h.2
 core_at job t s thread (Some ending.Limit) h = h.2
+
+-- a thread at an end holds nothing, and is in no row
+none_held : (job : JobData) (t : ℕ) (s : State) (core : Core) → Rests job core → Free t s.book → Held t s.book core.arch.held → core.arch.held ≡ held_in (trail_of job core)
+none_held job t s core rests free held = free_note t s.book core.arch.held free held ∙ sym (ap (λ vals. held_in (row_trail job core.arch vals)) rests.vals)
+
+core_held : (job : JobData) (t : ℕ) (s : State) (core : Core) (over : Option End) → CoreStands job t s core over → Held t s.book core.arch.held → core.arch.held ≡ held_in (trail_of job core)
+core_held job t s core None h held = h.holding
+core_held job t s core (Some (ending.Exit status)) h held = none_held job t s core h.1 h.0.free held
+core_held job t s core (Some ending.Group) h held = none_held job t s core h.2 h.0.free held
+core_held job t s core (Some ending.Limit) h held = none_held job t s core h.2 h.0.free held
+
+core_own : (job : JobData) (t : ℕ) (s : State) (core : Core) (over : Option End) → CoreStands job t s core over → Held t s.book core.arch.held → (k : ℕ) → core.arch.held ≡ Some k → k ≡ core.arch.number % job.procs
+core_own job t s core None h held k e = h.own k e
+core_own job t s core (Some (ending.Exit status)) h held k e = absurd (h.0.free k ((held k).0 e))
+core_own job t s core (Some ending.Group) h held k e = absurd (h.0.free k ((held k).0 e))
+core_own job t s core (Some ending.Limit) h held k e = absurd (h.0.free k ((held k).0 e))
+
+none_told : (job : JobData) (s : State) (core : Core) → Rests job core → AllTold job.image s.book (trail_of job core)
+none_told job s core rests = subst (λ vals. AllTold job.image s.book (row_trail job core.arch vals)) (sym rests.vals) tt
+
+core_told : (job : JobData) (t : ℕ) (s : State) (core : Core) (over : Option End) → CoreStands job t s core over → AllTold job.image s.book (trail_of job core)
+core_told job t s core None h = h.told
+core_told job t s core (Some (ending.Exit status)) h = none_told job s core h.1
+core_told job t s core (Some ending.Group) h = none_told job s core h.2
+core_told job t s core (Some ending.Limit) h = none_told job s core h.2
 
 core_below : (job : JobData) (t : ℕ) (s : State) (thread : Thread) (over : Option End) → over ≡ None → CoreStands job t s thread.core over → thread.core.arch.count < job.limit
 core_below job t s thread None e h = h.waits.count
@@ -91,17 +119,21 @@ module _ (job : JobData) (m : Machine) (s : State) (st : Invariant job m s) wher
     entries_written = st.holds.stacks;
     tokens = tokens;
     previous_left = st.holds.sound.book.shape.chain;
-    supervisor_tokens = st.holds.gates;
-    below_tokens = λ t thread e k own q. below_told t k (trail_of job thread.core) (st.still t thread e) own (left_in (trail_of job thread.core) (token_word k - 1)) refl q;
+    supervisor_tokens = record {
+      token = st.holds.gates;
+      below = λ t thread e k own q. below_told t k (trail_of job thread.core) (st.still t thread e) own (left_in (trail_of job thread.core) (token_word k - 1)) refl q;
+    };
     restorers = st.holds.restorers;
-    row_steady = λ t thread e. (st.still t thread e).word;
-    row_claimed = λ t thread e. (st.still t thread e).claimed;
+    steady_rows = λ t thread e. record { word = (st.still t thread e).word; claimed = (st.still t thread e).claimed };
     counters = record { drawn = st.holds.marks.drawn; least = st.paid.least; number = st.paid.number };
     made = st.made;
     bounds = all_bounds;
     row_values = λ t thread e. record {
       waits = core_at job t s thread thread.core.over (thread_at t thread e).1;
       restorer = (st.still t thread e).restorer;
+      held = core_held job t s thread.core thread.core.over (thread_at t thread e).1 (thread_at t thread e).0;
+      own = core_own job t s thread.core thread.core.over (thread_at t thread e).1 (thread_at t thread e).0;
+      told = core_told job t s thread.core thread.core.over (thread_at t thread e).1;
     };
     counts = record {
       most = st.paid.counts;

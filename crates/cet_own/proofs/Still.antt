@@ -49,7 +49,7 @@ still_none words t b = record { word = λ w x o e. cc; restorer = λ s l e. absu
 
 -- ---- what is a thread's own was so before
 
-or_false : (p q : Bool) → (p || q) ≡ false → (p ≡ false) × (q ≡ false)
+pub or_false : (p q : Bool) → (p || q) ≡ false → (p ≡ false) × (q ≡ false)
 or_false true q e = absurd (false≢true (sym e))
 or_false false q e = (refl, e)
 

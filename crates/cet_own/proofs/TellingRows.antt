@@ -1,6 +1,6 @@
 -- What the record of each row tells of: of the stack that map_shadow_stack has claimed, and else of none. Source: own.
 use Rattle.std.proofs.Common.{◌≡◌, ℕ, zero, suc, ◌+◌, ◌%◌, Bool, true, false, inl, inr, cond, List, [], ◌∷◌, Option, Some, None, refl, ap, subst, sym, arith}
-use Rattle.std.specs.Prelude.{◌==◌, ◌-◌, nat_lt, if◌then◌else◌}
+use Rattle.std.specs.Prelude.{◌==◌, ◌-◌, nat_lt, if◌then◌else◌, Ok, Err}
 use Rattle.std.specs.Int.{cast_unsigned}
 use Rattle.cet_words.specs.Layout.{page_at, pages_of, thread_limit, thread_region_size}
 use Rattle.cet_words.specs.Job.{JobData}
@@ -21,7 +21,7 @@ use Rattle.cet_isa.specs.declared.threads.Fault.{Fault}
 use Rattle.cet_isa.specs.declared.threads.Record.{Record}
 use Rattle.cet_page.specs.Script.{Script, done, fault, ask, tell, ◌>>=◌}
 use Rattle.cet_page.specs.Page.{allows, page_fault}
-use Rattle.cet_page.specs.Parts.{check_address_as, look_in_as, look_as, probe_in, probe, read_entry, load_as, store_as, compare_exchange_as, swap, fetch_add_as, stores, general_protection}
+use Rattle.cet_page.specs.Parts.{check_address_as, look_in_as, look_as, probe_in, probe, read_entry, load_as, store_as, compare_exchange_as, swap, fetch_add_as, fetch_and, fetch_or, loads, store_each, stores, general_protection}
 use Rattle.cet_page.specs.Values.{limit, width}
 use Rattle.cet_page.specs.Finish.{Row, noted, r10, rdi, rdx, rsi}
 use Rattle.cet_page.specs.Word64.{add64}
@@ -29,7 +29,12 @@ use Rattle.cet_page.specs.Family.{family_of}
 use Rattle.cet_page.specs.Operands.{register, load_word, load_at, write_place, store_at, read_operand}
 use Rattle.cet_page.specs.Arithmetic.{operated, alu, test, imul, move, movzx, movsxd, cmov, xchg, lock_xadd, lock_cmpxchg, arithmetic}
 use Rattle.cet_page.specs.Flow.{call, call_next, call_indirect, ret, push, pop, leave as leave_frame, jump_indirect, flow}
-use Rattle.cet_page.specs.Gate.{failed, gate_in, gate_out, freed, leave, entered, kill, delivery, deliver}
+use Rattle.cet_page.specs.Gate.{failed, gate_in, gate_out, freed, leave, entered, kill}
+use Rattle.cet_page.specs.Delivery.{enter_handler, fault_delivery, frame_places, frame_span, handle, ignore, pending_delivery, push_frame, push_or_kill, segv}
+use Rattle.cet_page.specs.Posting.{due_signal, posting}
+use Rattle.cet_page.specs.SigReturn.{popped_frame, return_by, returned_span, rt_sigreturn, signal_service}
+use Rattle.cet_page.specs.Signals.{asked_action, asked_mask, change_action, change_mask, copy_action, copy_mask, load_action, new_action, old_action, old_mask, post, rt_sigaction, rt_sigprocmask, set_action, set_handler, tgkill}
+use Rattle.cet_page.specs.Structures.{Given, given_span, given_word, if_found, one_word, span}
 use Rattle.cet_page.specs.MapShadowStack.{can_draw, claimed, drawn_page, drawn_start, fill_stack, draw_stack, map_by, map_shadow_stack, refused, seed_if}
 use Rattle.cet_page.specs.Mmap.{draw_pages, map_pages, map_refused, mmap, mmap_by, munmap, munmap_by, unmap_pages, unmapped_page}
 use Rattle.cet_page.specs.MemoryServices.{memory_service}
@@ -37,7 +42,9 @@ use Rattle.cet_page.specs.Processes.{bear, bore, clone, draw_thread, exit, exit_
 use Rattle.cet_page.specs.Services.{syscall}
 use Rattle.cet_page.specs.ShadowStacks.{rstorssp, save, saveprevssp, incsspq, shadow_stacks}
 use Rattle.cet_page.specs.Fetch.{missing, missing_in}
-use Rattle.cet_page.specs.Row.{execute_family, fetched, instruction, boundary, row, row_from}
+use Rattle.cet_page.specs.Row.{after_signals, between, execute_family, fetched, instruction, boundary, row, row_from}
+use Rattle.cet_page.specs.declared.actions.Action.{Action}
+use Rattle.cet_page.specs.declared.actions.FramePlaces.{FramePlaces}
 use Rattle.cet_page.specs.declared.checks.Kind.{Kind}
 use Rattle.cet_page.specs.declared.checks.Who.{Who}
 use Rattle.cet_page.specs.declared.families.Family.{Family}
@@ -108,10 +115,41 @@ module _ {A : Type 0} {Q : Drawn → A → Type 0} {d : Drawn} (f : ℕ → Scri
   unfolding ◌>>=◌ fetch_add_as
   tells_fetch_add changes word value n h = record { tells = λ v. subst (λ x. Telling Q x (f v)) (sym (n v)) (h v).tells }
 
+  tells_fetch_or : (word value : ℕ) → ((v : ℕ) → Tells Q d (f v)) → Tells Q d (fetch_or word value >>= f)
+  unfolding ◌>>=◌ fetch_or
+  tells_fetch_or word value h = record { tells = λ v. (h v).tells }
+
+  tells_fetch_and : (word value : ℕ) → ((v : ℕ) → Tells Q d (f v)) → Tells Q d (fetch_and word value >>= f)
+  unfolding ◌>>=◌ fetch_and
+  tells_fetch_and word value h = record { tells = λ v. (h v).tells }
+
 stores_telling : {A : Type 0} (Q : Drawn → A → Type 0) (d : Drawn) (f : Unit {0} → Script A) (count word value step : ℕ) → Telling Q d (f tt) → Telling Q d (stores count word value step >>= f)
 unfolding ◌>>=◌ stores
 stores_telling Q d f zero word value step h = h
 stores_telling Q d f (suc count) word value step h = stores_telling Q d f count (word + 1) (value + step) step h
+
+each_telling : {A : Type 0} (Q : Drawn → A → Type 0) (d : Drawn) (f : Unit {0} → Script A) (word : ℕ) (values : List ℕ) → Telling Q d (f tt) → Telling Q d (store_each word values >>= f)
+unfolding ◌>>=◌ store_each
+each_telling Q d f word [] h = h
+each_telling Q d f word (value ∷ values) h = each_telling Q d f (word + 1) values h
+
+assoc_telling : {A B C : Type 0} (Q : Drawn → A → Type 0) (d : Drawn) (m : Script C) (h : C → Script B) (f : B → Script A) → Telling Q d (m >>= (λ x. h x >>= f)) → Telling Q d ((m >>= h) >>= f)
+unfolding ◌>>=◌
+assoc_telling Q d (done x) h f w = w
+assoc_telling Q d (fault e) h f w = w
+assoc_telling Q d (ask a changes c) h f w = λ v. assoc_telling Q (draws (changes v) d) (c v) h f (w v)
+assoc_telling Q d (tell word value changes s) h f w = assoc_telling Q (draws changes d) s h f w
+
+loads_telling : {A : Type 0} (Q : Drawn → A → Type 0) (d : Drawn) (f : List ℕ → Script A) (count word : ℕ) → ((values : List ℕ) → Telling Q d (f values)) → Telling Q d (loads count word >>= f)
+unfolding ◌>>=◌ loads
+loads_telling Q d f zero word h = h []
+loads_telling Q d f (suc count) word h = λ v.
+    assoc_telling Q d (loads count (word + 1)) (λ values. done (v ∷ values)) f
+    (loads_telling Q d (λ values. f (v ∷ values)) count (word + 1) (λ values. h (v ∷ values)))
+
+module _ {A : Type 0} {Q : Drawn → A → Type 0} {d : Drawn} (f : List ℕ → Script A) where
+  tells_loads : (count word : ℕ) → ((values : List ℕ) → Tells Q d (f values)) → Tells Q d (loads count word >>= f)
+  tells_loads count word h = record { tells = loads_telling Q d f count word (λ values. let g = h values in g.tells) }
 
 module _ {A : Type 0} {Q : Drawn → A → Type 0} {d : Drawn} (f : Unit {0} → Script A) where
   tells_store : (changes : List Change) (word value : ℕ) → draws changes d ≡ d → Tells Q d (f tt) → Tells Q d (store_as changes word value >>= f)
@@ -125,6 +163,9 @@ module _ {A : Type 0} {Q : Drawn → A → Type 0} {d : Drawn} (f : Unit {0} →
 
   tells_stores : (count word value step : ℕ) → Tells Q d (f tt) → Tells Q d (stores count word value step >>= f)
   tells_stores count word value step h = record { tells = stores_telling Q d f count word value step h.tells }
+
+  tells_each : (word : ℕ) (values : List ℕ) → Tells Q d (f tt) → Tells Q d (store_each word values >>= f)
+  tells_each word values h = record { tells = each_telling Q d f word values h.tells }
 
   tells_tested : (misaligned : Fault) (addr size : ℕ) → d.kept ≡ [] → Tells Q d (f tt) → Tells Q d (check_address_as misaligned addr size >>= f)
   unfolding check_address_as
@@ -143,13 +184,6 @@ unfolding ◌>>=◌ probe_in
 probe_in_tells Q d None kd w f h = h None
 probe_in_tells Q d (Some page) kd w f h = record { tells = λ v. (h (cond (allows v kd w) (Some page) None)).tells }
 
-assoc_telling : {A B C : Type 0} (Q : Drawn → A → Type 0) (d : Drawn) (m : Script C) (h : C → Script B) (f : B → Script A) → Telling Q d (m >>= (λ x. h x >>= f)) → Telling Q d ((m >>= h) >>= f)
-unfolding ◌>>=◌
-assoc_telling Q d (done x) h f w = w
-assoc_telling Q d (fault e) h f w = w
-assoc_telling Q d (ask a changes c) h f w = λ v. assoc_telling Q (draws (changes v) d) (c v) h f (w v)
-assoc_telling Q d (tell word value changes s) h f w = assoc_telling Q (draws changes d) s h f w
-
 module _ {A : Type 0} {Q : Drawn → A → Type 0} {d : Drawn} where
   tells_look : (changes : ℕ → List Change) (kd : Kind) (w : Who) (addr : ℕ) (f : ℕ → Script A) → ((v : ℕ) → draws (changes v) d ≡ d) → d.kept ≡ [] → ((page : ℕ) → Tells Q d (f page)) → Tells Q d (look_as changes kd w addr >>= f)
   unfolding look_as
@@ -163,7 +197,7 @@ module _ {A B C : Type 0} {Q : Drawn → A → Type 0} {d : Drawn} where
   tells_assoc : (m : Script C) (h : C → Script B) (f : B → Script A) → Tells Q d (m >>= (λ x. h x >>= f)) → Tells Q d ((m >>= h) >>= f)
   tells_assoc m h f w = record { tells = assoc_telling Q d m h f w.tells }
 
-ruleset tells_parts = (tells_done, tells_fault, tells_if, tells_return, tells_fault_then, tells_if_then, tells_assoc, tells_peek, tells_load, tells_exchange, tells_swap, tells_fetch_add, tells_store, tells_stores, tells_tested, tells_look, tells_probe, draws_if, tells_nothing)
+ruleset tells_parts = (tells_done, tells_fault, tells_if, tells_return, tells_fault_then, tells_if_then, tells_assoc, tells_peek, tells_load, tells_loads, tells_exchange, tells_swap, tells_fetch_add, tells_fetch_or, tells_fetch_and, tells_store, tells_stores, tells_each, tells_tested, tells_look, tells_probe, draws_if, tells_nothing)
 
 -- ---- operands and the gate
 
@@ -348,13 +382,139 @@ tells_process : (arch : Arch) (k : ℕ) → Tells EndTells nothing_drawn (proces
 unfolding exit exit_group tell_status
 tells_process arch k = search (rules, tells_write, tells_clone, tells_put) depth 99 fits 9000
 
+-- ---- the services on signals, and deliveries: theirs tells of no stack
+
+tells_kill : (arch : Arch) (signal k : ℕ) → Tells EndTells nothing_drawn (kill arch signal >>= leave k)
+unfolding kill
+tells_kill arch signal k = search rules depth 99 fits 9000
+
+module _ {A B C : Type 0} {Q : Drawn → A → Type 0} {d : Drawn} where
+  tells_if_found : (o : Option C) (g : C → Script (Option B)) (f : Option B → Script A) → Tells Q d (f None) → ((x : C) → Tells Q d (g x >>= f)) → Tells Q d (if_found o g >>= f)
+  tells_if_found None g f n h = tells_return f None n
+  tells_if_found (Some x) g f n h = h x
+
+module _ {A : Type 0} {Q : Drawn → A → Type 0} {d : Drawn} where
+  tells_span : (kd : Kind) (addr last : ℕ) (f : Option ℕ → Script A) → ((found : Option ℕ) → Tells Q d (f found)) → Tells Q d (span kd addr last >>= f)
+  unfolding span
+  tells_span kd addr last f h = search (tells_parts, tells_if_found) depth 20
+
+  tells_given_span : (kd : Kind) (addr last : ℕ) (f : Given → Script A) → ((g : Given) → Tells Q d (f g)) → Tells Q d (given_span kd addr last >>= f)
+  unfolding given_span
+  tells_given_span kd addr last f h = search (tells_parts, tells_span) depth 20
+
+  tells_given_word : (kd : Kind) (addr : ℕ) (f : Given → Script A) → ((g : Given) → Tells Q d (f g)) → Tells Q d (given_word kd addr >>= f)
+  unfolding given_word one_word
+  tells_given_word kd addr f h = search tells_parts depth 20
+
+  tells_set_action : (signal : ℕ) (asked : Option Action) (f : Unit {0} → Script A) → Tells Q d (f tt) → Tells Q d (set_action signal asked >>= f)
+  unfolding set_action set_handler
+  tells_set_action signal None f h = tells_return f tt h
+  tells_set_action signal (Some action) f h = search tells_parts depth 20
+
+  tells_copy_action : (signal : ℕ) (old : Option ℕ) (f : Unit {0} → Script A) → Tells Q d (f tt) → Tells Q d (copy_action signal old >>= f)
+  unfolding copy_action load_action
+  tells_copy_action signal None f h = tells_return f tt h
+  tells_copy_action signal (Some word) f h = search tells_parts depth 20
+
+  tells_asked_action : (new : Option ℕ) (f : Option Action → Script A) → ((asked : Option Action) → Tells Q d (f asked)) → Tells Q d (asked_action new >>= f)
+  unfolding asked_action load_action
+  tells_asked_action None f h = tells_return f None (h None)
+  tells_asked_action (Some word) f h = search tells_parts depth 20
+
+  tells_asked_mask : (arch : Arch) (set : Option ℕ) (f : ℕ → Script A) → ((mask : ℕ) → Tells Q d (f mask)) → Tells Q d (asked_mask arch set >>= f)
+  unfolding asked_mask
+  tells_asked_mask arch None f h = tells_return f _ (h _)
+  tells_asked_mask arch (Some word) f h = search tells_parts depth 20
+
+  tells_copy_mask : (arch : Arch) (old : Option ℕ) (f : Unit {0} → Script A) → Tells Q d (f tt) → Tells Q d (copy_mask arch old >>= f)
+  unfolding copy_mask
+  tells_copy_mask arch None f h = tells_return f tt h
+  tells_copy_mask arch (Some word) f h = search tells_parts depth 20
+
+  tells_frame_places : (arch : Arch) (f : Option FramePlaces → Script A) → ((o : Option FramePlaces) → Tells Q d (f o)) → Tells Q d (frame_places arch >>= f)
+  unfolding frame_places frame_span
+  tells_frame_places arch f h = search (tells_parts, tells_span, tells_if_found) depth 30
+
+  tells_popped_frame : (arch : Arch) (f : Option (ℕ × ℕ) → Script A) → ((o : Option (ℕ × ℕ)) → Tells Q d (f o)) → Tells Q d (popped_frame arch >>= f)
+  unfolding popped_frame returned_span
+  tells_popped_frame arch f h = search (tells_parts, tells_span, tells_if_found) depth 30
+
+tells_new_action : (job : JobData) (arch : Arch) (new : Option ℕ) (old : Given) (k : ℕ) → Tells EndTells nothing_drawn (new_action job arch new old >>= leave k)
+unfolding new_action change_action
+tells_new_action job arch new (Err error) k = search rules depth 99 fits 9000
+tells_new_action job arch new (Ok old) k = search (rules, tells_asked_action, tells_copy_action, tells_set_action) depth 99 fits 9000
+
+tells_old_action : (job : JobData) (arch : Arch) (new : Given) (k : ℕ) → Tells EndTells nothing_drawn (old_action job arch new >>= leave k)
+unfolding old_action
+tells_old_action job arch (Err error) k = search rules depth 99 fits 9000
+tells_old_action job arch (Ok new) k = search (rules, tells_given_span, tells_new_action) depth 99 fits 9000
+
+tells_rt_sigaction : (job : JobData) (arch : Arch) (k : ℕ) → Tells EndTells nothing_drawn (rt_sigaction job arch >>= leave k)
+unfolding rt_sigaction
+tells_rt_sigaction job arch k = search (rules, tells_given_span, tells_old_action) depth 99 fits 9000
+
+tells_change_mask : (arch : Arch) (set : Option ℕ) (old : Given) (k : ℕ) → Tells EndTells nothing_drawn (change_mask arch set old >>= leave k)
+unfolding change_mask
+tells_change_mask arch set (Err error) k = search rules depth 99 fits 9000
+tells_change_mask arch set (Ok old) k = search (rules, tells_asked_mask, tells_copy_mask) depth 99 fits 9000
+
+tells_old_mask : (arch : Arch) (set : Given) (k : ℕ) → Tells EndTells nothing_drawn (old_mask arch set >>= leave k)
+unfolding old_mask
+tells_old_mask arch (Err error) k = search rules depth 99 fits 9000
+tells_old_mask arch (Ok set) k = search (rules, tells_given_word, tells_change_mask) depth 99 fits 9000
+
+tells_rt_sigprocmask : (arch : Arch) (k : ℕ) → Tells EndTells nothing_drawn (rt_sigprocmask arch >>= leave k)
+unfolding rt_sigprocmask
+tells_rt_sigprocmask arch k = search (rules, tells_given_word, tells_old_mask) depth 99 fits 9000
+
+tells_tgkill : (arch : Arch) (k : ℕ) → Tells EndTells nothing_drawn (tgkill arch >>= leave k)
+unfolding tgkill post
+tells_tgkill arch k = search rules depth 99 fits 9000
+
+tells_return_by : (arch : Arch) (o : Option (ℕ × ℕ)) (k : ℕ) → Tells EndTells nothing_drawn (return_by arch o >>= leave k)
+unfolding return_by
+tells_return_by arch None k = tells_kill arch segv k
+tells_return_by arch (Some x) k = search rules depth 99 fits 9000
+
+tells_rt_sigreturn : (arch : Arch) (k : ℕ) → Tells EndTells nothing_drawn (rt_sigreturn arch >>= leave k)
+unfolding rt_sigreturn
+tells_rt_sigreturn arch k = search (rules, tells_popped_frame, tells_return_by) depth 99 fits 9000
+
+tells_signals : (job : JobData) (arch : Arch) (k : ℕ) → Tells EndTells nothing_drawn (signal_service job arch >>= leave k)
+tells_signals job arch k = search (rules, tells_rt_sigaction, tells_rt_sigprocmask, tells_rt_sigreturn, tells_tgkill) depth 99 fits 9000
+
+tells_push : (arch : Arch) (signal : ℕ) (cause : Option Fault) (action : Action) (places : Option FramePlaces) (k : ℕ) → Tells EndTells nothing_drawn (push_or_kill arch signal cause action places >>= leave k)
+unfolding push_frame
+tells_push arch signal cause action None k = tells_kill arch segv k
+tells_push arch signal cause action (Some places) k = search rules depth 99 fits 9000
+
+tells_ignore : (arch : Arch) (signal : ℕ) (cause : Option Fault) (k : ℕ) → Tells EndTells nothing_drawn (ignore arch signal cause >>= leave k)
+tells_ignore arch signal None k = search rules depth 99 fits 9000
+tells_ignore arch signal (Some e) k = tells_kill arch signal k
+
+tells_handle : (arch : Arch) (signal : ℕ) (cause : Option Fault) (k : ℕ) → Tells EndTells nothing_drawn (handle arch signal cause >>= leave k)
+unfolding handle enter_handler
+tells_handle arch signal cause k = search (rules, tells_kill, tells_ignore, tells_frame_places, tells_push) depth 99 fits 9000
+
+tells_pending : (arch : Arch) (signal k : ℕ) → Tells EndTells nothing_drawn (pending_delivery arch signal >>= leave k)
+unfolding pending_delivery
+tells_pending arch signal k = search (rules, tells_handle) depth 99 fits 9000
+
+tells_fault_delivery : (arch : Arch) (e : Fault) (k : ℕ) → Tells EndTells nothing_drawn (fault_delivery arch e >>= leave k)
+unfolding fault_delivery
+tells_fault_delivery arch e k = search (rules, tells_kill, tells_handle) depth 99 fits 9000
+
 tells_syscall : (job : JobData) (arch : Arch) → Tells EndTells nothing_drawn (syscall job arch)
 unfolding entered
-tells_syscall job arch = search (rules, tells_memory, tells_process) depth 99 fits 9000
+tells_syscall job arch = search (rules, tells_memory, tells_process, tells_signals) depth 99 fits 9000
 
-tells_deliver : (job : JobData) (arch : Arch) (e : Fault) → Tells EndTells nothing_drawn (deliver job arch e)
-unfolding entered delivery kill
-tells_deliver job arch e = search rules depth 99 fits 9000
+tells_deliver : (job : JobData) (arch : Arch) (e : Fault) → Tells EndTells nothing_drawn (entered job arch (fault_delivery arch e))
+unfolding entered
+tells_deliver job arch e = search (rules, tells_fault_delivery) depth 99 fits 9000
+
+tells_signal : (job : JobData) (arch : Arch) (signal : ℕ) → Tells EndTells nothing_drawn (entered job arch (pending_delivery arch signal))
+unfolding entered
+tells_signal job arch signal = search (rules, tells_pending) depth 99 fits 9000
 
 noted_telling : (d : Drawn) (m : Row) → Telling RowTells d m → Telling EndTells d (m >>= noted)
 unfolding ◌>>=◌
@@ -384,13 +544,22 @@ tells_instruction : (job : JobData) (arch : Arch) → Tells EndTells nothing_dra
 unfolding instruction
 tells_instruction job arch = search (rules, tells_fetched) depth 99 fits 9000
 
+tells_after : (job : JobData) (arch : Arch) (o : Option ℕ) → Tells EndTells nothing_drawn (after_signals job arch o)
+tells_after job arch None = tells_instruction job arch
+tells_after job arch (Some signal) = tells_signal job arch signal
+
 tells_boundary : (job : JobData) (arch : Arch) → Tells EndTells nothing_drawn (boundary job arch)
 unfolding boundary
-tells_boundary job arch = search (rules, tells_instruction) depth 99 fits 9000
+tells_boundary job arch = search (rules, tells_after) depth 99 fits 9000
+
+tells_between : (job : JobData) (arch : Arch) (o : Option ℕ) → Tells EndTells nothing_drawn (between job arch o)
+unfolding posting
+tells_between job arch None = tells_boundary job arch
+tells_between job arch (Some signal) = tells_fetch_or _ _ _ (λ v. tells_done refl)
 
 tells_from : (job : JobData) (arch : Arch) (due : Option Fault) → Tells EndTells nothing_drawn (row_from job arch due)
 tells_from job arch (Some e) = tells_deliver job arch e
-tells_from job arch None = tells_boundary job arch
+tells_from job arch None = tells_between job arch (due_signal job arch)
 
 -- what each row owes at its end, whatever its accesses answer
 pub row_tells : (job : JobData) (arch : Arch) → Telling EndTells nothing_drawn (row job arch)

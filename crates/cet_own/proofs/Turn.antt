@@ -1,5 +1,5 @@
 -- One access of a thread keeps where all threads stand. Source: own.
-use Rattle.std.proofs.Common.{[], ◌∷◌, add-one, ◌≡◌, ◌≢◌, ℕ, ◌+◌, ◌*◌, ◌≤◌, ap, arith, false, List, Option, Some, refl, sym, subst, ◌∙◌}
+use Rattle.std.proofs.Common.{inl, inr, [], ◌∷◌, add-one, ◌≡◌, ◌≢◌, ℕ, ◌+◌, ◌*◌, ◌≤◌, ap, arith, false, List, Option, Some, refl, sym, subst, ◌∙◌}
 use Rattle.cet_words.specs.Access.{answer, after}
 use Rattle.cet_words.specs.Job.{JobData, IsJob}
 use Rattle.cet_words.specs.declared.accesses.Access.{Access}
@@ -16,7 +16,8 @@ use Rattle.cet_page.specs.Core.{Core, After, unheld, row_played, changes_of, nex
 use Rattle.cet_page.proofs.WalkRows.{Ends, walk_row}
 use Rattle.std.specs.Prelude.{slice_index, ◌||◌}
 use Rattle.cet_book.specs.Facts.{one}
-use Rattle.cet_own.specs.Stands.{paid_draws, paid_births}
+use Rattle.cet_own.specs.Stands.{AllTold, paid_draws, paid_births}
+use Rattle.cet_own.proofs.Told.{all_last, known_told}
 use Rattle.cet_own.proofs.Paid.{counted, came_pays}
 use Rattle.cet_own.proofs.Counters.{CountsBy, no_count, draws_pages, bears_child, bears_nobody, none_born, CountersTell}
 use Rattle.cet_words.specs.Change.{Change}
@@ -26,9 +27,9 @@ use Rattle.cet_page.proofs.WithinLaws.{taken_is}
 use Rattle.cet_own.specs.Safe.{NotedReturns}
 use Rattle.cet_own.specs.ToldTokens.{NotedTokens}
 use Rattle.cet_page.specs.Trail.{Visit, visit, row_trail, trail_of}
-use Rattle.cet_own.specs.Past.{claimed_in, draw_word, next_word, drew, is_draw, numbered, is_number}
+use Rattle.cet_own.specs.Past.{held_by as note_by, held_in, claimed_in, draw_word, next_word, drew, is_draw, numbered, is_number}
 use Rattle.cet_own.proofs.ClaimStays.{claim_stays}
-use Rattle.cet_book.proofs.Comes.{changes_come, other_apart}
+use Rattle.cet_book.proofs.Comes.{changes_come, changes_last, other_apart}
 use Rattle.cet_own.proofs.Still.{Still, still_own, still_kept}
 use Rattle.cet_own.proofs.Frame.{goes, on_came, OnCame}
 use Rattle.cet_own.proofs.Holds.{Holds}
@@ -108,14 +109,14 @@ led_wants job j words s core a own few h still held r w is_core =
     let holding = held_after changes core.arch.held in
     let shown = row_trail job core.arch (vals_by core words a) in
     let walks = (walk_row job (unheld core.arch)).walks in
-    let g = goes (rules job core.arch.number) (During (unheld core.arch)) (calls.Ends job (unheld core.arch)) (λ p. Fails job (unheld core.arch)) (Ends (unheld core.arch)) false 0 0 words [] r.before s
+    let g = goes (rules job core.arch.number) (During (unheld core.arch)) (calls.Ends job (unheld core.arch)) (λ p. Fails job (unheld core.arch)) (Ends job (unheld core.arch)) false 0 0 words [] r.before s
     (row job (unheld core.arch)) core.vals.accesses core.vals.values a own walks r.left w (known job.image core.arch.number words (trail_of job core) s.book a few h still) in
     let is = after_book core.arch.number s g.next (books_after core.arch.number s.book changes) g.is in
     let grown : shown ≡ visit a (answer words a) changes ∷ trail_of job core = rw add-one g.grown in
     let left : Left job (unheld core.arch) s g.next (vals_by core words a) = rw add-one g.left in
     let came = on_came (rules job core.arch.number) (During (unheld core.arch)) (calls.Ends job (unheld core.arch)) (λ p. Fails job (unheld core.arch)) [] s g.next
     (row job (unheld core.arch)) (core.vals.accesses + 1) (vals_by core words a).values left in
-    let over = over_play (Ends (unheld core.arch)) false (row job (unheld core.arch)) 0 0 (vals_by core words a).accesses (vals_by core words a).values walks in
+    let over = over_play (Ends job (unheld core.arch)) false (row job (unheld core.arch)) 0 0 (vals_by core words a).accesses (vals_by core words a).values walks in
     let came' : OnCame (rules job core.arch.number) (During (unheld core.arch)) (calls.Ends job (unheld core.arch)) (λ p. Fails job (unheld core.arch)) shown s g.next (come_to job core words a) = came in
     let pays = came_pays job core.arch holding (vals_by core words a) s g.next (come_to job core words a) came' over in
     let now : drew shown ≡ (is_draw a || drew (trail_of job core)) = ap drew grown in
@@ -124,12 +125,19 @@ led_wants job j words s core a own few h still held r w is_core =
     let step = counted words a (trail_of job core) h.size counts in
     let draws_now = step.draws in
     let nexts_now = step.nexts in
+    let note = changes_held core.arch.number changes s.book g.next.book core.arch.held h.sound.book is held in
+    let notes = g.owed.notes words refl h in
+    let own_now : (i : ℕ) → holding ≡ Some i → i ≡ own_stack job core.arch.number = λ i e. elim (notes.own core.arch.held i e) [ inl old ↦ r.own i old | inr new ↦ new ] in
+    let holds_now : holding ≡ held_in shown = notes.says core.arch.held ∙ ap (note_by a (answer words a)) r.holding ∙ sym (ap held_in grown) in
+    let lasts = changes_last core.arch.number changes s.book g.next.book h.sound.book is in
+    let told : AllTold job.image g.next.book shown = subst (AllTold job.image g.next.book) (sym grown)
+    (all_last job.image lasts (visit a (answer words a) changes ∷ trail_of job core) (known_told a (known job.image core.arch.number words (trail_of job core) s.book a few h still), r.told)) in
     let all = pays.draws in
     let all' = pays.nexts in
     let one_now = ap one now in
     let one_now' = ap one now' in
     let k = came_stands job core holding (vals_by core words a) shown s g.next
-    (child_of core.arch changes) (come_to job core words a) j left came is_core in
+    (child_of core.arch changes) (come_to job core words a) note holds_now own_now told j left came is_core in
     record {
       next = g.next;
       owed = g.owed;
@@ -145,7 +153,7 @@ led_wants job j words s core a own few h still held r w is_core =
           (λ w own. g.owed.spares words refl h y n w own) (g.owed.restorers words refl h) (claim_stays core.arch.number y changes s.book g.next.book (claimed_in past) h.sound.book n is) old;
       held = subst (Held core.arch.number g.next.book)
           (sym (held_by job core.arch holding (vals_by core words a) (come_to job core words a)))
-          (changes_held core.arch.number changes s.book g.next.book core.arch.held h.sound.book is held);
+          note;
       draws = omega (arith, draws_now, all, one_now);
       nexts = omega (arith, nexts_now, all', one_now');
       made = pays.made;

@@ -1,7 +1,7 @@
 -- What is read off the trail of a row: what it left in a word, what it may still lean on, and what it has counted.
 -- Source: own.
-use Rattle.std.specs.Prelude.{ℕ, ◌+◌, ◌-◌, ◌%◌, ◌^◌, Bool, true, false, ◌||◌, ◌&&◌, nat_lt, ◌==◌, if◌then◌else◌, bit_or, bit_and, List, [], ◌∷◌, Option, Some, None}
-use Rattle.cet_words.specs.Layout.{action_word, draw_shadow_word, next_thread_word}
+use Rattle.std.specs.Prelude.{ℕ, ◌+◌, ◌-◌, ◌/◌, ◌%◌, ◌^◌, Bool, true, false, ◌||◌, ◌&&◌, nat_le, nat_lt, ◌==◌, if◌then◌else◌, bit_or, bit_and, List, [], ◌∷◌, Option, Some, None}
+use Rattle.cet_words.specs.Layout.{action_word, draw_shadow_word, next_thread_word, token, token_word}
 use Rattle.cet_words.specs.Change.{Change, Acquired, Claimed, Seeded, Born, Pushed, Busied}
 use Rattle.cet_words.specs.Job.{JobData}
 use Rattle.cet_words.specs.declared.accesses.Access.{Access}
@@ -66,6 +66,30 @@ shows_restorer a v s = false
 abbrev pub has_restorer : List Visit → (signal : ℕ) → Bool
 has_restorer [] s = false
 has_restorer (x ∷ past) s = shows_restorer x.access x.answer s || has_restorer past s
+
+-- ---- the supervisor stack
+
+-- the supervisor stack whose token this word is
+abbrev pub stack_at : (word : ℕ) → Option ℕ
+stack_at word =
+    if nat_le (token_word 0) word && nat_le word (token_word 7) && (word - token_word 0) % 1024 == 0
+    then Some ((word - token_word 0) / 1024) else None
+
+-- an exchange of its token that succeeds takes the stack where it leaves the token busy, and gives it back where not
+abbrev pub held_where : (stack : Option ℕ) → (succeeds : Bool) → (value : ℕ) → Option ℕ → Option ℕ
+held_where None succeeds value held = held
+held_where (Some k) false value held = held
+held_where (Some k) true value held = if value == token k + 1 then Some k else None
+
+-- what an access leaves of the stack that was held, by its answer
+abbrev pub held_by : Access → (answer : ℕ) → Option ℕ → Option ℕ
+held_by (access.CompareExchange word expected value) v held = held_where (stack_at word) (v == expected) value held
+held_by a v held = held
+
+-- the supervisor stack that the row has taken by the gate's first exchange, and not given back
+abbrev pub held_in : List Visit → Option ℕ
+held_in [] = None
+held_in (x ∷ past) = held_by x.access x.answer (held_in past)
 
 -- ---- SSP in force
 

@@ -1,9 +1,11 @@
 -- The ownership invariant: what holds of words, threads and book at each moment of each run. It is the only definition that
 -- has both words and lists. Source: own.
-use Rattle.std.specs.Prelude.{◌≡◌, ◌≢◌, ℕ, ◌+◌, ◌-◌, ◌*◌, ◌<◌, ◌≤◌, ◌⊎◌, ◌↔◌, true, List, [], length, slice_index, slice_get, sum_by, min, bit_or, if◌then◌else◌, Option, Some, None, is_some}
+use Rattle.std.specs.Prelude.{◌≡◌, ◌≢◌, ℕ, ◌+◌, ◌-◌, ◌*◌, ◌%◌, ◌<◌, ◌≤◌, ◌⊎◌, ◌↔◌, true, List, [], ◌∷◌, length, slice_index, slice_get, sum_by, min, bit_or, if◌then◌else◌, Option, Some, None, is_some}
 use Rattle.cet_words.specs.Entries.{entry_of}
 use Rattle.cet_words.specs.Bytes.{code_byte}
 use Rattle.cet_words.specs.Job.{JobData, ImageData}
+use Rattle.cet_words.specs.declared.accesses.Access.{Access}
+use Rattle.cet_words.specs.declared.accesses.Access.TheVariants as access
 use Rattle.cet_words.specs.Layout.{entry_word, token, token_word, action_word, first_kernel_page, first_mmap_page, first_shadow_page, page_count, shadow_start, thread_limit, thread_region_size, kernel_return}
 use Rattle.cet_book.specs.declared.entries.Holder.TheVariants.{Lost, Maker}
 use Rattle.cet_book.specs.Book.{Book, region, top, stack_of}
@@ -11,9 +13,9 @@ use Rattle.cet_book.specs.Facts.{Bounds, In, Place, LiesIn, Owns, Stack, is_left
 use Rattle.cet_book.specs.Stack.{slot, slot_word, tops}
 use Rattle.cet_page.specs.Core.{Core}
 use Rattle.cet_page.specs.Machine.{Machine, Thread}
-use Rattle.cet_page.specs.Trail.{trail_of}
+use Rattle.cet_page.specs.Trail.{Visit, trail_of}
 use Rattle.cet_page.specs.Within.{IsCore}
-use Rattle.cet_own.specs.Past.{left_in, restorer_word, has_restorer, draw_word, next_word, drew, numbered, NewStack, claimed_in}
+use Rattle.cet_own.specs.Past.{held_in, left_in, restorer_word, has_restorer, draw_word, next_word, drew, numbered, NewStack, claimed_in}
 use Rattle.cet_own.specs.ToldTokens.{IsToken}
 use Rattle.cet_own.specs.Safe.{IsSafeAt}
 
@@ -115,13 +117,47 @@ pub record AllBounds (image : ImageData) (words : List ℕ) (b : Book) : Type 0 
 
 -- ---- rows
 
-pub record RowValues (job : JobData) (words : List ℕ) (core : Core) : Type 0 where
+-- What an answer has told. A look has found 0 or the page's one present value, and a page of the shadow area that was present lies
+-- in a region. A restorer that was loaded is code, and not 0 where the row had seen that its signal has one.
+abbrev pub HasTold : ImageData → Book → (past : List Visit) → Access → (answer : ℕ) → Type 0
+HasTold image b past (access.Look page) v =
+    IsEntry image page v × (first_shadow_page ≤ page → page < first_kernel_page → v ≢ 0 → (i : ℕ) × LiesIn (region b i) page)
+HasTold image b past (access.Load word) v =
+    (s : ℕ) → s < 64 → word ≡ restorer_word s → IsRestorer image v × (has_restorer past s ≡ true → v ≢ 0)
+HasTold image b past a v = Unit {0}
+
+-- of each access of a row
+abbrev pub AllTold : ImageData → Book → List Visit → Type 0
+AllTold image b [] = Unit {0}
+AllTold image b (x ∷ past) = HasTold image b past x.access x.answer × AllTold image b past
+
+pub record RowValues (job : JobData) (words : List ℕ) (b : Book) (core : Core) : Type 0 where
   -- a row that isn't done waits for an access after those that it has made
   pub waits : IsCore job core
   -- a signal that it has seen to have a restorer has one
   pub restorer : (s : ℕ) → s < 64 → has_restorer (trail_of job core) s ≡ true → slice_index words (restorer_word s) ≢ 0
+  -- it holds the supervisor stack that its gate's first exchange has taken, and none before its first access
+  pub held : core.arch.held ≡ held_in (trail_of job core)
+  -- which is that of its processor
+  pub own : (k : ℕ) → core.arch.held ≡ Some k → k ≡ core.arch.number % job.procs
+  -- what it has seen of page entries and restorers
+  pub told : AllTold job.image b (trail_of job core)
 
--- ---- the invariant
+-- ---- threads in the kernel and in their rows
+
+pub record SupervisorTokens (job : JobData) (m : Machine) (b : Book) : Type 0 where
+  -- a supervisor stack's token is busy where the stack has a holder
+  pub token : (k : ℕ) → k < 8 → slice_index m.words (token_word k) ≡ token k + busy (stack_of b k)
+  -- and below the token of a stack that a thread holds stands the kernel's return address, from its store there on
+  pub below : (t : ℕ) (thread : Thread) → slice_get m.threads t ≡ Some thread → (k : ℕ) → stack_of b k ≡ Some t → is_some (left_in (trail_of job thread.core) (token_word k - 1)) ≡ true → slice_index m.words (token_word k - 1) ≡ kernel_return
+
+pub record SteadyRow (job : JobData) (words : List ℕ) (b : Book) (t : ℕ) (core : Core) : Type 0 where
+  -- what a row has read or written in a word of its thread's own is still there
+  pub word : (word x : ℕ) → OwnWord t b word → left_in (trail_of job core) word ≡ Some x → slice_index words word ≡ x
+  -- the stack that it has claimed is in the book, and nobody else's
+  pub claimed : HasClaimed t (claimed_in (trail_of job core)) b
+
+-- ---- the invariant: thirteen facts
 
 pub record Stands (job : JobData) (m : Machine) (b : Book) : Type 0 where
   pub safe : IsSafeAt job m b
@@ -132,18 +168,12 @@ pub record Stands (job : JobData) (m : Machine) (b : Book) : Type 0 where
   pub tokens : (p : ℕ) → Place p → slot_word m.words p ≡ bit_or (p + 8) 1 ↔ IsToken b p
   -- Previous(s) stands once in the region that s was left for, and nowhere else
   pub previous_left : (q s : ℕ) → links s (region b q).entries ≡ one (is_left q (region b s).holder)
-  -- a supervisor stack's token is busy where the stack has a holder
-  pub supervisor_tokens : (k : ℕ) → k < 8 → slice_index m.words (token_word k) ≡ token k + busy (stack_of b k)
-  -- and below the token of a stack that a thread holds stands the kernel's return address, from its store there on
-  pub below_tokens : (t : ℕ) (thread : Thread) → slice_get m.threads t ≡ Some thread → (k : ℕ) → stack_of b k ≡ Some t → is_some (left_in (trail_of job thread.core) (token_word k - 1)) ≡ true → slice_index m.words (token_word k - 1) ≡ kernel_return
+  pub supervisor_tokens : SupervisorTokens job m b
   pub restorers : Restorers job.image m.words
-  -- what a row has read or written in a word of its thread's own is still there
-  pub row_steady : (t : ℕ) (thread : Thread) → slice_get m.threads t ≡ Some thread → (word x : ℕ) → OwnWord t b word → left_in (trail_of job thread.core) word ≡ Some x → slice_index m.words word ≡ x
-  -- the stack that it has claimed is in the book, and nobody else's
-  pub row_claimed : (t : ℕ) (thread : Thread) → slice_get m.threads t ≡ Some thread → HasClaimed t (claimed_in (trail_of job thread.core)) b
+  pub steady_rows : (t : ℕ) (thread : Thread) → slice_get m.threads t ≡ Some thread → SteadyRow job m.words b t thread.core
   pub counters : Counters m.words m.threads b
   -- each thread has the start of a region of eight pages
   pub made : (t : ℕ) (thread : Thread) → slice_get m.threads t ≡ Some thread → HasMade thread.core.arch.made b
   pub bounds : AllBounds job.image m.words b
-  pub row_values : (t : ℕ) (thread : Thread) → slice_get m.threads t ≡ Some thread → RowValues job m.words thread.core
+  pub row_values : (t : ℕ) (thread : Thread) → slice_get m.threads t ≡ Some thread → RowValues job m.words b thread.core
   pub counts : Counts job m.words m.threads
