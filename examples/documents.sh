@@ -1,7 +1,7 @@
 #!/bin/sh
 # Assembles and runs the programs of the documents, with the program that `rt ci` has left: each block `asm` there is a
-# source, and each block `report` behind it stands in the report of its run, as it is. The first argument may name
-# another program.
+# source, and each block `report` behind it stands in a report of it, as it is: that of `run`, or, where words stand
+# behind `report`, that of the command of these words. The first argument may name another program.
 cd "$(dirname "$0")/../docs" || exit 1
 cetvm=${1:-../crates/cetvm/out/cetvm}
 if [ ! -x "$cetvm" ]; then
@@ -18,10 +18,16 @@ fail() {
     failed=1
 }
 
-for document in failed_return.md records.md shadow_stacks.md; do
+for document in failed_return.md records.md shadow_stacks.md signals.md threads.md; do
     awk -v to="$work/${document%.md}" '
         $0 == "```asm" { number++; file = to "." number ".asm"; next }
-        $0 == "```report" { part++; file = to "." number "." part ".report"; next }
+        /^```report( |$)/ {
+            part++
+            file = to "." number "." part ".report"
+            words = substr($0, 11)
+            print words == "" ? "run" : words > (file ".words")
+            next
+        }
         /^```/ { file = ""; next }
         file != "" { print > file }' "$document"
 done
@@ -29,13 +35,15 @@ for source in "$work"/*.asm; do
     name=$(basename "$source" .asm)
     count=$((count + 1))
     "$cetvm" asm < "$source" > "$work/image" || fail "program $name is not assembled"
-    report=$("$cetvm" run < "$work/image" 2> "$work/line")
     set -- "$work/$name".*.report
     [ -s "$1" ] || fail "program $name has no report in its document"
     for part in "$@"; do
+        words=$(cat "$part.words")
+        # The words are separated by blanks. A `*` among them stands for itself.
+        report=$(set -f; "$cetvm" $words < "$work/image" 2> "$work/line")
         case "$report" in
             *"$(cat "$part")"*) ;;
-            *) fail "program $name has another report: $report" ;;
+            *) fail "program $name has another report of \`$words\`: $report" ;;
         esac
     done
 done
