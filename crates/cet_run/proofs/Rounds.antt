@@ -79,3 +79,8 @@ mixes_end job start now seed number r none = record {
   mix = subst (IsMix job start seed) (append-nil r.turns) (r.leads.more [] none);
   ran = r.leads.ran;
 }
+
+-- the same with Mix's next number by another name
+pub mixes_on : (job : JobData) (start now next : Machine) (seed number after place to : ℕ) → Mixes job start now seed number → after ≡ mixed number → place ≡ after / 2 ^ 33 % length (live_from now.threads 0) → TurnedAt job now next place to → Mixes job start next seed after
+mixes_on job start now next seed number after place to r e is turned =
+    subst (Mixes job start next seed) (sym e) (mixes_more job start now next seed number place to r (is ∙ ap (λ x. x / 2 ^ 33 % length (live_from now.threads 0)) e) turned)

@@ -1,4 +1,4 @@
-use Rattle.std.proofs.Common.{ap, sym, ◌∙◌}
+use Rattle.std.proofs.Common.{get_or, ap, sym, ◌∙◌}
 use Rattle.cet_page.specs.Machine.{step}
 use Rattle.cet_run.proofs.Steps.{reached_step, run_take}
 use Rattle.cet_run.proofs.turns.give_turns.Goals as goal
@@ -9,6 +9,6 @@ loop-number-preserved g c = record {
   reached = reached_step c.args.job.now _ _ _ c.loop-number.invariant.reached c.in_ok-give_turn.ensures.step;
   so_far =
       c.in_ok-give_turn.ensures.step
-      ∙ ap (λ m. step c.args.job.now m _) c.loop-number.invariant.so_far
-      ∙ sym (run_take c.args.job.now _ c.args.schedule.now c.loop-number.number-index _ c.loop-number-test.true);
+      ∙ ap (λ m. step c.args.job.now m (get_or c.args.schedule.now c.loop-number.number-index 0)) c.loop-number.invariant.so_far
+      ∙ sym (run_take c.args.job.now _ c.args.schedule.now c.loop-number.number-index 0 c.loop-number-test.true);
 }
