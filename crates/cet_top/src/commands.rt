@@ -61,7 +61,7 @@ fn run_planned(alloc: Global, job: &Job, plan: &Plan) -> Result<Outcome, NoMemor
 
 /// The outcome of a run with these turns.
 fn run_course(alloc: Global, job: &Job, course: Course) -> Result<Outcome, NoMemory>
-    ensures { IfOk result (SafeRun job.now (by_course course job.now)) }
+    ensures { IfOk result (SafeRun job.now (by_course course.entry job.now)) }
 {
     match course {
         Course::Robin => robin(alloc, job),
@@ -72,7 +72,7 @@ fn run_course(alloc: Global, job: &Job, course: Course) -> Result<Outcome, NoMem
 /// Runs a job and reports in this style.
 fn run_job(alloc: Global, job: &Job, course: Course, style: Style) -> Result<Answer, NoMemory>
     ensures { IfOk result (λ answer.
-        Reports job.now (by_course course job.now) style answer.status answer.output) }
+        Reports job.now (by_course course.entry job.now) style answer.status answer.output) }
 {
     let outcome = run_course(alloc, job, course)?;
     let output = report(alloc, &outcome, style)?;
@@ -90,7 +90,7 @@ fn run_image(
     image: &Image,
 ) -> Result<Answer, NoMemory>
     ensures { IfOk result (λ answer. let job = job_with settings.now image.now in
-        Reports job (by_course course job) Style.Full answer.status answer.output) }
+        Reports job (by_course course.entry job) Style.Full answer.status answer.output) }
 {
     // The image's invariant holds of it from here on.
     let _entry = image.entry;
@@ -121,7 +121,7 @@ fn run_bytes(
     bytes: &[u8],
 ) -> Result<Answer, NoMemory>
     ensures { IfOk result (λ answer. Refuses bytes.now answer.status answer.output
-        ⊎ Runs (by_course course) Style.Full settings.now bytes.now answer.status answer.output) }
+        ⊎ Runs (by_course course.entry) Style.Full settings.now bytes.now answer.status answer.output) }
 {
     match load(alloc, bytes) {
         Ok(image) => run_image(alloc, settings, course, &image),
