@@ -1,7 +1,8 @@
 #!/bin/sh
 # Assembles, lists and runs each example with the program that `rt ci` has left, and compares with the files beside it:
 # NAME.listing, NAME.report where there is one, and NAME.status, which has the exit status and the line on standard
-# error. The text of each listing is assembled again, and listed the same. The first argument may name another program.
+# error. It runs by the words of NAME.words, or else by `run`. The text of each listing is assembled again, and listed the
+# same. The first argument may name another program.
 cd "$(dirname "$0")" || exit 1
 cetvm=${1:-../crates/cetvm/out/cetvm}
 if [ ! -x "$cetvm" ]; then
@@ -25,7 +26,11 @@ for source in *.s; do
     "$cetvm" dis < "$work/image" > "$work/listing" || fail "$name is not listed"
     cmp "$work/listing" "$name.listing" || fail "the listing of $name is another one"
     cut -d' ' -f3- "$work/listing" | "$cetvm" asm | "$cetvm" dis | cmp - "$work/listing" || fail "the listing of $name isn't read back"
-    "$cetvm" run < "$work/image" > "$work/report" 2> "$work/line"
+    words=run
+    [ -f "$name.words" ] && words=$(cat "$name.words")
+    # The words are split at blanks, and a `*` in them is no pattern.
+    # shellcheck disable=SC2086
+    (set -f; "$cetvm" $words < "$work/image") > "$work/report" 2> "$work/line"
     echo "$?" > "$work/status"
     cat "$work/line" >> "$work/status"
     cmp "$work/status" "$name.status" || fail "$name ends otherwise"

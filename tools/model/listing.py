@@ -1,4 +1,5 @@
 """Programs: their listing, as `cetvm dis` writes it of the image that `cetvm asm` made, and the image's bytes."""
+import os
 import struct
 import subprocess
 from collections import namedtuple
@@ -124,6 +125,8 @@ class Program:
 
 
 def run(cetvm, words, data):
+    if not os.access(cetvm, os.X_OK):
+        raise Unknown(f"a program at {cetvm}")
     return subprocess.run([cetvm, *words], input=data, capture_output=True, timeout=600)
 
 
