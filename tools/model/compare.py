@@ -1,9 +1,10 @@
 #!/usr/bin/env python3
-"""`compare.py CETVM [COUNT [SEED]]` compares what the model and the program CETVM print, byte for byte: for each example and
-each case that is a run, and for COUNT random programs (else 20), each by round robin, by a list and by a generator's
+"""`compare.py CETVM [COUNT [SEED]]` compares what the model and the program CETVM print, byte for byte: for each example
+and each case that is a run, and for COUNT random programs (else 20), each by round robin, by a list and by a generator's
 numbers. SEED, else 0, is the number of the first random program."""
 import os
 import sys
+from itertools import zip_longest
 
 sys.dont_write_bytecode = True
 
@@ -38,9 +39,11 @@ class Totals:
         given.append(f"status {found.returncode} {found.stderr.decode(errors='replace').rstrip()}")
         if wanted == given and model.report().encode() == found.stdout:
             return
-        place = next((k for k, pair in enumerate(zip(wanted, given)) if pair[0] != pair[1]), min(len(wanted), len(given)))
-        shown = [lines[place] if place < len(lines) else "nothing" for lines in (wanted, given)]
-        self.different.append(f"{name}: line {place + 1}\n    model {shown[0]}\n    cetvm {shown[1]}")
+        for place, (left, right) in enumerate(zip_longest(wanted, given, fillvalue="nothing")):
+            if left != right:
+                self.different.append(f"{name}: line {place + 1}\n    model {left}\n    cetvm {right}")
+                return
+        self.different.append(f"{name}: the last newline")
 
 
 def main():

@@ -1,15 +1,15 @@
 #!/usr/bin/env python3
-"""`headline.py CETVM [COUNT]` runs each example with several threads under `--mix` 0 to COUNT - 1 (else 32), and reads from
-each report alone that the headline holds of it: each `ret` goes to where the newest open call of its shadow stack was to
-return, or by an entry that is no call, to no code; each token is taken by one thread; no stack is current on two
-threads; and the stacks shown are those of the records' story. It is no part of a proof."""
+"""`headline.py CETVM [COUNT]` runs each example and each case in which a thread is born under `--mix` 0 to COUNT - 1 (else
+32), and reads from each report alone that the headline holds of it: each `ret` goes to where the newest open call of its
+shadow stack was to return, or, by an entry that is no call, to no code; each token is taken by one thread; no stack is
+current on two threads; and the stacks shown are those of the records' story. It is no part of a proof."""
 import os
 import sys
 
 sys.dont_write_bytecode = True
 
 from listing import build, run
-from story import Report, Story, Wrong
+from story import Wrong, told
 from texts import all_texts
 
 LEAST = 3
@@ -34,14 +34,14 @@ def main():
             found = run(cetvm, words, image)
             runs += 1
             try:
-                story = Story(Report(found.stdout.decode()), program)
-                story.tell()
+                story = told(found.stdout.decode(), program)
                 returns, takes = returns + story.returns, takes + story.takes
             except (Wrong, KeyError, ValueError, StopIteration) as error:
                 wrong.append(f"{text.name} by {' '.join(words)}: {error}")
     for line in wrong[:20]:
         print(f"headline: {line}")
-    print(f"headline: {runs} runs of {len(texts)} programs, {returns} returns and {takes} restores; {len(wrong)} are otherwise")
+    print(f"headline: {runs} runs of {len(texts)} programs, {returns} returns and {takes} restores; "
+          f"{len(wrong)} are otherwise")
     sys.exit(bool(wrong) or len(texts) < LEAST or not returns or not takes)
 
 

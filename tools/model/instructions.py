@@ -1,5 +1,5 @@
-"""Instructions: for each a generator that yields its accesses, gets their answers, and returns its record. It changes the
-thread's registers only once it has made its last access."""
+"""Instructions: for each a generator that yields its accesses, gets their answers, and returns its record. It changes
+the thread's registers only once it has made its last access."""
 from listing import RAX, RBP, RCX, RSP, Memory, Number, Register, Unknown
 from places import (LOAD, MASK, SHADOW_LOAD, SHADOW_STORE, STORE, Fault, canonical, check, page_of)
 

@@ -2,9 +2,13 @@
 import random
 
 THREADS, TOKENS, FUNCTIONS = 4, 3, 3
-SIGNALS = (4, 10, 11, 12, 12, 10, 31)
+SIGNALS = (4, 10, 10, 10, 11, 12, 12, 12, 31)
+# Signals of faults.
+FAULTS = (11, 4)
 CLONE_FLAGS = 0x10900
 REGISTERS = ("rax", "rcx", "rdx", "rdi", "rsi", "r8", "r9", "r10")
+NARROW = ("eax", "ecx", "edx", "edi", "esi", "r8d", "r9d", "r10d")
+CONDITIONS = ("o", "no", "b", "ae", "e", "ne", "be", "a", "s", "ns", "p", "np", "l", "ge", "le", "g")
 
 
 class Writer:
@@ -28,9 +32,28 @@ class Writer:
 
 
 def arithmetic(w):
-    name = w.pick.choice(("add", "sub", "xor", "and", "or", "cmp", "test"))
-    left, right = w.pick.choice(REGISTERS), w.pick.choice((*REGISTERS, str(w.pick.randint(-200, 200))))
-    w.add(f"{name} {left}, {right}")
+    pick = w.pick
+    names = pick.choice((REGISTERS, NARROW))
+    left, right, number = pick.choice(names), pick.choice(names), pick.choice((0, 1, -1, 255, -200, 0x7FFFFFFF))
+    two = pick.choice(("add", "or", "adc", "sbb", "and", "sub", "xor", "cmp", "test", "mov"))
+    load = f"test [rip+shared], {left}" if two == "test" else f"{two} {left}, [rip+shared]"
+    w.add(pick.choice((
+        f"{two} {left}, {right}", f"{two} {left}, {number}", load, f"imul {left}, {right}",
+        f"{pick.choice(('inc', 'dec', 'not', 'neg'))} {left}", f"lea {left}, [rax+rcx*4-{pick.randrange(300)}]",
+        f"{pick.choice(('shl', 'shr', 'sar'))} {left}, {pick.choice(('cl', 0, 1, 5, 31, 33, 63))}",
+        f"cmov{pick.choice(CONDITIONS)} {left}, {right}", f"movzx {pick.choice(REGISTERS)}, byte [rip+shared]",
+        f"movsxd {pick.choice(REGISTERS)}, {pick.choice(NARROW)}",
+        f"xchg {pick.choice(REGISTERS)}, {pick.choice(REGISTERS)}",
+        "stc", "clc", "endbr64", "pause", f"cmp dword [rip+shared], {number}",
+        f"mov {pick.choice(REGISTERS)}, {pick.getrandbits(64)}",
+    )))
+
+
+def jump(w):
+    to = w.label()
+    w.add(f"j{w.pick.choice(CONDITIONS)} {w.pick.choice(('', 'short '))}{to}")
+    w.pick.choice((stack_words, shared_word))(w)
+    w.add(f"{to}:")
 
 
 def stack_words(w):
@@ -125,8 +148,8 @@ def faulty(w):
                           ("rdsspq rax", "mov [rax-8], 0"), ("mov eax, 15", "syscall"))))
 
 
-USUAL = (arithmetic, arithmetic, stack_words, call, call, call_by_register, shared_word, loop, switch, switch, send, write,
-         small_service)
+USUAL = (arithmetic, arithmetic, arithmetic, jump, stack_words, call, call, call_by_register, shared_word, loop, switch,
+         switch, send, write, small_service)
 SELDOM = (hand_over, mask, action, memory, raise_pointer, faulty)
 
 
@@ -176,9 +199,12 @@ def source(pick):
     w = Writer(pick)
     threads = pick.randint(1, THREADS)
     w.add("_start:")
-    for signal in (10, 12, 11, 4):
-        if pick.random() < 0.8:
+    for signal in (10, 12):
+        if pick.random() < 0.85:
             w.service(13, signal, f"action{pick.randrange(4)}", 0, 8)
+    for signal in FAULTS:
+        if pick.random() < 0.7:
+            w.service(13, signal, f"action{pick.choice((2, 2, 2, pick.randrange(4)))}", 0, 8)
     for number in range(TOKENS):
         size = pick.choice((32, 4096, 8192))
         w.service(453, 0, size, 1)
@@ -199,8 +225,8 @@ def source(pick):
 
 
 def signals(pick):
-    items = (f"{pick.randrange(THREADS)}:{pick.randrange(200)}:{pick.choice(SIGNALS)}" for _ in range(pick.randrange(6)))
-    return ",".join(items)
+    count = pick.randrange(6)
+    return ",".join(f"{pick.randrange(THREADS)}:{pick.randrange(200)}:{pick.choice(SIGNALS)}" for _ in range(count))
 
 
 def schedule(pick):
@@ -209,7 +235,8 @@ def schedule(pick):
 
 def words(pick):
     """Words for three runs: round robin, a list, a generator's numbers."""
-    common = ["--limit", str(pick.choice((50, 400, 2000))), f"--procs={pick.randint(1, 8)}", f"--signals={signals(pick)}"]
+    common = ["--limit", str(pick.choice((50, 400, 2000))), f"--procs={pick.randint(1, 8)}"]
+    common.append(f"--signals={signals(pick)}")
     return (["run", *common], ["replay", *common, f"--schedule={schedule(pick)}"],
             ["replay", *common, "--mix", str(pick.getrandbits(64))])
 

@@ -1,6 +1,6 @@
 #!/usr/bin/env python3
-"""`stated.py CETVM` runs the model on the programs that were worked out by hand, and on each example and each case that is
-a run, and compares with what is stated of them. CETVM assembles and lists the sources, and runs none."""
+"""`stated.py CETVM` runs the model on the programs that were worked out by hand, and on each example and each case that
+is a run, and compares with what is stated of them. CETVM assembles and lists the sources, and runs none."""
 import os
 import sys
 
@@ -43,7 +43,8 @@ def main():
     wrong += worked(sys.argv[1])
     for line in wrong:
         print(f"model: {line}")
-    print(f"model: {len(ROWS)} programs worked out by hand, {made} examples and cases; {len(wrong)} lines or reports differ")
+    print(f"model: {len(ROWS)} programs worked out by hand, {made} examples and cases; "
+          f"{len(wrong)} lines or reports differ")
     sys.exit(bool(wrong))
 
 

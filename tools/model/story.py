@@ -1,6 +1,7 @@
-"""What a report tells of the shadow stacks: the story of its records, in an order in which each restore finds its token.
-Only the report is read, and the lengths of the calls in the program's listing."""
+"""What a report tells of the shadow stacks: the story of its records, in an order in which each restore finds its
+token. Only the report is read, and the lengths of the calls in the program's listing."""
 import re
+from collections import Counter
 
 from places import FIRST_REGION, PAGE, REGION_PAGES
 from services import EXIT
@@ -23,12 +24,14 @@ class Stack:
 
 
 class Report:
+    """`threads` has the numbers of records that the report tells."""
+
     def __init__(self, text):
         self.threads, self.records, self.stacks, self.process = {}, {}, [], None
         for line in text.splitlines()[1:]:
             fields = line.split(" ")
             if fields[0] == "thread":
-                self.threads[int(fields[1])], self.records[int(fields[1])] = " ".join(fields[4:]), []
+                self.threads[int(fields[1])], self.records[int(fields[1])] = int(fields[3]), []
             elif fields[0] == "region":
                 self.stacks.append((int(fields[1], 16), int(fields[2], 16), " ".join(fields[3:]), []))
             elif fields[0] == "process":
@@ -39,6 +42,49 @@ class Report:
             else:
                 thread, name, rip, code, a, b = fields
                 self.records[int(thread)].append((name, int(rip, 16), int(code), int(a, 16), int(b, 16)))
+
+
+    def has_token(self, start, size):
+        """Whether a stack was made with a token: it was taken, or is parked still."""
+        taken = any(name == "take" and a == start + size - 8 for records in self.records.values()
+                    for name, _, _, a, _ in records)
+        return taken or any(shown[0] == start and shown[2] != "lost" for shown in self.stacks)
+
+    def order(self):
+        """An order of the restores, as threads, in which each finds its token, and each thread is born before."""
+        ways, seen = [((), {0: 0}, Counter())], set()
+        while ways:
+            order, places, tokens = ways.pop()
+            places, tokens = dict(places), Counter(tokens)
+            self.pass_makers(places, tokens)
+            state = tuple(sorted(places.items()))
+            if state in seen:
+                continue
+            seen.add(state)
+            ahead = {thread: self.records[thread][place] for thread, place in places.items()
+                     if place < len(self.records[thread])}
+            if not ahead and len(places) == len(self.threads):
+                return order
+            for thread, (_, _, _, place, _) in ahead.items():
+                if tokens[place]:
+                    left = tokens - Counter([place])
+                    ways.append((order + (thread,), places | {thread: places[thread] + 1}, left))
+        raise Wrong("in no order each restore finds its token")
+
+    def pass_makers(self, places, tokens):
+        """Each thread's records up to its next restore, with the tokens that they make."""
+        waiting = list(places)
+        while waiting:
+            thread = waiting.pop()
+            records = self.records[thread]
+            while places[thread] < len(records) and records[places[thread]][0] != "take":
+                name, _, _, a, b = records[places[thread]]
+                places[thread] += 1
+                if name == "born":
+                    places[a] = 0
+                    waiting.append(a)
+                elif name == "save" or name == "claim" and self.has_token(a, b):
+                    tokens[a if name == "save" else a + b - 8] += 1
 
 
 class Story:
@@ -57,23 +103,29 @@ class Story:
     def stack_with_token(self, place):
         return next((stack for stack in self.stacks if stack.holder == "parked" and stack.top() - 8 == place), None)
 
-    def tell(self):
-        """Each record in an order in which births come first, and each restore finds its token."""
+    def tell(self, order):
+        """The records, with the restores in this order of threads."""
+        for thread in order:
+            self.pass_others()
+            self.one(thread)
+        self.pass_others()
+        self.compare_stacks()
+
+    def pass_others(self):
+        """Each thread's records up to its next restore. They follow whatever the other threads do."""
         moved = True
         while moved:
             moved = False
-            for thread, records in self.report.records.items():
-                while self.next[thread] < len(records) and self.may(thread, records[self.next[thread]]):
-                    self.follow(thread, records[self.next[thread]])
-                    self.next[thread] += 1
+            for thread in sorted(self.current):
+                records = self.report.records[thread]
+                while self.next[thread] < len(records) and records[self.next[thread]][0] != "take":
+                    self.one(thread)
                     moved = True
-        for thread, records in self.report.records.items():
-            self.require(self.next[thread] == len(records), f"no order has record {self.next[thread]} of thread {thread}")
-        self.compare_stacks()
 
-    def may(self, thread, record):
-        name, _, _, a, _ = record
-        return thread in self.current and (name != "take" or self.stack_with_token(a) is not None)
+    def one(self, thread):
+        record = self.report.records[thread][self.next[thread]]
+        self.next[thread] += 1
+        self.follow(thread, record)
 
     def follow(self, thread, record):
         name = record[0]
@@ -114,8 +166,9 @@ class Story:
     def take(self, thread, stack, rip, _, place, before):
         self.pointer(stack, before, f"take at {rip:x}")
         other = self.stack_with_token(place)
+        self.require(other is not None, f"take at {rip:x}: there is no token at {place:x}")
         other.entries.append(("prev", stack))
-        stack.holder, other.holder = f"left {before:x}", f"current {thread}"
+        stack.holder, other.holder = "left", f"current {thread}"
         self.current[thread] = other
         self.takes += 1
 
@@ -131,16 +184,9 @@ class Story:
         self.stacks.append(stack)
         shown = next((one for one in self.report.stacks if one[0] == start), None)
         self.require(shown is not None, f"the stack at {start:x} isn't shown")
-        if self.program_asked_for_token(thread, start, size):
+        if self.report.has_token(start, size):
             stack.entries = [("blank", None)] * ((stack.end - start - size) // 8)
             stack.holder = "parked"
-
-    def program_asked_for_token(self, thread, start, size):
-        """Whether the stack was made with a token: the report tells it by what came of the stack."""
-        shown = next(one for one in self.report.stacks if one[0] == start)
-        taken = any(name == "take" and a == start + size - 8 for records in self.report.records.values()
-                    for name, _, _, a, _ in records)
-        return taken or shown[2] != "lost"
 
     def born(self, thread, _, rip, __, child, ssp):
         stack = Stack(ssp - PAGE * REGION_PAGES, ssp)
@@ -163,16 +209,17 @@ class Story:
 
     def compare_stacks(self):
         """The stacks shown are those of the story, and none is the current one of two threads."""
+        for thread, count in self.report.threads.items():
+            self.require(count == len(self.report.records[thread]), f"thread {thread} has another number of records")
         holders = [shown[2] for shown in self.report.stacks if shown[2].startswith("current")]
         self.require(len(holders) == len(set(holders)), "a thread has two stacks")
-        self.require(len({shown[0] for shown in self.report.stacks}) == len(self.report.stacks), "a stack is shown twice")
+        made = {(stack.start, stack.end): stack for stack in self.stacks}
+        self.require(sorted(made) == [shown[:2] for shown in self.report.stacks], "the stacks shown aren't those made")
         for start, end, holder, entries in self.report.stacks:
-            stack = next((one for one in self.stacks if (one.start, one.end) == (start, end)), None)
-            self.require(stack is not None, f"the stack at {start:x} is in no record")
+            stack = made[start, end]
             if holder == "lost":
                 continue
-            self.require(stack.holder.split(" ")[0] == holder.split(" ")[0]
-                         and (holder == "left" or stack.holder == holder), f"{start:x} is {holder}, and not {stack.holder}")
+            self.require(stack.holder == holder, f"{start:x} is {holder}, and not {stack.holder}")
             told = [(kind, value.top() if kind == "prev" else value) for kind, value in reversed(stack.entries)]
             self.require(len(told) == len(entries) and all(same(*pair) for pair in zip(told, entries)),
                          f"the entries of the stack at {start:x} are others")
@@ -183,3 +230,11 @@ def same(told, shown):
 
 
 setattr(Story, "raise", Story.rise)
+
+
+def told(text, program):
+    """The story of a report."""
+    report = Report(text)
+    story = Story(report, program)
+    story.tell(report.order())
+    return story

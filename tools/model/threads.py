@@ -6,6 +6,7 @@ from listing import RAX, RCX, RSP, R11
 from places import (EXIT_WORD, FETCH, FIRST_REGION, MASK, PAGE, REGION_PAGES, RETURN_WORD, STACK_TOP, Fault, canonical,
                     page_of, pending_word, token_place)
 
+SYSCALL_BYTES = 2
 RT_SIGRETURN = 15
 SERVICES = {
     1: (services.write, 3), 9: (services.mmap, 4), 11: (services.munmap, 2), 13: (signals.rt_sigaction, 4),
@@ -36,8 +37,8 @@ class Thread:
         child = Thread(self.run, number)
         child.registers = list(self.registers)
         child.registers[RAX], child.registers[RSP] = 0, stack
-        child.registers[RCX], child.registers[R11] = self.rip + 2 & MASK, self.flags
-        child.rip, child.flags, child.mask = self.rip + 2 & MASK, self.flags, self.mask
+        child.rip, child.flags, child.mask = self.rip + SYSCALL_BYTES & MASK, self.flags, self.mask
+        child.registers[RCX], child.registers[R11] = child.rip, child.flags
         child.made, child.ssp = region.start, region.end
         self.run.add(child)
 
@@ -129,8 +130,8 @@ class Thread:
             answer = services.Answer(-error.args[0] & MASK)
 
         def last():
-            self.registers[RAX], self.registers[RCX], self.registers[R11] = answer.result, self.rip + 2 & MASK, self.flags
-            self.rip = self.rip + 2 & MASK
+            self.rip = self.rip + SYSCALL_BYTES & MASK
+            self.registers[RAX], self.registers[RCX], self.registers[R11] = answer.result, self.rip, self.flags
             if answer.last is not None:
                 answer.last()
         return last, answer.record or ("sys", number, answer.result)

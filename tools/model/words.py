@@ -3,7 +3,8 @@ from collections import namedtuple
 
 from places import MASK
 
-Settings = namedtuple("Settings", "limit procs trace signals schedule mix", defaults=(100000, 4, "full", (), None, None))
+Settings = namedtuple("Settings", "limit procs trace signals schedule mix",
+                      defaults=(100000, 4, "full", (), None, None))
 
 
 class Faulty(Exception):

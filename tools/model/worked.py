@@ -1,5 +1,5 @@
-"""Programs whose records were worked out by hand from the documents: the model has to give these lines, among others. In
-the lines fields have no leading zeros, and a `-` stands for any field."""
+"""Programs whose records were worked out by hand from the documents: the model has to give these lines, among others.
+In the lines fields have no leading zeros, and a `-` stands for any field."""
 from collections import namedtuple
 
 Worked = namedtuple("Worked", "name words source lines process")
@@ -58,7 +58,8 @@ ROWS = (
     Worked("rt_sigreturn at the start", "run", "mov eax, 15\nsyscall\n", ("0 kill 401005 0 b 0",), "killed 11"),
     Worked("rt_sigreturn in a function", "run", "call f\nud2\nf: lea rsp, [rsp-512]\nmov eax, 15\nsyscall\n",
            ("0 kill - 0 b 0",), "killed 11"),
-    Worked("restorer in data", "run --limit 6", RESTORER.format("action"), ("0 sys - 0 d ffffffffffffffea",), "limit 0"),
+    Worked("restorer in data", "run --limit 6", RESTORER.format("action"), ("0 sys - 0 d ffffffffffffffea",),
+           "limit 0"),
     Worked("restorer elsewhere", "run --limit 6", RESTORER.format("0x20000b001"), ("0 sys - 0 d ffffffffffffffea",),
            "limit 0"),
     Worked("busy gate", "replay --procs 1 --schedule 0*21,1*6", BUSY,
@@ -66,7 +67,8 @@ ROWS = (
     Worked("the 32nd birth", "run", BIRTHS, ("0 sys - 0 38 fffffffffffffff5", "0 born - 0 1f 200120000"), "exit 0"),
     Worked("too many pages", "run --limit 5", "mov edi, 0\nmov esi, 4153344\nmov edx, 1\nmov eax, 453\nsyscall\n",
            ("0 sys - 0 1c5 fffffffffffffff4",), "limit 0"),
-    Worked("status in a shadow stack", "run --limit 4", "mov edi, 0x5005\nmov rsi, 0x200001000\nmov eax, 158\nsyscall\n",
+    Worked("status in a shadow stack", "run --limit 4",
+           "mov edi, 0x5005\nmov rsi, 0x200001000\nmov eax, 158\nsyscall\n",
            ("0 sys - 0 9e fffffffffffffff2",), "limit 0"),
     Worked("store to a shadow stack", "run", "mov rsi, 0x200001000\nmov [rsi], 1\n",
            ("0 #PF - 7 200001000 8000000000941065",), "killed 11"),
