@@ -46,6 +46,7 @@ answers() {
 }
 
 for case in *.case; do
+    set -f # a `*` in words is no pattern
     name=${case%.case}
     count=$((count + 1))
     : > "$work/source"

@@ -17,10 +17,18 @@ class Stack:
     """`entries` are pairs of a kind and a value, the newest last."""
 
     def __init__(self, start, end):
-        self.start, self.end, self.entries, self.holder = start, end, [], "lost"
+        self.start, self.end, self.entries, self.holder, self.left_for = start, end, [], "lost", None
 
     def top(self):
         return self.end - 8 * len(self.entries)
+
+    def in_view(self):
+        """Whether it leads to a stack that is current or parked, by those that it was left for."""
+        stack, passed = self, []
+        while stack.holder == "left" and stack not in passed:
+            passed.append(stack)
+            stack = stack.left_for
+        return stack.holder not in ("left", "lost")
 
 
 class Report:
@@ -168,7 +176,7 @@ class Story:
         other = self.stack_with_token(place)
         self.require(other is not None, f"take at {rip:x}: there is no token at {place:x}")
         other.entries.append(("prev", stack))
-        stack.holder, other.holder = "left", f"current {thread}"
+        stack.holder, stack.left_for, other.holder = "left", other, f"current {thread}"
         self.current[thread] = other
         self.takes += 1
 
@@ -217,9 +225,10 @@ class Story:
         self.require(sorted(made) == [shown[:2] for shown in self.report.stacks], "the stacks shown aren't those made")
         for start, end, holder, entries in self.report.stacks:
             stack = made[start, end]
-            if holder == "lost":
+            told = stack.holder if stack.in_view() else "lost"
+            self.require(told == holder, f"{start:x} is {holder}, and not {told}")
+            if told == "lost":
                 continue
-            self.require(stack.holder == holder, f"{start:x} is {holder}, and not {stack.holder}")
             told = [(kind, value.top() if kind == "prev" else value) for kind, value in reversed(stack.entries)]
             self.require(len(told) == len(entries) and all(same(*pair) for pair in zip(told, entries)),
                          f"the entries of the stack at {start:x} are others")
