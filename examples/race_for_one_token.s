@@ -10,4 +10,4 @@ _start: mov edi, 0
         mov eax, 56             ; clone
         syscall
         rstorssp [rbx+4088]     ; both come here
-s:      jmp short s
+s:      jmp s

@@ -97,15 +97,16 @@ list() {
 while read -r number words; do
     count=$((count + 1))
     cp "$work/image" "$work/input"
+    shown=$(printf '%.80s' "$words")
     # shellcheck disable=SC2086
     told=$(answers $words)
     if [ "$number" = - ]; then
         case $told in
-        "1 "*) fail "the words $words are refused" ;;
+        "1 "*) fail "the words $shown are refused" ;;
         esac
     else
-        [ "$told" = "1 cetvm: usage: word $number" ] || fail "the words $words are answered $told"
-        [ -s "$work/written" ] && fail "the words $words have an output"
+        [ "$told" = "1 cetvm: usage: word $number" ] || fail "the words $shown are answered $told"
+        [ -s "$work/written" ] && fail "the words $shown have an output"
     fi
 done < "$work/words"
 
