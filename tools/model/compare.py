@@ -1,7 +1,7 @@
 #!/usr/bin/env python3
-"""`compare.py CETVM [COUNT [SEED]]` compares what the model and the program CETVM print, byte for byte: for each example
-and each case that is a run, and for COUNT random programs (else 20), each by round robin, by a list and by a generator's
-numbers. SEED, else 0, is the number of the first random program."""
+"""`compare.py CETVM [COUNT [SEED]]` compares what the model and the program CETVM print, byte for byte: for each
+example and each case that is a run, and for COUNT random programs (else 20), each by round robin, by a list and by a
+generator's numbers. SEED, else 0, is the number of the first random program."""
 import os
 import sys
 from itertools import zip_longest
