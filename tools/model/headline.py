@@ -1,6 +1,6 @@
 #!/usr/bin/env python3
 """`headline.py CETVM [COUNT [TURNS]]` runs each example and each case in which a thread is born under `--mix` 0 to
-COUNT - 1 (else 32), and the races of RACES under all lists of TURNS turns (else 6) of their two threads from the race on.
+COUNT - 1 (else 32), and the races of RACES under all lists of TURNS turns (else 6) of their two threads from there on.
 It reads from each report alone that the headline holds of it: each `ret` goes to where the newest open call of its
 shadow stack was to return, or, by an entry that is no call, to no code; each token is taken by one thread; no stack is
 current on two threads; and the stacks shown are those of the records' story. It is no part of a proof."""
