@@ -1,7 +1,7 @@
 #!/usr/bin/env python3
-"""`write_cases.py FOLDER CETVM [COUNT]` writes the examples, the cases that are runs, and COUNT random programs (else 20)
-with the reports of the model, for a run before any proof: in crates/cetvm, `rt try --cases FOLDER` says of each whether its
-output is as expected. CETVM, of an earlier build, assembles and lists the sources."""
+"""`write_cases.py FOLDER CETVM [COUNT]` writes the examples, the cases that are runs, and COUNT random programs (else
+20), with the reports of the model, for a run before any proof: in crates/cetvm, `rt try --cases FOLDER` says of each
+whether its output is as expected. CETVM, of an earlier build, assembles and lists the sources."""
 import sys
 from pathlib import Path
 
