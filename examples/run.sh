@@ -1,8 +1,9 @@
 #!/bin/sh
 # Assembles, lists and runs each example with the program that `rt ci` has left, and compares with the files beside it:
 # NAME.listing, NAME.report where there is one, and NAME.status, which has the exit status and the line on standard
-# error. The text of each listing is assembled again, and listed the same. A NAME.words has two lines: the words by
-# which the program is assembled, and those by which it is run. The first argument may name another program.
+# error. The text of each listing is assembled again, and listed the same. A NAME.words has the words by which the program
+# is run, where that isn't `run`, and before them, where there are two lines, those by which it is assembled. The first
+# argument may name another program.
 cd "$(dirname "$0")" || exit 1
 cetvm=${1:-../crates/cetvm/out/cetvm}
 if [ ! -x "$cetvm" ]; then
@@ -38,7 +39,9 @@ for source in *.s; do
     "$cetvm" dis < "$work/image" > "$work/listing" || fail "$name is not listed"
     cmp "$work/listing" "$name.listing" || fail "the listing of $name is another one"
     cut -d' ' -f3- "$work/listing" | "$cetvm" asm | "$cetvm" dis | cmp - "$work/listing" || fail "the listing of $name isn't read back"
-    "$cetvm" $run < "$work/image" > "$work/report" 2> "$work/line"
+    # The words are split at blanks, and a `*` in them is no pattern.
+    # shellcheck disable=SC2086
+    (set -f; "$cetvm" $run < "$work/image") > "$work/report" 2> "$work/line"
     echo "$?" > "$work/status"
     cat "$work/line" >> "$work/status"
     cmp "$work/status" "$name.status" || fail "$name ends otherwise"

@@ -46,6 +46,7 @@ answers() {
 }
 
 for case in *.case; do
+    set -f # a `*` in words is no pattern
     name=${case%.case}
     count=$((count + 1))
     : > "$work/source"
@@ -78,20 +79,36 @@ done
 
 printf 'mov edi, 7\nmov eax, 60\nsyscall\n' | "$cetvm" asm > "$work/image" || fail "the image is not assembled"
 
+# a list with as many items as wanted
+list() {
+    yes "$1" | head -n "$2" | paste -s -d , -
+}
+
+# The longest lists, and those with an item more, or a turn.
+{
+    cat words.cases
+    echo "- run --signals $(list 0:0:10 256)"
+    echo "3 run --signals $(list 0:0:10 257)"
+    echo "- replay --schedule $(list 0 10000)"
+    echo "3 replay --schedule $(list 0 10001)"
+    echo "- replay --schedule $(list '0*100' 10000)"
+    echo "3 replay --schedule $(list '0*100' 9999),0*101"
+} > "$work/words"
 while read -r number words; do
     count=$((count + 1))
     cp "$work/image" "$work/input"
+    shown=$(printf '%.80s' "$words")
     # shellcheck disable=SC2086
     told=$(answers $words)
     if [ "$number" = - ]; then
         case $told in
-        "1 "*) fail "the words $words are refused" ;;
+        "1 "*) fail "the words $shown are refused" ;;
         esac
     else
-        [ "$told" = "1 cetvm: usage: word $number" ] || fail "the words $words are answered $told"
-        [ -s "$work/written" ] && fail "the words $words have an output"
+        [ "$told" = "1 cetvm: usage: word $number" ] || fail "the words $shown are answered $told"
+        [ -s "$work/written" ] && fail "the words $shown have an output"
     fi
-done < words.cases
+done < "$work/words"
 
 while read -r line rule text; do
     count=$((count + 1))
