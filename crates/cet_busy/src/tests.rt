@@ -68,6 +68,7 @@ fn expect_part(
             Next::Access(*access),
             "{part:?}"
         );
+        assert!(rt; vals.count() < 32 && vals.done() < 4096);
         vals.add(*access, *answer);
     }
     let mut after = arch;

@@ -85,6 +85,7 @@ const MIX: OptionRow = OptionRow {
 };
 
 const RUN_OPTIONS: [OptionRow; 3] = [LIMIT, PROCS, SIGNALS];
+
 const REPLAY_OPTIONS: [OptionRow; 5] = [LIMIT, PROCS, SIGNALS, SCHEDULE, MIX];
 
 const COMMANDS: [CommandRow; 5] = [

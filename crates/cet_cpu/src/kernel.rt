@@ -65,7 +65,12 @@ pub enum Entry {
     Pending(u8),
 }
 
-fn work(job: &Job, arch: &Arch, entry: &Entry, at: &mut Cursor) -> Result<(Arch, Record, Leaving), Suspended>
+fn work(
+    job: &Job,
+    arch: &Arch,
+    entry: &Entry,
+    at: &mut Cursor,
+) -> Result<(Arch, Record, Leaving), Suspended>
     requires count { arch.now.count < 2 ^ 32 - 1 }
     requires made { IsMade arch.now.made }
     requires entry { IsEntry entry.now }

@@ -32,7 +32,10 @@ const TGKILL: u64 = 234;
 pub fn serves(number: u64) -> bool
     ensures { result ≡ is_signal_service number }
 {
-    matches!(number, RT_SIGACTION | RT_SIGPROCMASK | RT_SIGRETURN | TGKILL)
+    matches!(
+        number,
+        RT_SIGACTION | RT_SIGPROCMASK | RT_SIGRETURN | TGKILL
+    )
 }
 
 /// What the kernel was entered for.

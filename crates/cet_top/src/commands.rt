@@ -264,10 +264,7 @@ pub(crate) fn serve<S: Source, K: Sink>(
         (sink_state (K.written sink.new) (K.faults sink.new)) result }
 {
     match command {
-        Command::Run(_)
-        | Command::Replay(_, _)
-        | Command::Dis
-        | Command::Asm
-        | Command::Check => read_and_answer(alloc, command, src, sink),
+        Command::Run(_) | Command::Replay(_, _) | Command::Dis | Command::Asm | Command::Check =>
+            read_and_answer(alloc, command, src, sink),
     }
 }
