@@ -13,6 +13,7 @@ SHADOW_END = 0x200400000
 KERNEL = 0xFFFF800000000000
 FIRST_REGION = (0x200001000, 0x200009000)
 MAP, UNMAP, EXIT, EXIT_GROUP, MAP_SHADOW_STACK = 9, 11, 60, 231, 453
+OTHER_SERVICES = (1, 13, 14, 15, 24, 56, 158, 186, 234)
 ENOMEM, EEXIST, EINVAL, ENOSPC, ERANGE, ENOSYS, EOVERFLOW = 12, 17, 22, 28, 34, 38, 75
 # Place of each range: its first page number, its first address, the address past its end.
 RANGES = ((0, 0x400000, 0x800000), (1024, *STACK), (1088, *MMAP), (2112, SHADOW, SHADOW_END),
@@ -198,8 +199,11 @@ class Machine:
         return self.set_register(i.register, result)
 
     def syscall(self, _):
-        """exit, exit_group, mmap, munmap and map_shadow_stack; every other number answers ENOSYS."""
+        """exit, exit_group, mmap, munmap and map_shadow_stack. Services on signals, threads and text are cetvm's, but not
+        this model's; every other number answers ENOSYS."""
         registers, number = self.registers, self.registers[RAX]
+        if number in OTHER_SERVICES:
+            raise KeyError(number)
         if number in (EXIT, EXIT_GROUP):
             status = registers[RDI] & 255
             self.ended = ("exit" if number == EXIT else "group", status)

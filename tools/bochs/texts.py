@@ -117,9 +117,11 @@ def case_source(path):
 
 def check(built):
     """How many reports of the examples and cases the model has made, and the names of those that it has otherwise.
-    Sources and runs with instructions that the model or cetvm doesn't have are passed over."""
+    Runs with other words than `run`, and those with instructions or services that the model or cetvm doesn't have, are
+    passed over."""
     texts = {path.stem: (path.read_text(), path.with_suffix(".report").read_text())
-             for path in EXAMPLES.glob("*.s") if path.with_suffix(".report").exists()}
+             for path in EXAMPLES.glob("*.s")
+             if path.with_suffix(".report").exists() and not path.with_suffix(".words").exists()}
     texts |= {path.stem: found for path in (EXAMPLES / "cases").glob("*.case") if (found := case_source(path))}
     made, wrong = 0, []
     for name, (source, report) in sorted(texts.items()):
