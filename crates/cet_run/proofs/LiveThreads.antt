@@ -267,10 +267,10 @@ live_more all_traced at traced old new l i n o =
     n
     ∙ ap (λ l. l ++ cond (goes_on traced.cpu.core.over) (at ∷ []) []) o
     ∙ sym (
-      ap (λ l. live_from (threads_of l) 0) (take_more all_traced at traced l ∙ ap (λ x. take at all_traced ++ x ∷ []) (sym i))
-      ∙ ap (λ l. live_from l 0) (map-append thread_of (take at all_traced) (traced ∷ []))
-      ∙ live_append (threads_of (take at all_traced)) (thread_of traced ∷ []) 0
-      ∙ ap (λ k. live_from (threads_of (take at all_traced)) 0 ++ live_from (thread_of traced ∷ []) k) long
+    ap (λ l. live_from (threads_of l) 0) (take_more all_traced at traced l ∙ ap (λ x. take at all_traced ++ x ∷ []) (sym i))
+    ∙ ap (λ l. live_from l 0) (map-append thread_of (take at all_traced) (traced ∷ []))
+    ∙ live_append (threads_of (take at all_traced)) (thread_of traced ∷ []) 0
+    ∙ ap (λ k. live_from (threads_of (take at all_traced)) 0 ++ live_from (thread_of traced ∷ []) k) long
     )
 
 -- a live one comes last

@@ -56,12 +56,7 @@ fn start(alloc: Global, job: &Job) -> Result<(Plain, Guests), NoMemory>
 }
 
 /// The outcome of a run in which every thread has ended.
-fn finish(
-    alloc: Global,
-    job: &Job,
-    mut words: Plain,
-    guests: Guests,
-) -> Result<Outcome, NoMemory>
+fn finish(alloc: Global, job: &Job, mut words: Plain, guests: Guests) -> Result<Outcome, NoMemory>
     requires { (start : Machine) × (turns : List ℕ) × Finishes job.now start turns (machine words (threads_of guests.all.items)) }
     ensures { (start : Machine) (turns : List ℕ) → Finishes job.now start turns (machine words (threads_of guests.all.items)) → IfOk result (SafeRun job.now (IsThis start turns)) }
 {

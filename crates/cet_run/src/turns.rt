@@ -13,6 +13,7 @@ use std::alloc::Global;
 
 /// The multiplier and the increment of Mix's numbers.
 const MIX_MULTIPLIER: u64 = 6_364_136_223_846_793_005;
+
 const MIX_INCREMENT: u64 = 1_442_695_040_888_963_407;
 
 /// Mix's number after this one.

@@ -13,7 +13,7 @@ turns-preserved g c =
     let size : c.len.result ≡ length c.turns.guests.live.items = (let ok = c.turns.guests.live.ok.0 in let l = c.len.ensures in omega arith) in
     let live : length c.turns.guests.live.items ≡ length (live_from (threads_of c.turns.guests.all.items) 0) = ap (λ (l : List ℕ). length l) c.turns.invariant.guests.numbers in
     let place : c.picked-place.result ≡ c.mixed-number.result / 2 ^ 33 % length (live_from (threads_of c.turns.guests.all.items) 0) =
-        c.picked-place.ensures.picked ∙ ap (λ n. c.mixed-number.result / 2 ^ 33 % n) (size ∙ live) in
+    c.picked-place.ensures.picked ∙ ap (λ n. c.mixed-number.result / 2 ^ 33 % n) (size ∙ live) in
     record {
       guests = c.in_ok-turn_at.ensures.guests;
       reached = reached_step c.args.job.now _ _ turned.thread c.turns.invariant.reached turned.step;
