@@ -1,11 +1,10 @@
 -- The shadow stacks that a report shows, by the last book of the run. Source: own.
 use Rattle.std.specs.Prelude.{ℕ, List, ◌∷◌, map}
 use Rattle.std.specs.List.{flat_map}
-use Rattle.cet_words.specs.Job.{ImageData}
 use Rattle.cet_book.specs.Book.{Book, region, starting_at}
-use Rattle.cet_book.specs.View.{Covers, InStep, Span, shown_region}
+use Rattle.cet_book.specs.View.{Span, shown_region}
 use Rattle.cet_book.specs.declared.regions.StackReport.{StackReport}
-use Rattle.cet_own.specs.Told.{first_span, in_order, kept_pointers, told_in, told_spans}
+use Rattle.cet_own.specs.Told.{first_span, in_order, told_in, told_spans}
 use Rattle.cet_page.specs.Machine.{Thread}
 use Rattle.cet_run.specs.declared.outcomes.ThreadOut.{ThreadOut}
 
@@ -16,8 +15,3 @@ shown_stacks b threads = map (λ (s : Span). shown_region b (region b (starting_
 -- the same stacks by the records of an outcome's threads
 abbrev pub told_by : List ThreadOut → List Span
 told_by outs = in_order (first_span ∷ flat_map (λ (out : ThreadOut). told_in out.records) outs)
-
--- words and threads tell all that is shown of the book
-pub record TellsBook (image : ImageData) (words : List ℕ) (threads : List Thread) (b : Book) : Type 0 where
-  pub in_step : InStep image words b
-  pub covers : Covers b (map (λ (s : Span). starting_at s.start b) (told_spans threads)) (told_spans threads) (kept_pointers threads)

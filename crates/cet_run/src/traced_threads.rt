@@ -55,13 +55,6 @@ impl TracedThread {
         self.cpu.arch().number
     }
 
-    /// The thread's records so far.
-    pub fn records(&self) -> &[Record]
-        ensures { result.now ≡ self.now.trace }
-    {
-        self.records.as_slice()
-    }
-
     /// The thread's shadow stack pointer.
     pub fn ssp(&self) -> u64
         ensures { result ≡ self.now.cpu.core.arch.ssp }
