@@ -5,23 +5,22 @@ use Rattle.cet_words.specs.Change as change
 use Rattle.cet_words.specs.Change.{Change}
 use Rattle.cet_book.specs.declared.events.Event.{Event}
 use Rattle.cet_book.specs.declared.events.Event.TheVariants as event
-use Rattle.cet_book.specs.Book.{Book, region, is_maker, capacity, current_of, starting_at, seeded, born, book_step, book_after}
+use Rattle.cet_book.specs.Book.{Book, region, starting_at, seeded, born, first_book, book_step, book_after}
 use Rattle.cet_book.specs.EventLists.{thread_of, book_by}
+use Rattle.cet_book.specs.Facts.{links, one, is_left}
 use Rattle.cet_book.specs.Shape.{IsBook}
+use Rattle.cet_book.proofs.First.{first_is_book}
 use Rattle.cet_book.proofs.Hand.{Made, made_there}
 use Rattle.cet_book.proofs.Edited.{made_by}
 use Rattle.cet_book.proofs.Ways.{starting_at_is}
 use Rattle.cet_book.proofs.EventSteps.{step_kept}
 
--- the change that an event of the book is
-abbrev pub IsChange : (t : ℕ) (b next : Book) → Change → Type 0
-IsChange t b next c = book_after t b c ≡ Some next
-
 -- the region is found again by its start
 made_found : (t s : ℕ) (b : Book) → Made t s b → starting_at (region b s).start b ≡ s
 made_found t s b m = starting_at_is (region b s).start b s m.shape (made_there m) refl
 
-pub change_of : (b next : Book) (e : Event) → IsBook b → book_step b e ≡ Some next → (c : Change) × IsChange (thread_of e) b next c
+-- the change that an event of the book is
+pub change_of : (b next : Book) (e : Event) → IsBook b → book_step b e ≡ Some next → (c : Change) × (book_after (thread_of e) b c ≡ Some next)
 change_of b next (event.Called t back) h e = (change.Called back, e)
 change_of b next (event.Returned t) h e = (change.Returned, e)
 change_of b next (event.Raised t count) h e = (change.Raised count, e)
@@ -58,3 +57,7 @@ events_book [] b end h e = let is : b ≡ end = cc in subst IsBook is h
 events_book (x ∷ es) b end h e =
     let s = then_event (book_step b x) es end e in
     events_book es s.0 end (step_kept b s.0 x h s.1) s.2
+
+-- so after any list of events that the book has, Previous(s) stands once in the region that s was left for, and nowhere else
+pub links_kept : (es : List Event) (end : Book) → book_by first_book es ≡ Some end → (q s : ℕ) → links s (region end q).entries ≡ one (is_left q (region end s).holder)
+links_kept es end e = (events_book es first_book end first_is_book e).shape.chain

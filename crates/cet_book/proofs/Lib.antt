@@ -37,3 +37,4 @@ pub mod QuietEvents
 pub mod EventChanges
 pub mod Switched
 pub mod Raises
+mod WorkedSwitch

@@ -1,17 +1,17 @@
 -- What INCSSP takes off a thread's shadow stack, in every list of events that the book has. Source: own.
-use Rattle.std.proofs.Common.{zero, suc, ◌≡◌, ◌≢◌, ℕ, ◌+◌, ◌<◌, ◌≤◌, ◌⊎◌, inl, inr, eqb, true, List, [], ◌∷◌, length, drop, Option, Some, refl, sym, ◌∙◌, ap, subst, arith}
-use Rattle.std.specs.Prelude.{◌==◌, if◌then◌else◌, option_and_then}
+use Rattle.std.proofs.Common.{zero, suc, ◌≡◌, ◌≢◌, ℕ, ◌+◌, ◌<◌, ◌⊎◌, inl, inr, eqb, true, List, [], ◌∷◌, length, drop, Some, refl, sym, ◌∙◌, ap, subst, arith}
+use Rattle.std.specs.Prelude.{option_and_then}
 use Rattle.std.proofs.lemmas.Bool.Decides.{eqb_tells, nat_tests}
 use Rattle.std.proofs.lemmas.List.{length-drop, drop-drop}
 use Rattle.cet_words.specs.Change.{Change}
 use Rattle.cet_book.specs.declared.entries.Entry.{Entry}
-use Rattle.cet_book.specs.declared.entries.Holder.TheVariants.{Current, Maker, Lost}
+use Rattle.cet_book.specs.declared.entries.Holder.TheVariants.{Current, Lost}
 use Rattle.cet_book.specs.declared.events.Event.{Event}
 use Rattle.cet_book.specs.declared.events.Event.TheVariants as event
 use Rattle.cet_book.specs.Book.{Region, Book, region, current_of, remove_entry, raised, first_book, book_step, book_after}
 use Rattle.cet_book.specs.EventLists.{thread_of, book_by, Each, SameLists}
 use Rattle.cet_book.specs.Shape.{IsBook}
-use Rattle.cet_book.specs.Switched.{raise_of, raises_of, IsRaise, RaisesAlone, Lowered, Raises}
+use Rattle.cet_book.specs.Switched.{raise_of, raises_of, IsRaise, Lowered, RaisesExactly}
 use Rattle.cet_book.proofs.Edits.{Owned, is_there, current_holds}
 use Rattle.cet_book.proofs.Relist.{relist_here}
 use Rattle.cet_book.proofs.Unlink.{unlink_here}
@@ -165,6 +165,6 @@ raises_from t q (x ∷ mid) b last h g k e =
     let step = any_step t q x b s.0 h s.1 rest.0 g in
     lowered_then q (raise_of t x) (raises_of t mid) b s.0 last step.lowered (raises_from t q mid s.0 last (step_kept b s.0 x h s.1) step.stage rest.1 s.2)
 
-pub raises_exactly : (es : List Event) → Raises es
+pub raises_exactly : (es : List Event) → RaisesExactly es
 raises_exactly es t before mid after b last w =
     raises_from t (current_of t b) mid b last (events_book before first_book b first_is_book w.first) (live (current_holds t b w.there)) w.only w.leads

@@ -1,18 +1,18 @@
 -- A switch to another shadow stack and back, in every list of events that the book has. Source: own.
-use Rattle.std.proofs.Common.{◌≡◌, ◌≢◌, ℕ, ◌<◌, ◌⊎◌, inl, inr, true, List, [], ◌∷◌, ◌++◌, length, Option, Some, None, refl, sym, ◌∙◌, ap, subst, arith}
+use Rattle.std.proofs.Common.{◌≡◌, ◌≢◌, ℕ, ◌<◌, ◌⊎◌, inl, inr, true, List, [], ◌∷◌, ◌++◌, length, Some, refl, sym, ◌∙◌, ap, subst, arith}
 use Rattle.std.specs.Prelude.{nat_lt, option_and_then}
 use Rattle.std.proofs.lemmas.Bool.Decides.{eqb_tells, nat_tests}
 use Rattle.cet_words.specs.Change.{Change}
 use Rattle.cet_book.specs.declared.entries.Entry.{Entry}
 use Rattle.cet_book.specs.declared.entries.Entry.TheVariants.{Call, Restorer, Frame, Previous, Blank}
-use Rattle.cet_book.specs.declared.entries.Holder.TheVariants.{Current, Parked, Left}
+use Rattle.cet_book.specs.declared.entries.Holder.TheVariants.{Parked}
 use Rattle.cet_book.specs.declared.events.Event.{Event}
 use Rattle.cet_book.specs.declared.events.Event.TheVariants as event
 use Rattle.cet_book.specs.Book.{Region, Book, region, capacity, current_of, parked_at, unlink, acquire, acquired, released, first_book, book_step, book_after}
 use Rattle.cet_book.specs.EventLists.{thread_of, book_by, Each, Throughout, SameLists}
 use Rattle.cet_book.specs.Shape.{IsBook}
-use Rattle.cet_book.specs.Switched.{Switch, Away, Back, ThereAndBack, Switched}
-use Rattle.cet_book.proofs.Edits.{Owned, owned, is_there, current_holds}
+use Rattle.cet_book.specs.Switched.{Away, Back, SwitchesBack}
+use Rattle.cet_book.proofs.Edits.{owned, is_there, current_holds}
 use Rattle.cet_book.proofs.Unlink.{Linked, unlink_here, unlink_gone}
 use Rattle.cet_book.proofs.Acquire.{parked_at_holds, Takes, acquire_taken, acquire_left}
 use Rattle.cet_book.proofs.First.{first_is_book}
@@ -154,7 +154,7 @@ joined t (x ∷ mid) b m last e f =
 
 -- Every list of events that the book has. What follows a thread's end tells that it never released, so the list is taken as a
 -- whole and not only as far as the second event.
-pub switched : (es : List Event) (end : Book) → book_by first_book es ≡ Some end → Switched es
+pub switched : (es : List Event) (end : Book) → book_by first_book es ≡ Some end → SwitchesBack es
 switched es end legal t p before mid after old taken w =
     let then = event.Acquired t p ∷ (mid ++ (event.Released t ∷ after)) in
     let whole : book_by first_book (before ++ then) ≡ Some end = subst (λ l. book_by first_book l ≡ Some end) w.order legal in

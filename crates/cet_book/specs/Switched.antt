@@ -1,6 +1,6 @@
 -- What other threads can't disturb: a switch to another shadow stack and back, and what INCSSP takes off. Source: Intel SDM
 -- volume 1, chapter on CET (RSTORSSP, SAVEPREVSSP, INCSSP); own for the statements.
-use Rattle.std.specs.Prelude.{◌≡◌, ℕ, ◌+◌, ◌<◌, ◌≤◌, ◌⊎◌, ◌==◌, if◌then◌else◌, List, [], ◌∷◌, ◌++◌, length, drop, Option, Some}
+use Rattle.std.specs.Prelude.{◌≡◌, ℕ, ◌+◌, ◌<◌, ◌≤◌, ◌⊎◌, ◌==◌, if◌then◌else◌, List, [], ◌∷◌, ◌++◌, length, drop, Some}
 use Rattle.cet_book.specs.declared.entries.Entry.TheVariants.{Previous}
 use Rattle.cet_book.specs.declared.entries.Holder.TheVariants.{Current, Parked, Left}
 use Rattle.cet_book.specs.declared.events.Event.{Event}
@@ -41,8 +41,8 @@ pub record ThereAndBack (t r q : ℕ) (mid : List Event) (old taken : Book) : Ty
   pub back : Back t r q old last
 
 -- every switch of these events, from the region of its thread to the one with the token
-abbrev pub Switched : List Event → Type 0
-Switched es =
+abbrev pub SwitchesBack : List Event → Type 0
+SwitchesBack es =
     (t p : ℕ) (before mid after : List Event) (old taken : Book) →
     Switch t p before mid after es old taken → ThereAndBack t (current_of t old) (parked_at p old) mid old taken
 
@@ -76,7 +76,7 @@ pub record Lowered (q n : ℕ) (b last : Book) : Type 0 where
   pub list : (region last q).entries ≡ drop n (region b q).entries
 
 -- in every such stretch of these events the region of the thread loses as many entries as the counts add up to
-abbrev pub Raises : List Event → Type 0
-Raises es =
+abbrev pub RaisesExactly : List Event → Type 0
+RaisesExactly es =
     (t : ℕ) (before mid after : List Event) (b last : Book) →
     RaisesAlone t before mid after es b last → Lowered (current_of t b) (raises_of t mid) b last
