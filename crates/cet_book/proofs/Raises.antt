@@ -126,12 +126,12 @@ own_step t q x b next h own e how g = elim (raise_tells t x) [
       subst (λ z. Stepped t q (raise_of t z) b next) (sym r.1)
       (subst (λ k. Stepped t q k b next) (sym (raise_count t r.0)) (own_raise t q r.0 b next h (subst (λ z. book_step b z ≡ Some next) r.1 e) g))
   | inr r ↦ subst (λ k. Stepped t q k b next) (sym r.1) (elim how [
-      | inl y ↦ absurd (r.0 y)
-      | inr same ↦
-          let c = change_of b next x h e in
-          let f = subst (λ y. book_after y b c.0 ≡ Some next) own c.1 in
-          own_quiet t q c.0 b next h f same (quiet t c.0 b next h f same) g
-    ])
+    | inl y ↦ absurd (r.0 y)
+    | inr same ↦
+        let c = change_of b next x h e in
+        let f = subst (λ y. book_after y b c.0 ≡ Some next) own c.1 in
+        own_quiet t q c.0 b next h f same (quiet t c.0 b next h f same) g
+  ])
 ]
 
 others_raise : (t : ℕ) (x : Event) → thread_of x ≢ t → raise_of t x ≡ 0

@@ -117,9 +117,9 @@ module _ (t r q : ℕ) (old : Book) where
       let h' = step_kept b s.0 x h s.1 in
       let a' : Away t r q old s.0 = elim (eqb_tells (thread_of x) t) [
         | inl own ↦ elim (away_quiet b s.0 (quiet t c.0 b s.0 h (subst (λ y. book_after y b c.0 ≡ Some s.0) own.1 c.1) (rest.0 own.1)) a) [
-            | inl y ↦ y
-            | inr none ↦ absurd (never_releases t mid s.0 last h' none rest.1 s.2)
-          ]
+          | inl y ↦ y
+          | inr none ↦ absurd (never_releases t mid s.0 last h' none rest.1 s.2)
+        ]
         | inr other ↦ away_others (thread_of x) c.0 b s.0 other.1 h c.1 a
       ] in
       let d = away_from mid s.0 last h' a' rest.1 s.2 in
