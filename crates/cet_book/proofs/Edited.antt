@@ -71,7 +71,7 @@ unfolding starting_at
 started start b inside = eqb-true _ start (passes_at_first (λ (r : Region). r.start == start) b.regions nowhere inside)
 
 -- the region that thread t is making
-made_by : (t s : ℕ) (b next : Book) (test : Bool) (o : Option Book) → Shape b → (if is_maker t (region b s).holder && test then o else None) ≡ Some next → Made t s b × (test ≡ true) × (o ≡ Some next)
+pub made_by : (t s : ℕ) (b next : Book) (test : Bool) (o : Option Book) → Shape b → (if is_maker t (region b s).holder && test then o else None) ≡ Some next → Made t s b × (test ≡ true) × (o ≡ Some next)
 made_by t s b next test o h e =
     let passed = if_some (is_maker t (region b s).holder && test) o next e in
     let both = and_true (is_maker t (region b s).holder) test passed.0 in

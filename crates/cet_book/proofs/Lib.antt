@@ -33,3 +33,8 @@ pub mod PageTable
 pub mod Lookups
 pub mod Readable
 pub mod Latest
+pub mod QuietEvents
+pub mod EventChanges
+pub mod Switched
+pub mod Raises
+mod WorkedSwitch

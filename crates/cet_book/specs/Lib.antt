@@ -3,6 +3,8 @@ pub mod Stack
 pub mod Facts
 pub mod Shape
 pub mod Events
+pub mod EventLists
+pub mod Switched
 pub mod Newest
 pub mod View
 pub mod Marks

@@ -194,6 +194,16 @@ fn expect_switches(rt: &impl Abort, alloc: Global) -> Result<(), Fail> {
         pages: 1,
         maker: true,
     };
+    // thread 1 is born and calls while thread 0 is away
+    let away = [
+        call(0),
+        CLAIM,
+        seed(0, 1, 2),
+        other,
+        acquire(0, 0x2_0000_afe8),
+        bear(0, 1, 2),
+        call(1),
+    ];
     let left_full = [
         CLAIM,
         seed(0, 1, 511),
@@ -202,7 +212,7 @@ fn expect_switches(rt: &impl Abort, alloc: Global) -> Result<(), Fail> {
         seed(0, 2, 0),
         acquire(0, 0x2_0000_cff8),
     ];
-    let cases: [Case; 16] = [
+    let cases: [Case; 18] = [
         (
             &parked,
             acquire(0, 0x2_0000_aff0),
@@ -223,6 +233,16 @@ fn expect_switches(rt: &impl Abort, alloc: Global) -> Result<(), Fail> {
             &switched,
             RELEASE,
             "Parked 1 Some(Call(4198405)); Current(0) 1 Some(Blank); ",
+        ),
+        (
+            &away,
+            call(1),
+            "Left(1) 1 Some(Call(4198405)); Current(0) 3 Some(Previous(0)); Current(1) 2 Some(Call(4198405)); ",
+        ),
+        (
+            &away,
+            RELEASE,
+            "Parked 1 Some(Call(4198405)); Current(0) 2 Some(Blank); Current(1) 1 Some(Call(4198405)); ",
         ),
         (&switched, Event::Released { thread: 1 }, ""),
         (&[], RELEASE, ""),

@@ -17,6 +17,7 @@ use Rattle.cet_isa.specs.declared.threads.End.TheVariants as ending
 use Rattle.cet_book.specs.declared.entries.Holder.TheVariants.{Current}
 use Rattle.cet_book.specs.Book.{Book, region, top, current_of, starting_at, book_after, books_after, first_book}
 use Rattle.cet_book.specs.Facts.{one}
+use Rattle.cet_book.specs.EventLists.{book_by}
 use Rattle.cet_book.specs.View.{Span, IsKept, IsReadable, IsSpan, InStep, Covers, Has, no_span, span_of}
 use Rattle.cet_book.specs.declared.events.Event.{Event}
 use Rattle.cet_book.proofs.Changes.{same_book, then_by}
@@ -25,7 +26,7 @@ use Rattle.cet_book.proofs.Ways.{starting_at_is}
 use Rattle.cet_page.specs.Core.{Core, first_core}
 use Rattle.cet_page.specs.Machine.{Machine, Thread, step, run, Starts}
 use Rattle.cet_page.specs.Trail.{row_trail, trail_of}
-use Rattle.cet_own.specs.Event.{events_by, turn_changes, events_from, book_by}
+use Rattle.cet_own.specs.Event.{events_by, turn_changes, events_from}
 use Rattle.cet_own.specs.Safe.{KeepsStack}
 use Rattle.cet_own.specs.Told.{told_in, told_spans, first_span, kept_pointer, kept_pointers}
 use Rattle.cet_own.proofs.Covered.{Covered, told_numbers, AllEnded, LastCovered}

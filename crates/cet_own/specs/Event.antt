@@ -1,12 +1,13 @@
 -- The events of a run: what its accesses do to the book of shadow stacks. Source: own.
-use Rattle.std.specs.Prelude.{ℕ, List, [], ◌∷◌, ◌++◌, Option, Some, None, slice_get, option_and_then}
+use Rattle.std.specs.Prelude.{ℕ, List, [], ◌∷◌, ◌++◌, Option, Some, None, slice_get}
 use Rattle.std.specs.Option.{option_map_or}
 use Rattle.cet_words.specs.Access.{answer}
 use Rattle.cet_words.specs.Change.{Change}
 use Rattle.cet_words.specs.Job.{JobData}
 use Rattle.cet_words.specs.declared.accesses.Access.{Access}
 use Rattle.cet_book.specs.declared.events.Event.{Event}
-use Rattle.cet_book.specs.Book.{Book, first_book, event_of, book_step, book_after, books_after}
+use Rattle.cet_book.specs.Book.{Book, first_book, event_of, book_after, books_after}
+use Rattle.cet_book.specs.EventLists.{book_by}
 use Rattle.cet_page.specs.Core.{next_access, next_changes}
 use Rattle.cet_page.specs.Machine.{Machine, Thread, step}
 
@@ -39,11 +40,6 @@ events_from job m (Some b) (t ∷ ts) =
 -- the events of a run, in order
 abbrev pub events : JobData → Machine → (turns : List ℕ) → List Event
 events job start turns = events_from job start (Some first_book) turns
-
--- the book after events, or None where one of them has no case
-abbrev pub book_by : Book → List Event → Option Book
-book_by b [] = Some b
-book_by b (e ∷ es) = option_and_then (λ next. book_by next es) (book_step b e)
 
 -- the last book of a run from the start
 abbrev pub book_of : JobData → Machine → (turns : List ℕ) → Option Book

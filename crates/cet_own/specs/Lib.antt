@@ -1,6 +1,7 @@
 pub mod Past
 pub mod Event
 pub mod Along
+pub mod Switched
 pub mod ExitWord
 pub mod Safe
 pub mod ToldTokens

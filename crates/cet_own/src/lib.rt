@@ -7,4 +7,7 @@ mod laws;
 mod tests;
 
 pub use access_classes::{Class, class_of};
-pub use laws::{every_run_ends_right, every_run_is_safe, every_run_stands};
+pub use laws::{
+    every_run_ends_right, every_run_is_legal, every_run_is_safe, every_run_raises,
+    every_run_stands, every_run_switches,
+};
