@@ -64,3 +64,4 @@ pub mod First
 pub mod Turns
 pub mod StandsAt
 pub mod Run
+pub mod Numbers

@@ -91,7 +91,8 @@ drawn_more P wrote (tell word value changes s) n k zero (x ∷ vs) past a own v 
 drawn_more P wrote (tell word value changes s) n k (suc i) vs past a own v f h w =
     drawn_more P true s (n + 1) k i vs (visit (access.Store word value) 0 changes ∷ past) a own v f.1 h w
 
-row_more : (job : JobData) (core : Core) (a : Access) (own : ℕ → List Change) (v : ℕ) → Waits job core → row_played job core.arch core.vals ≡ Wants a own → drawn (row_trail job core.arch (vals_after core.vals a v)) ≡ draws (own v) (drawn (trail_of job core))
+-- so the present row
+pub row_more : (job : JobData) (core : Core) (a : Access) (own : ℕ → List Change) (v : ℕ) → Waits job core → row_played job core.arch core.vals ≡ Wants a own → drawn (row_trail job core.arch (vals_after core.vals a v)) ≡ draws (own v) (drawn (trail_of job core))
 row_more job core a own v h w =
     let arch = unheld core.arch in
     rw add-one (drawn_more (Ends job arch) false (row job arch) 0 0 core.vals.accesses core.vals.values [] a own v (walk_row job arch).walks (spent job core h) w)
@@ -110,9 +111,9 @@ told_more trace r =
 onward_came : (job : JobData) (thread : Thread) (held : Option ℕ) (seen : ValsData) (d : Drawn) (child : Option Core) (c : Played Finish) → drawn (row_trail job thread.core.arch seen) ≡ d → CameTells EndTells d c → Onward job d thread (thread_after thread (left_by job thread.core.arch held seen c child))
 onward_came job thread held seen d child (Wants a changes) e o = goes_on refl e
 onward_came job thread held seen d child (Faulted f) e o = ends [] (told_more thread.trace _) refl (tells_nothing refl o)
-onward_came job thread held seen d child (Completed (Noted next r) left values) e o = ends (told r r.what) (told_more thread.trace r) refl o
+onward_came job thread held seen d child (Completed (Noted next r) left values) e o = ends (told r r.what) (told_more thread.trace r) refl o.stack
 onward_came job thread held seen d child (Completed (Posted next) left values) e o = ends [] (sym (append-nil (told_in thread.trace))) refl (tells_nothing refl o)
-onward_came job thread held seen d child (Completed (Exited next r status) left values) e o = ends (told r r.what) (told_more thread.trace r) refl o
+onward_came job thread held seen d child (Completed (Exited next r status) left values) e o = ends (told r r.what) (told_more thread.trace r) refl o.stack
 onward_came job thread held seen d child (Completed Stopped left values) e o = ends [] (sym (append-nil (told_in thread.trace))) refl (tells_nothing refl o)
 
 onward : (job : JobData) (thread : Thread) (a : Access) (own : ℕ → List Change) (v : ℕ) → Waits job thread.core → row_played job thread.core.arch thread.core.vals ≡ Wants a own → Onward job (draws (next_changes job thread.core v) (row_drawn job thread)) thread (thread_after thread (taken job thread.core v))

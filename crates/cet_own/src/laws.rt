@@ -4,6 +4,7 @@ ghost use Rattle.std.specs.Prelude.{ℕ, List};
 ghost use Rattle.cet_words.specs.Job.{JobData, IsJob};
 ghost use Rattle.cet_book.specs.Book.{first_book};
 ghost use Rattle.cet_page.specs.Machine.{Machine, Starts, run};
+ghost use Rattle.cet_page.specs.Numbered.{CountsLow, DrawsRight, Numbered};
 ghost use Rattle.cet_own.specs.Along.{Along};
 ghost use Rattle.cet_own.specs.ExitWord.{EndsRight};
 ghost use Rattle.cet_own.specs.Gates.{TurnTells};
@@ -28,4 +29,23 @@ pub fn every_run_stands()
 /// status below 256, or 512 and a signal from 1 to 31.
 pub fn every_run_ends_right()
     ensures { (job : JobData) (start : Machine) (turns : List ℕ) → IsJob job → Starts job start → EndsRight (run job start turns) }
+{}
+
+/// After every run of every job the thread at each place of the list has that number, and there are as
+/// many threads as the word NEXT_THREAD says, or 32 where it says more.
+pub fn every_run_is_numbered()
+    ensures { (job : JobData) (start : Machine) (turns : List ℕ) → IsJob job → Starts job start → Numbered (run job start turns) }
+{}
+
+/// After every run of every job, the access that a thread waits for draws the number of a thread by a
+/// fetch-and-add of 1, and bears that thread exactly where the number is below 32; or it leaves the word
+/// NEXT_THREAD as it was, and bears nobody.
+pub fn every_run_draws_numbers()
+    ensures { (job : JobData) (start : Machine) (turns : List ℕ) → IsJob job → Starts job start → DrawsRight job (run job start turns) }
+{}
+
+/// After every run of every job the words NEXT_THREAD and DRAW_SHADOW are far below 2 ^ 64, so no
+/// fetch-and-add on one of them wraps.
+pub fn every_run_counts_low()
+    ensures { (job : JobData) (start : Machine) (turns : List ℕ) → IsJob job → Starts job start → CountsLow (run job start turns).words }
 {}
