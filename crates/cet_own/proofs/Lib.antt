@@ -65,3 +65,4 @@ pub mod Turns
 pub mod StandsAt
 pub mod Run
 pub mod Numbers
+pub mod Naming

@@ -37,7 +37,7 @@ use Rattle.cet_page.specs.declared.finishes.Finish.TheVariants.{Noted, Posted, E
 use Rattle.cet_page.proofs.ChildLaws.{child_taken}
 use Rattle.cet_page.proofs.Walk.{Walks, Spent, acted}
 use Rattle.cet_page.proofs.WalkRows.{Ends, walk_row}
-use Rattle.cet_page.proofs.WithinLaws.{spent}
+use Rattle.cet_page.proofs.WithinLaws.{row_grown}
 use Rattle.cet_own.specs.Event.{access_changes, thread_changes, turn_changes}
 use Rattle.cet_own.specs.Told.{told, told_in, first_span}
 use Rattle.cet_own.proofs.Drawing.{times, occurs, times-append, times_found, sum_found, HasSpan, HasStart, span_starts, span_lasts, Drawing, drawing_all}
@@ -70,32 +70,8 @@ pub record Recorded (job : JobData) (b : Book) (threads : List Thread) : Type 0 
 
 -- ---- an access draws what its changes say
 
-drawn_more : {A : Type 0} (P : A → Type 0) (wrote : Bool) (s : Script A) (n k i : ℕ) (vs : List ℕ) (past : List Visit) (a : Access) (own : ℕ → List Change) (v : ℕ) → Walks n k wrote P s → Spent s i vs → play s i vs ≡ Wants a own → drawn (trail (suc i) s (kept_after vs a v) past) ≡ draws (own v) (drawn (trail i s vs past))
-drawn_more P wrote (done x) n k i vs past a own v f h w = cc
-drawn_more P wrote (fault e) n k i vs past a own v f h w = cc
-drawn_more P wrote (ask b changes c) n k zero [] past a own v f h w =
-    let e : a ≡ b = cc in
-    let same : changes ≡ own = cc in
-    let kept : keeps a ≡ true = ap keeps e ∙ f.0 in
-    rw kept (ap (λ (l : ℕ → List Change). draws (l v) (drawn past)) same)
-drawn_more P wrote (ask b changes c) n k zero (x ∷ vs) past a own v f h w = absurd h
-drawn_more P wrote (ask b changes c) n k (suc i) [] past a own v f h w = absurd h
-drawn_more P wrote (ask b changes c) n k (suc i) (x ∷ vs) past a own v f h w =
-    let g = f.1 x in
-    subst (λ l. drawn (trail (suc (suc i)) (ask b changes c) l past) ≡ draws (own v) (drawn (trail (suc i) (ask b changes c) (x ∷ vs) past))) (kept_cons x vs a v)
-    (drawn_more P (acted wrote b x (changes x)) (c x) (n + 1) (k + 1) i vs (visit b x (changes x) ∷ past) a own v g.1 h w)
-drawn_more P wrote (tell word value changes s) n k zero [] past a own v f h w =
-    let same : (λ (u : ℕ). changes) ≡ own = cc in
-    ap (λ (l : ℕ → List Change). draws (l v) (drawn past)) same
-drawn_more P wrote (tell word value changes s) n k zero (x ∷ vs) past a own v f h w = absurd h
-drawn_more P wrote (tell word value changes s) n k (suc i) vs past a own v f h w =
-    drawn_more P true s (n + 1) k i vs (visit (access.Store word value) 0 changes ∷ past) a own v f.1 h w
-
--- so the present row
 pub row_more : (job : JobData) (core : Core) (a : Access) (own : ℕ → List Change) (v : ℕ) → Waits job core → row_played job core.arch core.vals ≡ Wants a own → drawn (row_trail job core.arch (vals_after core.vals a v)) ≡ draws (own v) (drawn (trail_of job core))
-row_more job core a own v h w =
-    let arch = unheld core.arch in
-    rw add-one (drawn_more (Ends job arch) false (row job arch) 0 0 core.vals.accesses core.vals.values [] a own v (walk_row job arch).walks (spent job core h) w)
+row_more job core a own v h w = let r = row_grown job core a own v h w in ap drawn r.1
 
 -- ---- what a thread tells after its access
 

@@ -4,7 +4,7 @@ ghost use Rattle.std.specs.Prelude.{ℕ, List};
 ghost use Rattle.cet_words.specs.Job.{JobData, IsJob};
 ghost use Rattle.cet_book.specs.Book.{first_book};
 ghost use Rattle.cet_page.specs.Machine.{Machine, Starts, run};
-ghost use Rattle.cet_page.specs.Numbered.{CountsLow, DrawsRight, Numbered};
+ghost use Rattle.cet_page.specs.Numbered.{CountsLow, DrawsRight, Named, Numbered};
 ghost use Rattle.cet_own.specs.Along.{Along};
 ghost use Rattle.cet_own.specs.ExitWord.{EndsRight};
 ghost use Rattle.cet_own.specs.Gates.{TurnTells};
@@ -42,6 +42,13 @@ pub fn every_run_is_numbered()
 /// NEXT_THREAD as it was, and bears nobody.
 pub fn every_run_draws_numbers()
     ensures { (job : JobData) (start : Machine) (turns : List ℕ) → IsJob job → Starts job start → DrawsRight job (run job start turns) }
+{}
+
+/// After every run of every job, each thread but the first is told of by a thread with a lower number: a
+/// `born` record of it names it, or its present row has borne it and isn't done, and then it hasn't
+/// ended. And whatever thread is told of so is there, and has a higher number.
+pub fn every_run_is_named()
+    ensures { (job : JobData) (start : Machine) (turns : List ℕ) → IsJob job → Starts job start → Named job (run job start turns).threads }
 {}
 
 /// After every run of every job the words NEXT_THREAD and DRAW_SHADOW are far below 2 ^ 64, so no

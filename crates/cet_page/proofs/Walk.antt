@@ -401,7 +401,7 @@ pub ruleset walk_rules = (walk_parts, walk_store_each, walk_stores_most, walk_lo
 
 -- ---- what it tells of a script that was played
 
-kept_cons : (x : ℕ) (vs : List ℕ) (a : Access) (v : ℕ) → kept_after (x ∷ vs) a v ≡ x ∷ kept_after vs a v
+pub kept_cons : (x : ℕ) (vs : List ℕ) (a : Access) (v : ℕ) → kept_after (x ∷ vs) a v ≡ x ∷ kept_after vs a v
 kept_cons x vs a v = elim (keeps a) as (λ b. cond b ((x ∷ vs) ++ v ∷ []) (x ∷ vs) ≡ x ∷ cond b (vs ++ v ∷ []) vs) [ true ↦ refl | false ↦ refl ]
 
 -- The accesses so far are the first ones of the script, and these are the answers kept of them.
