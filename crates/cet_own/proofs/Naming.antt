@@ -16,26 +16,27 @@ use Rattle.cet_isa.specs.declared.threads.Record.{Record}
 use Rattle.cet_book.specs.Book.{first_book}
 use Rattle.cet_page.specs.Core.{Core, access_of, answered, born, changes_of, child_core, child_of, first_core, fault_record, next_access, next_changes, row_played, taken, unheld, wanted}
 use Rattle.cet_page.specs.Machine.{Machine, Starts, Thread, act, accessed, run, step, step_by, thread_after, with_child}
-use Rattle.cet_page.specs.Numbered.{IsBearing, IsNamed, Named, Names, TellsOf, borne_by, borne_in, named}
+use Rattle.cet_page.specs.Numbered.{BirthsAreTold, Draws, bears, bears_nobody, leaves, DrawsRight, IsBearing, IsNamed, Named, Names, Numbered, TellsOf, TellsOn, borne_by, borne_in, named}
 use Rattle.cet_page.specs.Row.{row}
-use Rattle.cet_page.specs.Script.{Played, Completed, Faulted, Wants, birth, held_after}
-use Rattle.cet_page.specs.Trail.{Visit, row_trail, trail_of}
-use Rattle.cet_page.specs.ValsData.{ValsData, vals_after}
+use Rattle.cet_page.specs.Script.{Script, done, fault, ask, tell, Played, Completed, Faulted, Wants, birth, held_after, play}
+use Rattle.cet_page.specs.Trail.{Visit, row_trail, trail, trail_of, visit}
+use Rattle.cet_page.specs.ValsData.{ValsData, no_vals, vals_after}
 use Rattle.cet_page.specs.Within.{Waits}
 use Rattle.cet_page.specs.declared.finishes.Finish.{Finish}
 use Rattle.cet_page.specs.declared.finishes.Finish.TheVariants.{Noted, Posted, Exited, Stopped}
 use Rattle.cet_page.proofs.ChildLaws.{child_taken}
 use Rattle.cet_page.proofs.NumberLaws.{get_last, get_low, get_other, get_same}
-use Rattle.cet_page.proofs.WithinLaws.{row_grown}
-use Rattle.cet_own.specs.Past.{is_number, next_word, numbered}
-use Rattle.cet_own.proofs.Counters as counters
-use Rattle.cet_own.proofs.Counters.{CountsBy}
-use Rattle.cet_own.proofs.Drawn.{Drawn, draw, draws, drawn, EndTells, CameTells, came_tells}
-use Rattle.cet_own.proofs.Numbers.{counts_at, thread_stands}
+use Rattle.cet_page.proofs.Walk.{BirthFits, births}
+use Rattle.cet_page.proofs.WalkRows.{Ends, walk_row}
+use Rattle.cet_page.proofs.WithinLaws.{row_grown, waiting}
+use Rattle.cet_own.specs.Told.{told}
+use Rattle.cet_book.specs.View.{Span}
+use Rattle.cet_own.proofs.Drawn.{Drawn, draw, draws, drawn, TellsOf as StackTells, tells_nothing, tells_stack, EndTells, CameTells, Telling, came_tells}
+use Rattle.cet_own.proofs.Numbers.{draws_right, numbered_at}
 use Rattle.cet_own.proofs.Owed.{State}
 use Rattle.cet_own.proofs.Run.{first_stands, turn}
 use Rattle.cet_own.proofs.TellingRows.{row_tells}
-use Rattle.cet_own.proofs.Threads.{CoreStands, left_by}
+use Rattle.cet_own.proofs.Threads.{left_by}
 use Rattle.cet_own.proofs.Turns.{Invariant}
 
 -- ---- whom a row has borne
@@ -72,24 +73,90 @@ borne_still [] o e = refl
 borne_still (Born child start ∷ cs) o e = cc
 borne_still (c ∷ cs) o e = borne_still cs o e
 
+-- ---- a row bears one thread at most
+
+kept_one : (c : Change) (d : Drawn) → length d.kept ≤ length (draw c d).kept
+kept_one (Born child start) d = omega arith
+kept_one (Seeded start blanks) d = omega arith
+kept_one c d = omega arith
+
+kept_grows : (cs : List Change) (d : Drawn) → length d.kept ≤ length (draws cs d).kept
+kept_grows [] d = omega arith
+kept_grows (c ∷ cs) d =
+    let one = kept_one c d in
+    let more = kept_grows cs (draw c d) in
+    omega arith
+
+few_none : (l : List ℕ) → l ≡ [] → length l ≤ 1
+few_none l e = let n : length l ≡ 0 = ap length e in omega arith
+
+few_told : (d : Drawn) (spans : List Span) → StackTells d spans → length d.kept ≤ 1
+few_told d spans (tells_nothing e k) = few_none d.kept k
+few_told d spans (tells_stack s e c (inl k)) = few_none d.kept k
+few_told d spans (tells_stack s e c (inr k)) = let n : length d.kept ≡ 1 = ap length k in omega arith
+
+few_kept : (d : Drawn) (s : Script Finish) → Telling EndTells d s → length d.kept ≤ 1
+few_kept d (done (Noted next r)) h = few_told d (told r r.what) h.stack
+few_kept d (done (Posted next)) h = few_none d.kept h
+few_kept d (done (Exited next r status)) h = few_told d (told r r.what) h.stack
+few_kept d (done Stopped) h = few_none d.kept h
+few_kept d (fault e) h = few_none d.kept h
+few_kept d (ask a changes f) h =
+    let grows = kept_grows (changes 0) d in
+    let few = few_kept (draws (changes 0) d) (f 0) (h 0) in
+    omega arith
+few_kept d (tell word value changes s) h =
+    let grows = kept_grows changes d in
+    let few = few_kept (draws changes d) s h in
+    omega arith
+
+-- so also after its next access
+few_next : (past : List Visit) (s : Script Finish) (n : ℕ) (vs : List ℕ) (a : Access) (own : ℕ → List Change) (v : ℕ) → Telling EndTells (drawn past) s → play s n vs ≡ Wants a own → length (draws (own v) (drawn (trail n s vs past))).kept ≤ 1
+few_next past (done x) n vs a own v h w = cc
+few_next past (fault e) n vs a own v h w = cc
+few_next past (ask b changes f) zero vs a own v h w =
+    let same : changes ≡ own = cc in
+    subst (λ (l : ℕ → List Change). length (draws (l v) (drawn past)).kept ≤ 1) same (few_kept (draws (changes v) (drawn past)) (f v) (h v))
+few_next past (ask b changes f) (suc n) [] a own v h w =
+    let same : changes ≡ own = cc in
+    subst (λ (l : ℕ → List Change). length (draws (l v) (drawn past)).kept ≤ 1) same (few_kept (draws (changes v) (drawn past)) (f v) (h v))
+few_next past (ask b changes f) (suc n) (x ∷ vs) a own v h w = few_next (visit b x (changes x) ∷ past) (f x) n vs a own v (h x) w
+few_next past (tell word value changes s) zero vs a own v h w =
+    let same : (λ (u : ℕ). changes) ≡ own = cc in
+    subst (λ (l : ℕ → List Change). length (draws (l v) (drawn past)).kept ≤ 1) same (few_kept (draws changes (drawn past)) s h)
+few_next past (tell word value changes s) (suc n) vs a own v h w = few_next (visit (access.Store word value) 0 changes ∷ past) s n vs a own v h w
+
+some_kept : (past : List Visit) (n : ℕ) (l : List ℕ) → (drawn past).kept ≡ l → borne_in past ≡ Some n → 1 ≤ length l
+some_kept past n [] e b = (let none : None ≡ Some n = sym (none_borne past e) ∙ b in cc)
+some_kept past n (x ∷ l) e b = omega arith
+
+-- a row that bears a thread has borne none before
+once : (job : JobData) (core : Core) (a : Access) (own : ℕ → List Change) (v : ℕ) → row_played job core.arch core.vals ≡ Wants a own → (n child start : ℕ) → own v ≡ Born child start ∷ [] → borne_in (trail_of job core) ≡ Some n → ⊥
+once job core a own v w n child start e b =
+    let past = trail_of job core in
+    let few = few_next [] (row job (unheld core.arch)) core.vals.accesses core.vals.values a own v (row_tells job (unheld core.arch)) w in
+    let two : length (draws (own v) (drawn past)).kept ≡ length (drawn past).kept + 1 = ap (λ cs. length (draws cs (drawn past)).kept) e ∙ omega arith in
+    let some = some_kept past n (drawn past).kept refl b in
+    omega arith
+
 -- ---- one thread
 
 -- Its row goes on, having borne this; or it is over, and its record names that thread; or it is over without a record, and
 -- bore nobody.
-data Onward (job : JobData) (o : Option ℕ) (drew : Bool) (thread next : Thread) : Type 0 where
-  goes_on : next.trace ≡ thread.trace → borne_in (trail_of job next.core) ≡ o → numbered (trail_of job next.core) ≡ drew → next.core.over ≡ None → Onward job o drew thread next
-  ends : (r : Record) → next.trace ≡ thread.trace ++ r ∷ [] → o ≡ named r.what r.a → borne_in (trail_of job next.core) ≡ None → Onward job o drew thread next
-  stops : next.trace ≡ thread.trace → o ≡ None → borne_in (trail_of job next.core) ≡ None → Onward job o drew thread next
+data Onward (job : JobData) (o : Option ℕ) (thread next : Thread) : Type 0 where
+  goes_on : next.trace ≡ thread.trace → borne_in (trail_of job next.core) ≡ o → next.core.over ≡ None → Onward job o thread next
+  ends : (r : Record) → next.trace ≡ thread.trace ++ r ∷ [] → o ≡ named r.what r.a → borne_in (trail_of job next.core) ≡ None → Onward job o thread next
+  stops : next.trace ≡ thread.trace → o ≡ None → borne_in (trail_of job next.core) ≡ None → Onward job o thread next
 
-onward_came : (job : JobData) (thread : Thread) (held : Option ℕ) (seen : ValsData) (child : Option Core) (c : Played Finish) → CameTells EndTells (drawn (row_trail job thread.core.arch seen)) c → Onward job (borne_in (row_trail job thread.core.arch seen)) (numbered (row_trail job thread.core.arch seen)) thread (thread_after thread (left_by job thread.core.arch held seen c child))
-onward_came job thread held seen child (Wants a changes) k = goes_on refl refl refl refl
+onward_came : (job : JobData) (thread : Thread) (held : Option ℕ) (seen : ValsData) (child : Option Core) (c : Played Finish) → CameTells EndTells (drawn (row_trail job thread.core.arch seen)) c → Onward job (borne_in (row_trail job thread.core.arch seen)) thread (thread_after thread (left_by job thread.core.arch held seen c child))
+onward_came job thread held seen child (Wants a changes) k = goes_on refl refl refl
 onward_came job thread held seen child (Faulted e) k = ends (fault_record thread.core.arch e) refl (none_borne (row_trail job thread.core.arch seen) k) refl
 onward_came job thread held seen child (Completed (Noted next r) left values) k = ends r refl (sym (borne_is (row_trail job thread.core.arch seen)) ∙ k.thread) refl
 onward_came job thread held seen child (Completed (Posted next) left values) k = stops refl (none_borne (row_trail job thread.core.arch seen) k) refl
 onward_came job thread held seen child (Completed (Exited next r status) left values) k = ends r refl (sym (borne_is (row_trail job thread.core.arch seen)) ∙ k.thread) refl
 onward_came job thread held seen child (Completed Stopped left values) k = stops refl (none_borne (row_trail job thread.core.arch seen) k) refl
 
-onward : (job : JobData) (thread : Thread) (a : Access) (own : ℕ → List Change) (v : ℕ) → Waits job thread.core → row_played job thread.core.arch thread.core.vals ≡ Wants a own → Onward job (borne_by (next_changes job thread.core v) (borne_in (trail_of job thread.core))) (is_number a || numbered (trail_of job thread.core)) thread (thread_after thread (taken job thread.core v))
+onward : (job : JobData) (thread : Thread) (a : Access) (own : ℕ → List Change) (v : ℕ) → Waits job thread.core → row_played job thread.core.arch thread.core.vals ≡ Wants a own → Onward job (borne_by (next_changes job thread.core v) (borne_in (trail_of job thread.core))) thread (thread_after thread (taken job thread.core v))
 unfolding taken
 onward job thread a own v h w =
     let core = thread.core in
@@ -97,9 +164,9 @@ onward job thread a own v h w =
     let grown = row_grown job core a own v h w in
     let came = came_tells EndTells [] (row job (unheld core.arch)) seen.accesses seen.values (row_tells job (unheld core.arch)) in
     let all = onward_came job thread (held_after (own v) core.arch.held) seen (child_of core.arch (own v)) (row_played job core.arch seen) came in
-    let some : Onward job (borne_by (own v) (borne_in (trail_of job core))) (is_number a || numbered (trail_of job core)) thread (thread_after thread (answered job core v (Wants a own))) =
-    subst (λ (l : List Visit). Onward job (borne_in l) (numbered l) thread (thread_after thread (answered job core v (Wants a own)))) grown.1 all in
-    subst (λ c. Onward job (borne_by (changes_of c v) (borne_in (trail_of job core))) (is_number a || numbered (trail_of job core)) thread (thread_after thread (answered job core v c))) (sym w) some
+    let some : Onward job (borne_by (own v) (borne_in (trail_of job core))) thread (thread_after thread (answered job core v (Wants a own))) =
+    subst (λ (l : List Visit). Onward job (borne_in l) thread (thread_after thread (answered job core v (Wants a own)))) grown.1 all in
+    subst (λ c. Onward job (borne_by (changes_of c v) (borne_in (trail_of job core))) thread (thread_after thread (answered job core v c))) (sym w) some
 
 -- ---- records
 
@@ -118,40 +185,66 @@ names_back n [] r (inr h) = absurd h
 names_back n (x ∷ trace) r (inl e) = inl (inl e)
 names_back n (x ∷ trace) r (inr h) = elim (names_back n trace r h) [ inl k ↦ inl (inr k) | inr e ↦ inr e ]
 
-module _ {job : JobData} {o : Option ℕ} {drew : Bool} {thread next : Thread} (n : ℕ) where
+module _ {job : JobData} {o : Option ℕ} {thread next : Thread} (n : ℕ) where
   -- what it has told of, or its row has borne, it tells of afterwards
-  tells_on : Onward job o drew thread next → Names n thread.trace ⊎ (o ≡ Some n) → TellsOf job next n
-  tells_on (goes_on t b d g) (inl h) = inl (subst (Names n) (sym t) h)
-  tells_on (goes_on t b d g) (inr e) = inr (record { borne = b ∙ e; goes = g })
+  tells_on : Onward job o thread next → Names n thread.trace ⊎ (o ≡ Some n) → TellsOf job next n
+  tells_on (goes_on t b g) (inl h) = inl (subst (Names n) (sym t) h)
+  tells_on (goes_on t b g) (inr e) = inr (record { borne = b ∙ e; goes = g })
   tells_on (ends r t e b) (inl h) = inl (subst (Names n) (sym t) (names_more n thread.trace r h))
   tells_on (ends r t e b) (inr is) = inl (subst (Names n) (sym t) (names_last n thread.trace r (sym e ∙ is)))
   tells_on (stops t e b) (inl h) = inl (subst (Names n) (sym t) h)
   tells_on (stops t e b) (inr is) = (let none : None ≡ Some n = sym e ∙ is in cc)
 
   -- and of nothing else
-  tells_back : Onward job o drew thread next → TellsOf job next n → Names n thread.trace ⊎ (o ≡ Some n)
-  tells_back (goes_on t b d g) (inl h) = inl (subst (Names n) t h)
-  tells_back (goes_on t b d g) (inr k) = inr (sym b ∙ k.borne)
+  tells_back : Onward job o thread next → TellsOf job next n → Names n thread.trace ⊎ (o ≡ Some n)
+  tells_back (goes_on t b g) (inl h) = inl (subst (Names n) t h)
+  tells_back (goes_on t b g) (inr k) = inr (sym b ∙ k.borne)
   tells_back (ends r t e b) (inl h) = elim (names_back n thread.trace r (subst (Names n) t h)) [ inl k ↦ inl k | inr is ↦ inr (e ∙ is) ]
   tells_back (ends r t e b) (inr k) = (let none : None ≡ Some n = sym b ∙ k.borne in cc)
   tells_back (stops t e b) (inl h) = inl (subst (Names n) t h)
   tells_back (stops t e b) (inr k) = (let none : None ≡ Some n = sym b ∙ k.borne in cc)
 
+-- ---- one access
+
+module _ (job : JobData) (thread : Thread) (live : thread.core.over ≡ None) (next : Thread) where
+  -- nobody is born
+  told_none : (o : Option ℕ) → o ≡ borne_in (trail_of job thread.core) → Onward job o thread next → TellsOn job thread next None
+  told_none o same way = record {
+    kept = λ n tells. elim tells [ inl a ↦ tells_on n way (inl a) | inr b ↦ tells_on n way (inr (same ∙ b.borne)) ];
+    born = λ core e. cc;
+    only = λ n tells. elim (tells_back n way tells) [ inl a ↦ inl (inl a) | inr b ↦ inl (inr (record { borne = sym same ∙ b; goes = live })) ];
+  }
+
+  -- one thread is born, and none was before
+  told_one : (core : Core) → ((n : ℕ) → borne_in (trail_of job thread.core) ≡ Some n → ⊥) → Onward job (Some core.arch.number) thread next → TellsOn job thread next (Some core)
+  told_one core none way = record {
+    kept = λ n tells. elim tells [ inl a ↦ tells_on n way (inl a) | inr b ↦ absurd (none n b.borne) ];
+    born = λ c e. (let same : core.arch.number ≡ c.arch.number = cc in subst (TellsOf job next) same (tells_on core.arch.number way (inr refl)));
+    only = λ n tells. elim (tells_back n way tells) [ inl a ↦ inl (inl a) | inr b ↦ inr (core, refl, (let same : core.arch.number ≡ n = cc in same)) ];
+  }
+
+  told_by : (changes : List Change) (b : Option (ℕ × ℕ)) → birth changes ≡ b → BirthFits changes → ((n child start : ℕ) → changes ≡ Born child start ∷ [] → borne_in (trail_of job thread.core) ≡ Some n → ⊥) → Onward job (borne_by changes (borne_in (trail_of job thread.core))) thread next → TellsOn job thread next (child_of thread.core.arch changes)
+  told_by changes None e fits none way =
+      subst (TellsOn job thread next) (sym (ap (born thread.core.arch) e)) (told_none (borne_by changes (borne_in (trail_of job thread.core))) (borne_still changes (borne_in (trail_of job thread.core)) e) way)
+  told_by changes (Some c) e fits none way =
+      let alone = fits.alone c e in
+      let child = child_core thread.core.arch c.0 c.1 in
+      let now = subst (λ cs. Onward job (borne_by cs (borne_in (trail_of job thread.core))) thread next) alone way in
+      subst (TellsOn job thread next) (sym (ap (born thread.core.arch) e)) (told_one child (λ n b. none n c.0 c.1 alone b) now)
+
+pub births_told : BirthsAreTold
+births_told job thread v is live =
+    let h = waiting job thread.core is live in
+    let w = h.waits in
+    let arch = unheld thread.core.arch in
+    let left = taken job thread.core v in
+    let changes = next_changes job thread.core v in
+    let same : w.1 v ≡ changes = sym (ap (λ c. changes_of c v) w.2) in
+    let fits = births (Ends job arch) false (row job arch) 0 0 thread.core.vals.accesses thread.core.vals.values w.0 w.1 v (walk_row job arch).walks w.2 in
+    subst (TellsOn job thread (thread_after thread left)) (sym (child_taken job thread.core v w.0 w.1 w.2))
+    (told_by job thread live (thread_after thread left) changes (birth changes) refl (subst BirthFits same fits) (λ n child start e b. once job thread.core w.0 w.1 v w.2 n child start (same ∙ e) b) (onward job thread w.0 w.1 v h w.2))
+
 -- ---- all threads
-
--- a row that has borne a thread has drawn its number
-pub record Naming (job : JobData) (threads : List Thread) : Type 0 where
-  pub named : Named job threads
-  pub drew : (t n : ℕ) (thread : Thread) → slice_get threads t ≡ Some thread → borne_in (trail_of job thread.core) ≡ Some n → numbered (trail_of job thread.core) ≡ true
-
-drew_on : {job : JobData} {o : Option ℕ} {drew : Bool} {thread next : Thread} (n : ℕ) → Onward job o drew thread next → (o ≡ Some n → drew ≡ true) → borne_in (trail_of job next.core) ≡ Some n → numbered (trail_of job next.core) ≡ true
-drew_on n (goes_on t b d g) h e = d ∙ h (sym b ∙ e)
-drew_on n (ends r t e b) h is = (let none : None ≡ Some n = sym b ∙ is in cc)
-drew_on n (stops t e b) h is = (let none : None ≡ Some n = sym b ∙ is in cc)
-
-or_true : (b : Bool) → (b || true) ≡ true
-or_true true = refl
-or_true false = refl
 
 -- which thread of the list after an access this is
 data Place (threads : List Thread) (t : ℕ) (x : Thread) (child : Option Core) (k : ℕ) (y : Thread) : Type 0 where
@@ -179,16 +272,20 @@ place threads t k x y (Some core) l e =
           newborn core refl (let at = get_last set new in let found : slice_get (set ++ new ∷ []) (length set) ≡ Some y = subst (λ n. slice_get (set ++ new ∷ []) n ≡ Some y) last e in cc)
     ]
 
-module _ (job : JobData) (threads : List Thread) (t : ℕ) (thread moved : Thread) (h : Naming job threads) (found : slice_get threads t ≡ Some thread) (live : thread.core.over ≡ None) where
+-- a thread with a next access hasn't ended
+still_by : (job : JobData) (core : Core) (a : Access) (over : Option End) → access_of job core over ≡ Some a → over ≡ None
+still_by job core a (Some end) e = cc
+still_by job core a None e = refl
+
+still_on : (job : JobData) (core : Core) (a : Access) → next_access job core ≡ Some a → core.over ≡ None
+unfolding next_access
+still_on job core a e = still_by job core a core.over e
+
+module _ (job : JobData) (threads : List Thread) (t : ℕ) (thread moved : Thread) (h : Named job threads) (found : slice_get threads t ≡ Some thread) where
   inside : t < length threads
   inside = slice_get_within threads t thread found
 
-  -- what was told is told
-  kept_tells : (n : ℕ) (o : Option ℕ) (drew : Bool) → Onward job o drew thread moved → (borne_in (trail_of job thread.core) ≡ Some n → o ≡ Some n) → TellsOf job thread n → TellsOf job moved n
-  kept_tells n o drew way keeps (inl k) = tells_on n way (inl k)
-  kept_tells n o drew way keeps (inr k) = tells_on n way (inr (keeps k.borne))
-
-  -- a thread that was told of before is told of in any list that has these threads, or this one in its place
+  -- a thread that was told of is told of in a list with all these threads, and with that which moved on
   kept_named : (new : List Thread) (n : ℕ) → slice_get new t ≡ Some moved → ((k : ℕ) (y : Thread) → k ≢ t → slice_get threads k ≡ Some y → slice_get new k ≡ Some y) → (TellsOf job thread n → TellsOf job moved n) → IsNamed job threads n → IsNamed job new n
   kept_named new n here others keeps d = elim (eqb_tells d.parent t) [
     | inl u ↦
@@ -201,177 +298,120 @@ module _ (job : JobData) (threads : List Thread) (t : ℕ) (thread moved : Threa
   ]
 
   -- nobody is born
-  naming_none : (drew : Bool) → Onward job (borne_in (trail_of job thread.core)) drew thread moved → (numbered (trail_of job thread.core) ≡ true → drew ≡ true) → Naming job (slice_set threads t moved)
-  naming_none drew way more =
+  named_none : TellsOn job thread moved None → Named job (slice_set threads t moved)
+  named_none way =
       let len = length-set threads t moved in
-      let here = get_same threads t moved inside in
       record {
-        named = record {
-          each = λ n l m. kept_named (slice_set threads t moved) n here (λ k y d e. get_other threads t k moved d ∙ e) (kept_tells n (borne_in (trail_of job thread.core)) drew way (λ e. e)) (h.named.each n l (omega arith));
-          told = λ k n y e tells. told_none k n y (set_place threads t k moved y None inside e) tells;
-        };
-        drew = λ k n y e is. drew_none k n y (set_place threads t k moved y None inside e) is;
+        each = λ n l m. kept_named (slice_set threads t moved) n (get_same threads t moved inside) (λ k y d e. get_other threads t k moved d ∙ e) (way.kept n) (h.each n l (omega arith));
+        told = λ k n y e tells. told_still k n y (set_place threads t k moved y None inside e) tells;
       }
     where
-      told_none : (k n : ℕ) (y : Thread) → Place threads t moved None k y → TellsOf job y n → (k < n) × (n < length (slice_set threads t moved))
-      told_none k n y (actor u is) tells =
+      told_still : (k n : ℕ) (y : Thread) → Place threads t moved None k y → TellsOf job y n → (k < n) × (n < length (slice_set threads t moved))
+      told_still k n y (actor u is) tells =
           let len = length-set threads t moved in
           let now : TellsOf job moved n = subst (λ z. TellsOf job z n) (sym is) tells in
-          let old = h.named.told t n thread found (elim (tells_back n way now) [ inl a ↦ inl a | inr b ↦ inr (record { borne = b; goes = live }) ]) in
-          let low = old.0 in
-          let high = old.1 in
-          (omega arith, omega arith)
-      told_none k n y (other d e) tells =
+          elim (way.only n now) [
+            | inl a ↦ let old = h.told t n thread found a in let low = old.0 in let high = old.1 in (omega arith, omega arith)
+            | inr c ↦ let none = c.1 in cc
+          ]
+      told_still k n y (other d e) tells =
           let len = length-set threads t moved in
-          let old = h.named.told k n y e tells in
+          let old = h.told k n y e tells in
           let low = old.0 in
           let high = old.1 in
           (omega arith, omega arith)
-      told_none k n y (newborn core some is) tells = cc
-
-      drew_none : (k n : ℕ) (y : Thread) → Place threads t moved None k y → borne_in (trail_of job y.core) ≡ Some n → numbered (trail_of job y.core) ≡ true
-      drew_none k n y (actor u is) e =
-          let now : borne_in (trail_of job moved.core) ≡ Some n = subst (λ (z : Thread). borne_in (trail_of job z.core) ≡ Some n) (sym is) e in
-          let all = drew_on n way (λ b. more (h.drew t n thread found b)) now in
-          subst (λ (z : Thread). numbered (trail_of job z.core) ≡ true) is all
-      drew_none k n y (other d e') e = h.drew k n y e' e
-      drew_none k n y (newborn core some is) e = cc
+      told_still k n y (newborn core some is) tells = cc
 
   -- the next thread is born
-  naming_next : (arch : Arch) (start : ℕ) → Onward job (Some (length threads)) true thread moved → numbered (trail_of job thread.core) ≡ false → Naming job (slice_set threads t moved ++ record { core = child_core arch (length threads) start; trace = [] } ∷ [])
-  naming_next arch start way once =
-      let new : Thread = record { core = child_core arch (length threads) start; trace = [] } in
+  named_next : (core : Core) → core.arch.number ≡ length threads → core.vals ≡ no_vals → TellsOn job thread moved (Some core) → Named job (slice_set threads t moved ++ record { core = core; trace = [] } ∷ [])
+  named_next core number vals way =
+      let new : Thread = record { core = core; trace = [] } in
       let set = slice_set threads t moved in
       let len = length-set threads t moved in
       let more = length-append set (new ∷ []) in
       let here = get_low set new t (omega (arith, inside)) ∙ get_same threads t moved inside in
       record {
-        named = record {
-          each = λ n l m. elim (cases_lt n (length threads)) [
-            | inl low ↦
-                kept_named (set ++ new ∷ []) n here
-                (λ k y d e. get_low set new k (let w = slice_get_within threads k y e in omega arith) ∙ get_other threads t k moved d ∙ e)
-                (kept_tells n (Some (length threads)) true way (λ e. absurd (twice n e))) (h.named.each n l low)
-            | inr high ↦
-                let last : n ≡ length threads = omega arith in
-                let within = inside in
-                record { parent = t; thread = moved; found = here; lower = omega arith; tells = tells_on n way (inr (ap Some (sym last))) }
-          ];
-          told = λ k n y e tells. told_next k n y (place threads t k moved y (Some new.core) inside e) tells;
-        };
-        drew = λ k n y e is. drew_next k n y (place threads t k moved y (Some new.core) inside e) is;
+        each = λ n l m. elim (cases_lt n (length threads)) [
+          | inl low ↦
+              kept_named (set ++ new ∷ []) n here
+              (λ k y d e. get_low set new k (let w = slice_get_within threads k y e in omega arith) ∙ get_other threads t k moved d ∙ e)
+              (way.kept n) (h.each n l low)
+          | inr high ↦
+              let last : core.arch.number ≡ n = omega arith in
+              let within = inside in
+              record { parent = t; thread = moved; found = here; lower = omega arith; tells = subst (TellsOf job moved) last (way.born core refl) }
+        ];
+        told = λ k n y e tells. told_more k n y (place threads t k moved y (Some core) inside e) tells;
       }
     where
-      -- the row bears one thread at most
-      twice : (n : ℕ) → borne_in (trail_of job thread.core) ≡ Some n → ⊥
-      twice n e = let both : true ≡ false = sym (h.drew t n thread found e) ∙ once in cc
+      silent : (n : ℕ) → TellsOf job (record { core = core; trace = [] }) n → ⊥
+      silent n (inl a) = a
+      silent n (inr b) =
+          let none : borne_in (trail_of job core) ≡ None = ap (λ seen. borne_in (row_trail job core.arch seen)) vals in
+          let both : None ≡ Some n = sym none ∙ b.borne in
+          cc
 
-      child : Core
-      child = child_core arch (length threads) start
-
-      told_next : (k n : ℕ) (y : Thread) → Place threads t moved (Some child) k y → TellsOf job y n → (k < n) × (n < length (slice_set threads t moved ++ record { core = child; trace = [] } ∷ []))
-      told_next k n y (actor u is) tells =
+      told_more : (k n : ℕ) (y : Thread) → Place threads t moved (Some core) k y → TellsOf job y n → (k < n) × (n < length (slice_set threads t moved ++ record { core = core; trace = [] } ∷ []))
+      told_more k n y (actor u is) tells =
           let len = length-set threads t moved in
-          let more = length-append (slice_set threads t moved) (record { core = child; trace = [] } ∷ []) in
+          let more = length-append (slice_set threads t moved) (record { core = core; trace = [] } ∷ []) in
           let within = inside in
           let now : TellsOf job moved n = subst (λ z. TellsOf job z n) (sym is) tells in
-          elim (tells_back n way now) [
-            | inl a ↦ let old = h.named.told t n thread found (inl a) in let low = old.0 in let high = old.1 in (omega arith, omega arith)
-            | inr b ↦ let last : length threads ≡ n = cc in (omega arith, omega arith)
+          elim (way.only n now) [
+            | inl a ↦ let old = h.told t n thread found a in let low = old.0 in let high = old.1 in (omega arith, omega arith)
+            | inr c ↦
+                let some = c.1 in
+                let same : core ≡ c.0 = cc in
+                let last : core.arch.number ≡ n = ap (λ (x : Core). x.arch.number) same ∙ c.2 in
+                (omega arith, omega arith)
           ]
-      told_next k n y (other d e) tells =
+      told_more k n y (other d e) tells =
           let len = length-set threads t moved in
-          let more = length-append (slice_set threads t moved) (record { core = child; trace = [] } ∷ []) in
-          let old = h.named.told k n y e tells in
+          let more = length-append (slice_set threads t moved) (record { core = core; trace = [] } ∷ []) in
+          let old = h.told k n y e tells in
           let low = old.0 in
           let high = old.1 in
           (omega arith, omega arith)
-      told_next k n y (newborn core some is) tells =
-          let same : child ≡ core = cc in
-          let mute : TellsOf job (record { core = child; trace = [] }) n = subst (λ (c : Core). TellsOf job (record { core = c; trace = [] }) n) (sym same) (subst (λ z. TellsOf job z n) (sym is) tells) in
-          absurd (silent n mute)
-        where
-          silent : (n : ℕ) → TellsOf job (record { core = child; trace = [] }) n → ⊥
-          silent n (inl a) = a
-          silent n (inr b) = (let none : None ≡ Some n = b.borne in cc)
+      told_more k n y (newborn c some is) tells =
+          let same : c ≡ core = cc in
+          let mute : TellsOf job (record { core = c; trace = [] }) n = subst (λ z. TellsOf job z n) (sym is) tells in
+          absurd (silent n (subst (λ (x : Core). TellsOf job (record { core = x; trace = [] }) n) same mute))
 
-      drew_next : (k n : ℕ) (y : Thread) → Place threads t moved (Some child) k y → borne_in (trail_of job y.core) ≡ Some n → numbered (trail_of job y.core) ≡ true
-      drew_next k n y (actor u is) e =
-          let now : borne_in (trail_of job moved.core) ≡ Some n = subst (λ (z : Thread). borne_in (trail_of job z.core) ≡ Some n) (sym is) e in
-          subst (λ (z : Thread). numbered (trail_of job z.core) ≡ true) is (drew_on n way (λ b. refl) now)
-      drew_next k n y (other d e') e = h.drew k n y e' e
-      drew_next k n y (newborn core some is) e =
-          let same : child ≡ core = cc in
-          let none : None ≡ Some n = subst (λ (c : Core). borne_in (trail_of job c) ≡ Some n) (sym same) (subst (λ (z : Thread). borne_in (trail_of job z.core) ≡ Some n) (sym is) e) in
-          cc
+  named_by : (m : Machine) (a : Access) (child : Option Core) → m.threads ≡ threads → Draws m a child → TellsOn job thread moved child → Named job (with_child (slice_set threads t moved) child)
+  named_by m a child same (bears core e few last some new) way =
+      let at : core.arch.number ≡ length threads = new.number ∙ last ∙ ap length same in
+      subst (λ c. Named job (with_child (slice_set threads t moved) c)) (sym some) (named_next core at new.vals (subst (TellsOn job thread moved) some way))
+  named_by m a child same (bears_nobody e many none) way = subst (λ c. Named job (with_child (slice_set threads t moved) c)) (sym none) (named_none (subst (TellsOn job thread moved) none way))
+  named_by m a child same (leaves e none) way = subst (λ c. Named job (with_child (slice_set threads t moved) c)) (sym none) (named_none (subst (TellsOn job thread moved) none way))
 
--- ---- one access
+-- ---- a turn
 
-module _ (job : JobData) (j : IsJob job) (m : Machine) (s : State) (st : Invariant job m s) (h : Naming job m.threads) (t : ℕ) (thread : Thread) (found : slice_get m.threads t ≡ Some thread) (live : thread.core.over ≡ None) where
-  -- where nobody is born
-  naming_still : (moved : Thread) (a : Access) (changes : List Change) (child : Option Core) → birth changes ≡ None → child ≡ child_of thread.core.arch changes → Onward job (borne_by changes (borne_in (trail_of job thread.core))) (is_number a || numbered (trail_of job thread.core)) thread moved → Naming job (with_child (slice_set m.threads t moved) child)
-  naming_still moved a changes child none is way =
-      let past = trail_of job thread.core in
-      let nobody : child ≡ None = is ∙ ap (born thread.core.arch) none in
-      let same = subst (λ o. Onward job o (is_number a || numbered past) thread moved) (borne_still changes (borne_in past) none) way in
-      subst (λ c. Naming job (with_child (slice_set m.threads t moved) c)) (sym nobody)
-      (naming_none job m.threads t thread moved h found live (is_number a || numbered past) same (λ e. ap (λ b. is_number a || b) e ∙ or_true (is_number a)))
+module _ (job : JobData) (m : Machine) (t : ℕ) (numbers : Numbered job m) (draw : DrawsRight job m) (h : Named job m.threads) where
+  named_access : (thread : Thread) (a : Option Access) → slice_get m.threads t ≡ Some thread → next_access job thread.core ≡ a → Named job (act job m t thread a).threads
+  named_access thread None found next = h
+  named_access thread (Some a) found next =
+      let left = taken job thread.core (answer m.words a) in
+      named_by job m.threads t thread (thread_after thread left) h found m a left.child refl (draw t thread a found next) (births_told job thread (answer m.words a) (numbers.core t thread found) (still_on job thread.core a next))
 
-  naming_by : (moved : Thread) (a : Access) (changes : List Change) (child : Option Core) → child ≡ child_of thread.core.arch changes → Onward job (borne_by changes (borne_in (trail_of job thread.core))) (is_number a || numbered (trail_of job thread.core)) thread moved → CountsBy t (trail_of job thread.core) s.book a (answer m.words a) changes → Naming job (with_child (slice_set m.threads t moved) child)
-  naming_by moved a changes child is way (counters.no_count d n none) = naming_still moved a changes child none is way
-  naming_by moved a changes child is way (counters.draws_pages n most e once none) = naming_still moved a changes child none is way
-  naming_by moved a changes child is way (counters.bears_nobody e many once none) = naming_still moved a changes child none is way
-  naming_by moved a changes child is way (counters.bears_child r start e few b once ev) =
-      let past = trail_of job thread.core in
-      let count = st.paid.number in
-      let answered_is : answer m.words a ≡ slice_index m.words next_word = ap (answer m.words) e in
-      let last : answer m.words a ≡ length m.threads = omega arith in
-      let changed : changes ≡ Born (length m.threads) start ∷ [] = ev ∙ ap (λ n. Born n start ∷ []) last in
-      let drawn_now : (is_number a || numbered past) ≡ true = ap (λ c. is_number c || numbered past) e in
-      let next = subst (λ cs. Onward job (borne_by cs (borne_in past)) (is_number a || numbered past) thread moved) changed way in
-      let some : child ≡ Some (child_core thread.core.arch (length m.threads) start) = is ∙ ap (child_of thread.core.arch) changed in
-      subst (λ c. Naming job (with_child (slice_set m.threads t moved) c)) (sym some)
-      (naming_next job m.threads t thread moved h found live thread.core.arch start (subst (λ b. Onward job (Some (length m.threads)) b thread moved) drawn_now next) once)
+  named_thread : (o : Option Thread) → slice_get m.threads t ≡ o → Named job (step_by job m t o).threads
+  named_thread None found = h
+  named_thread (Some thread) found = named_access thread (next_access job thread.core) found refl
 
-  naming_access : (a : Access) (own : ℕ → List Change) → Waits job thread.core → row_played job thread.core.arch thread.core.vals ≡ Wants a own → Naming job (accessed job m t thread a).threads
-  naming_access a own waits w =
-      let v = answer m.words a in
-      let left = taken job thread.core v in
-      naming_by (thread_after thread left) a (next_changes job thread.core v) left.child (child_taken job thread.core v a own w) (onward job thread a own v waits w) (counts_at job j m s st t thread a own found live w)
-
-module _ (job : JobData) (j : IsJob job) (m : Machine) (s : State) (st : Invariant job m s) (h : Naming job m.threads) (t : ℕ) where
-  naming_core : (thread : Thread) (over : Option End) → slice_get m.threads t ≡ Some thread → thread.core.over ≡ over → CoreStands job t s thread.core over → Naming job (act job m t thread (next_access job thread.core)).threads
-  unfolding next_access
-  naming_core thread (Some e) found over stands =
-      let none : next_access job thread.core ≡ None = ap (access_of job thread.core) over in
-      subst (λ o. Naming job (act job m t thread o).threads) (sym none) h
-  naming_core thread None found over stands =
-      let w = stands.waits.waits in
-      let some : next_access job thread.core ≡ Some w.0 = ap (access_of job thread.core) over ∙ ap wanted w.2 in
-      subst (λ o. Naming job (act job m t thread o).threads) (sym some) (naming_access job j m s st h t thread found over w.0 w.1 stands.waits w.2)
-
-  naming_thread : (o : Option Thread) → slice_get m.threads t ≡ o → Naming job (step_by job m t o).threads
-  naming_thread None found = h
-  naming_thread (Some thread) found = naming_core thread thread.core.over found refl (thread_stands job j m s st t thread found).1
-
-  naming_turn : Naming job (step job m t).threads
+  named_turn : Named job (step job m t).threads
   unfolding step
-  naming_turn = naming_thread (slice_get m.threads t) refl
+  named_turn = named_thread (slice_get m.threads t) refl
 
 -- ---- a run
 
-naming_from : (job : JobData) (j : IsJob job) (turns : List ℕ) (m : Machine) (s : State) → Invariant job m s → Naming job m.threads → Naming job (run job m turns).threads
-naming_from job j [] m s st h = h
-naming_from job j (t ∷ ts) m s st h =
+named_from : (job : JobData) (j : IsJob job) (turns : List ℕ) (m : Machine) (s : State) → Invariant job m s → Named job m.threads → Named job (run job m turns).threads
+named_from job j [] m s st h = h
+named_from job j (t ∷ ts) m s st h =
     let d = turn job j m t s st in
-    naming_from job j ts (step job m t) d.next d.stands (naming_turn job j m s st h t)
+    named_from job j ts (step job m t) d.next d.stands (named_turn job m t (numbered_at job j m s st) (draws_right job j m s st) h)
 
 -- thread 0 alone has told of nobody
-first_naming : (job : JobData) → Naming job (record { core = first_core job; trace = [] } ∷ [])
-first_naming job = record {
-  named = record { each = λ n l m. absurd (omega arith); told = λ t n thread e tells. first_told t n thread e tells };
-  drew = λ t n thread e is. first_drew t n thread e is;
-}
+first_named : (job : JobData) → Named job (record { core = first_core job; trace = [] } ∷ [])
+first_named job = record { each = λ n l m. absurd (omega arith); told = λ t n thread e tells. absurd (silent n (subst (λ y. TellsOf job y n) (sym (alone t thread e)) tells)) }
   where
     first : Thread
     first = record { core = first_core job; trace = [] }
@@ -384,12 +424,6 @@ first_naming job = record {
     alone zero thread e = cc
     alone (suc t) thread e = cc
 
-    first_told : (t n : ℕ) (thread : Thread) → slice_get (first ∷ []) t ≡ Some thread → TellsOf job thread n → (t < n) × (n < 1)
-    first_told t n thread e tells = absurd (silent n (subst (λ y. TellsOf job y n) (sym (alone t thread e)) tells))
-
-    first_drew : (t n : ℕ) (thread : Thread) → slice_get (first ∷ []) t ≡ Some thread → borne_in (trail_of job thread.core) ≡ Some n → numbered (trail_of job thread.core) ≡ true
-    first_drew t n thread e is = (let none : None ≡ Some n = subst (λ (y : Thread). borne_in (trail_of job y.core) ≡ Some n) (sym (alone t thread e)) is in cc)
-
 pub named_run : (job : JobData) (start : Machine) (turns : List ℕ) → IsJob job → Starts job start → Named job (run job start turns).threads
 named_run job start turns j s =
-    (naming_from job j turns start (record { book = first_book }) (first_stands job start j s) (subst (Naming job) (sym s.threads) (first_naming job))).named
+    named_from job j turns start (record { book = first_book }) (first_stands job start j s) (subst (Named job) (sym s.threads) (first_named job))

@@ -24,6 +24,7 @@ use Rattle.cet_own.proofs.Counters.{CountsBy}
 use Rattle.cet_own.proofs.Owed.{State}
 use Rattle.cet_own.proofs.Paid.{counters_tell, few_sum, one_most, unaltered}
 use Rattle.cet_own.proofs.Run.{first_stands, turn}
+use Rattle.cet_own.proofs.StandsAt.{core_at}
 use Rattle.cet_own.proofs.Threads.{CoreStands, InRow, ThreadStands}
 use Rattle.cet_own.proofs.Turn.{led}
 use Rattle.cet_own.proofs.Turns.{Invariant}
@@ -40,11 +41,13 @@ module _ (job : JobData) (j : IsJob job) (m : Machine) (s : State) (st : Invaria
   pub thread_stands : (t : ℕ) (thread : Thread) → slice_get m.threads t ≡ Some thread → ThreadStands job t s (Some thread)
   thread_stands t thread e = subst (ThreadStands job t s) e (st.threads t)
 
-  pub numbered_at : Numbered m
+  pub numbered_at : Numbered job m
   numbered_at = record {
     number = λ t thread e. core_number job t s thread.core thread.core.over (thread_stands t thread e).1;
+    core = λ t thread e. core_at job t s thread thread.core.over (thread_stands t thread e).1;
     count = st.paid.number;
     first = (let least = st.paid.least in let count = st.paid.number in omega arith);
+    words = st.holds.size;
   }
 
   -- ---- the counters
@@ -112,8 +115,8 @@ at_end At job j at (t ∷ ts) m s st =
     at_end At job j at ts (step job m t) d.next d.stands
 
 module _ (job : JobData) (start : Machine) (turns : List ℕ) (j : IsJob job) (s : Starts job start) where
-  pub numbered_run : Numbered (run job start turns)
-  numbered_run = at_end Numbered job j (numbered_at job j) turns start (record { book = first_book }) (first_stands job start j s)
+  pub numbered_run : Numbered job (run job start turns)
+  numbered_run = at_end (Numbered job) job j (numbered_at job j) turns start (record { book = first_book }) (first_stands job start j s)
 
   pub draws_run : DrawsRight job (run job start turns)
   draws_run = at_end (DrawsRight job) job j (draws_right job j) turns start (record { book = first_book }) (first_stands job start j s)

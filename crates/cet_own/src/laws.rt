@@ -4,7 +4,7 @@ ghost use Rattle.std.specs.Prelude.{ℕ, List};
 ghost use Rattle.cet_words.specs.Job.{JobData, IsJob};
 ghost use Rattle.cet_book.specs.Book.{first_book};
 ghost use Rattle.cet_page.specs.Machine.{Machine, Starts, run};
-ghost use Rattle.cet_page.specs.Numbered.{CountsLow, DrawsRight, Named, Numbered};
+ghost use Rattle.cet_page.specs.Numbered.{BirthsAreTold, CountsLow, DrawsRight, Named, Numbered};
 ghost use Rattle.cet_own.specs.Along.{Along};
 ghost use Rattle.cet_own.specs.ExitWord.{EndsRight};
 ghost use Rattle.cet_own.specs.Gates.{TurnTells};
@@ -32,9 +32,9 @@ pub fn every_run_ends_right()
 {}
 
 /// After every run of every job the thread at each place of the list has that number, and there are as
-/// many threads as the word NEXT_THREAD says, or 32 where it says more.
+/// many threads as the word NEXT_THREAD says, or 32 where it says more. Each is a thread of the job.
 pub fn every_run_is_numbered()
-    ensures { (job : JobData) (start : Machine) (turns : List ℕ) → IsJob job → Starts job start → Numbered (run job start turns) }
+    ensures { (job : JobData) (start : Machine) (turns : List ℕ) → IsJob job → Starts job start → Numbered job (run job start turns) }
 {}
 
 /// After every run of every job, the access that a thread waits for draws the number of a thread by a
@@ -42,6 +42,12 @@ pub fn every_run_is_numbered()
 /// NEXT_THREAD as it was, and bears nobody.
 pub fn every_run_draws_numbers()
     ensures { (job : JobData) (start : Machine) (turns : List ℕ) → IsJob job → Starts job start → DrawsRight job (run job start turns) }
+{}
+
+/// An access adds to what its thread tells of exactly the thread that it bears, if there is one: by the
+/// `born` record that comes with it, or by that of the row, which isn't done.
+pub fn births_are_told()
+    ensures { BirthsAreTold }
 {}
 
 /// After every run of every job, each thread but the first is told of by a thread with a lower number: a

@@ -4,7 +4,7 @@ use Rattle.std.specs.Prelude.{◌≡◌, ℕ, ◌+◌, ◌*◌, ◌<◌, ◌≤�
 use Rattle.cet_words.specs.Access.{answer, after}
 use Rattle.cet_words.specs.Change.{Change, Born}
 use Rattle.cet_words.specs.Job.{JobData}
-use Rattle.cet_words.specs.Layout.{draw_shadow_word, next_thread_word, thread_limit}
+use Rattle.cet_words.specs.Layout.{draw_shadow_word, next_thread_word, thread_limit, word_count}
 use Rattle.cet_words.specs.declared.accesses.Access.{Access}
 use Rattle.cet_words.specs.declared.accesses.Access.TheVariants as access
 use Rattle.cet_isa.specs.declared.threads.End.{End}
@@ -13,7 +13,7 @@ use Rattle.cet_isa.specs.declared.threads.What.{What}
 use Rattle.cet_isa.specs.declared.threads.What.TheVariants as what
 use Rattle.cet_page.specs.Core.{Core, next_access, taken}
 use Rattle.cet_page.specs.Left.{left_of}
-use Rattle.cet_page.specs.Machine.{Machine, Thread, step}
+use Rattle.cet_page.specs.Machine.{Machine, Thread, step, thread_after}
 use Rattle.cet_page.specs.Trail.{Visit, trail_of}
 use Rattle.cet_page.specs.ValsData.{no_vals}
 use Rattle.cet_page.specs.Within.{IsCore}
@@ -41,11 +41,14 @@ pub record AccessesRunOut : Type 0 where
 
 -- ---- who draws a number
 
--- the place of a thread in the list is its number, and the counter tells how many there are
-pub record Numbered (m : Machine) : Type 0 where
+-- The place of a thread in the list is its number, the counter tells how many there are, and each is one of the job; words
+-- stay as many as they were.
+pub record Numbered (job : JobData) (m : Machine) : Type 0 where
   pub number : (t : ℕ) (thread : Thread) → slice_get m.threads t ≡ Some thread → thread.core.arch.number ≡ t
+  pub core : (t : ℕ) (thread : Thread) → slice_get m.threads t ≡ Some thread → IsCore job thread.core
   pub count : length m.threads ≡ min (slice_index m.words next_thread_word) thread_limit
   pub first : 0 < length m.threads
+  pub words : length m.words ≡ word_count
 
 -- a thread with this number that has made no access
 pub record IsNew (core : Core) (n : ℕ) : Type 0 where
@@ -103,6 +106,17 @@ pub record IsBearing (job : JobData) (core : Core) (n : ℕ) : Type 0 where
 -- a thread has told of thread n by a record, or is about to
 abbrev pub TellsOf : JobData → Thread → (n : ℕ) → Type 0
 TellsOf job thread n = Names n thread.trace ⊎ IsBearing job thread.core n
+
+-- After an access a thread tells of what it told of before, and of the thread that the access bears, and of nobody else.
+pub record TellsOn (job : JobData) (thread next : Thread) (child : Option Core) : Type 0 where
+  pub kept : (n : ℕ) → TellsOf job thread n → TellsOf job next n
+  pub born : (core : Core) → child ≡ Some core → TellsOf job next core.arch.number
+  pub only : (n : ℕ) → TellsOf job next n → TellsOf job thread n ⊎ ((core : Core) × (child ≡ Some core) × (core.arch.number ≡ n))
+
+-- so any access of any thread of a job, whatever it answers
+abbrev pub BirthsAreTold : Type 0
+BirthsAreTold =
+    (job : JobData) (thread : Thread) (answer : ℕ) → IsCore job thread.core → thread.core.over ≡ None → TellsOn job thread (thread_after thread (taken job thread.core answer)) (taken job thread.core answer).child
 
 -- a thread of the list, with a lower number, tells of thread n
 pub record IsNamed (job : JobData) (threads : List Thread) (n : ℕ) : Type 0 where
