@@ -297,30 +297,50 @@ module _ (job : JobData) (threads : List Thread) (t : ℕ) (thread moved : Threa
     | inr u ↦ record { parent = d.parent; thread = d.thread; found = others d.parent d.thread u.1 d.found; lower = d.lower; tells = d.tells }
   ]
 
+  -- Who tells of a thread afterwards: one that did so before, or the one that acted, of a new one.
+  data Teller (New : ℕ → Type 0) (k n : ℕ) : Type 0 where
+    before : (y : Thread) → slice_get threads k ≡ Some y → TellsOf job y n → Teller New k n
+    now : k ≡ t → New n → Teller New k n
+
+  -- it is enough to know of the one that acted, and that a new one tells of nobody
+  module _ (New : ℕ → Type 0) (child : Option Core) (more : (n : ℕ) → TellsOf job moved n → TellsOf job thread n ⊎ New n) (silent : (core : Core) (n : ℕ) → child ≡ Some core → TellsOf job (record { core = core; trace = [] }) n → ⊥) where
+    teller_at : (k n : ℕ) (y : Thread) → Place threads t moved child k y → TellsOf job y n → Teller New k n
+    teller_at k n y (actor u is) tells = elim (more n (subst (λ z. TellsOf job z n) (sym is) tells)) [
+      | inl a ↦ before thread (subst (λ i. slice_get threads i ≡ Some thread) (sym u) found) a
+      | inr new ↦ now u new
+    ]
+    teller_at k n y (other d e) tells = before y e tells
+    teller_at k n y (newborn core some is) tells = absurd (silent core n some (subst (λ z. TellsOf job z n) (sym is) tells))
+
+    teller : (k n : ℕ) (y : Thread) → slice_get (with_child (slice_set threads t moved) child) k ≡ Some y → TellsOf job y n → Teller New k n
+    teller k n y e tells = teller_at k n y (place threads t k moved y child inside e) tells
+
+  -- a new one is the next thread, which was told of by nobody
+  alone_now : (New : ℕ → Type 0) (next : (n : ℕ) → New n → n ≡ length threads) (k i n : ℕ) → Teller New k n → Teller New i n → k ≡ i
+  alone_now New next k i n (before x e p) (before y f q) = h.alone k i n x y e f p q
+  alone_now New next k i n (before x e p) (now u new) = (let last = next n new in let old = h.told k n x e p in let high = old.1 in absurd (omega arith))
+  alone_now New next k i n (now u new) (before y f q) = (let last = next n new in let old = h.told i n y f q in let high = old.1 in absurd (omega arith))
+  alone_now New next k i n (now u new) (now v end) = u ∙ sym v
+
   -- nobody is born
   named_none : TellsOn job thread moved None → Named job (slice_set threads t moved)
   named_none way =
       let len = length-set threads t moved in
       record {
         each = λ n l m. kept_named (slice_set threads t moved) n (get_same threads t moved inside) (λ k y d e. get_other threads t k moved d ∙ e) (way.kept n) (h.each n l (omega arith));
-        told = λ k n y e tells. told_still k n y (set_place threads t k moved y None inside e) tells;
+        told = λ k n y e tells. (let r = told_before k n (who k n y e tells) in let low = r.0 in let high = r.1 in (low, omega arith));
+        alone = λ k i n x y e f p q. alone_now (λ n. ⊥) (λ n z. absurd z) k i n (who k n x e p) (who i n y f q);
       }
     where
-      told_still : (k n : ℕ) (y : Thread) → Place threads t moved None k y → TellsOf job y n → (k < n) × (n < length (slice_set threads t moved))
-      told_still k n y (actor u is) tells =
-          let len = length-set threads t moved in
-          let now : TellsOf job moved n = subst (λ z. TellsOf job z n) (sym is) tells in
-          elim (way.only n now) [
-            | inl a ↦ let old = h.told t n thread found a in let low = old.0 in let high = old.1 in (omega arith, omega arith)
-            | inr c ↦ let none = c.1 in cc
-          ]
-      told_still k n y (other d e) tells =
-          let len = length-set threads t moved in
-          let old = h.told k n y e tells in
-          let low = old.0 in
-          let high = old.1 in
-          (omega arith, omega arith)
-      told_still k n y (newborn core some is) tells = cc
+      more : (n : ℕ) → TellsOf job moved n → TellsOf job thread n ⊎ ⊥
+      more n tells = elim (way.only n tells) [ inl a ↦ inl a | inr c ↦ (let none = c.1 in cc) ]
+
+      who : (k n : ℕ) (y : Thread) → slice_get (slice_set threads t moved) k ≡ Some y → TellsOf job y n → Teller (λ n. ⊥) k n
+      who k n y e tells = teller (λ n. ⊥) None more (λ core n e. cc) k n y e tells
+
+      told_before : (k n : ℕ) → Teller (λ n. ⊥) k n → (k < n) × (n < length threads)
+      told_before k n (before y e tells) = h.told k n y e tells
+      told_before k n (now u none) = absurd none
 
   -- the next thread is born
   named_next : (core : Core) → core.arch.number ≡ length threads → core.vals ≡ no_vals → TellsOn job thread moved (Some core) → Named job (slice_set threads t moved ++ record { core = core; trace = [] } ∷ [])
@@ -328,7 +348,7 @@ module _ (job : JobData) (threads : List Thread) (t : ℕ) (thread moved : Threa
       let new : Thread = record { core = core; trace = [] } in
       let set = slice_set threads t moved in
       let len = length-set threads t moved in
-      let more = length-append set (new ∷ []) in
+      let all = length-append set (new ∷ []) in
       let here = get_low set new t (omega (arith, inside)) ∙ get_same threads t moved inside in
       record {
         each = λ n l m. elim (cases_lt n (length threads)) [
@@ -341,9 +361,19 @@ module _ (job : JobData) (threads : List Thread) (t : ℕ) (thread moved : Threa
               let within = inside in
               record { parent = t; thread = moved; found = here; lower = omega arith; tells = subst (TellsOf job moved) last (way.born core refl) }
         ];
-        told = λ k n y e tells. told_more k n y (place threads t k moved y (Some core) inside e) tells;
+        told = λ k n y e tells. (let r = told_now k n (who k n y e tells) in let low = r.0 in let high = r.1 in (low, omega arith));
+        alone = λ k i n x y e f p q. alone_now (λ n. n ≡ length threads) (λ n last. last) k i n (who k n x e p) (who i n y f q);
       }
     where
+      more : (n : ℕ) → TellsOf job moved n → TellsOf job thread n ⊎ (n ≡ length threads)
+      more n tells = elim (way.only n tells) [
+        | inl a ↦ inl a
+        | inr c ↦
+            let some = c.1 in
+            let same : core ≡ c.0 = cc in
+            inr (sym c.2 ∙ sym (ap (λ (x : Core). x.arch.number) same) ∙ number)
+      ]
+
       silent : (n : ℕ) → TellsOf job (record { core = core; trace = [] }) n → ⊥
       silent n (inl a) = a
       silent n (inr b) =
@@ -351,31 +381,17 @@ module _ (job : JobData) (threads : List Thread) (t : ℕ) (thread moved : Threa
           let both : None ≡ Some n = sym none ∙ b.borne in
           cc
 
-      told_more : (k n : ℕ) (y : Thread) → Place threads t moved (Some core) k y → TellsOf job y n → (k < n) × (n < length (slice_set threads t moved ++ record { core = core; trace = [] } ∷ []))
-      told_more k n y (actor u is) tells =
-          let len = length-set threads t moved in
-          let more = length-append (slice_set threads t moved) (record { core = core; trace = [] } ∷ []) in
-          let within = inside in
-          let now : TellsOf job moved n = subst (λ z. TellsOf job z n) (sym is) tells in
-          elim (way.only n now) [
-            | inl a ↦ let old = h.told t n thread found a in let low = old.0 in let high = old.1 in (omega arith, omega arith)
-            | inr c ↦
-                let some = c.1 in
-                let same : core ≡ c.0 = cc in
-                let last : core.arch.number ≡ n = ap (λ (x : Core). x.arch.number) same ∙ c.2 in
-                (omega arith, omega arith)
-          ]
-      told_more k n y (other d e) tells =
-          let len = length-set threads t moved in
-          let more = length-append (slice_set threads t moved) (record { core = core; trace = [] } ∷ []) in
+      who : (k n : ℕ) (y : Thread) → slice_get (slice_set threads t moved ++ record { core = core; trace = [] } ∷ []) k ≡ Some y → TellsOf job y n → Teller (λ n. n ≡ length threads) k n
+      who k n y e tells =
+          teller (λ n. n ≡ length threads) (Some core) more (λ c i some mute. (let same : c ≡ core = cc in silent i (subst (λ (x : Core). TellsOf job (record { core = x; trace = [] }) i) same mute))) k n y e tells
+
+      told_now : (k n : ℕ) → Teller (λ n. n ≡ length threads) k n → (k < n) × (n < length threads + 1)
+      told_now k n (before y e tells) =
           let old = h.told k n y e tells in
           let low = old.0 in
           let high = old.1 in
           (omega arith, omega arith)
-      told_more k n y (newborn c some is) tells =
-          let same : c ≡ core = cc in
-          let mute : TellsOf job (record { core = c; trace = [] }) n = subst (λ z. TellsOf job z n) (sym is) tells in
-          absurd (silent n (subst (λ (x : Core). TellsOf job (record { core = x; trace = [] }) n) same mute))
+      told_now k n (now u last) = let within = inside in (omega arith, omega arith)
 
   named_by : (m : Machine) (a : Access) (child : Option Core) → m.threads ≡ threads → Draws m a child → TellsOn job thread moved child → Named job (with_child (slice_set threads t moved) child)
   named_by m a child same (bears core e few last some new) way =
@@ -411,7 +427,7 @@ named_from job j (t ∷ ts) m s st h =
 
 -- thread 0 alone has told of nobody
 first_named : (job : JobData) → Named job (record { core = first_core job; trace = [] } ∷ [])
-first_named job = record { each = λ n l m. absurd (omega arith); told = λ t n thread e tells. absurd (silent n (subst (λ y. TellsOf job y n) (sym (alone t thread e)) tells)) }
+first_named job = record { each = λ n l m. absurd (omega arith); told = λ t n thread e tells. absurd (mute t n thread e tells); alone = λ t u n x y e f p q. absurd (mute t n x e p) }
   where
     first : Thread
     first = record { core = first_core job; trace = [] }
@@ -420,9 +436,12 @@ first_named job = record { each = λ n l m. absurd (omega arith); told = λ t n 
     silent n (inl a) = a
     silent n (inr b) = (let none : None ≡ Some n = b.borne in cc)
 
-    alone : (t : ℕ) (thread : Thread) → slice_get (first ∷ []) t ≡ Some thread → first ≡ thread
-    alone zero thread e = cc
-    alone (suc t) thread e = cc
+    only : (t : ℕ) (thread : Thread) → slice_get (first ∷ []) t ≡ Some thread → first ≡ thread
+    only zero thread e = cc
+    only (suc t) thread e = cc
+
+    mute : (t n : ℕ) (thread : Thread) → slice_get (first ∷ []) t ≡ Some thread → TellsOf job thread n → ⊥
+    mute t n thread e tells = silent n (subst (λ y. TellsOf job y n) (sym (only t thread e)) tells)
 
 pub named_run : (job : JobData) (start : Machine) (turns : List ℕ) → IsJob job → Starts job start → Named job (run job start turns).threads
 named_run job start turns j s =

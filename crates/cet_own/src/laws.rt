@@ -50,9 +50,9 @@ pub fn births_are_told()
     ensures { BirthsAreTold }
 {}
 
-/// After every run of every job, each thread but the first is told of by a thread with a lower number: a
-/// `born` record of it names it, or its present row has borne it and isn't done, and then it hasn't
-/// ended. And whatever thread is told of so is there, and has a higher number.
+/// After every run of every job, each thread but the first is told of by a thread with a lower number, and
+/// by that one alone: a `born` record of it names it, or its present row has borne it and isn't done, and
+/// then it hasn't ended. And whatever thread is told of so is there, and has a higher number.
 pub fn every_run_is_named()
     ensures { (job : JobData) (start : Machine) (turns : List ℕ) → IsJob job → Starts job start → Named job (run job start turns).threads }
 {}

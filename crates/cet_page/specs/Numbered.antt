@@ -126,10 +126,12 @@ pub record IsNamed (job : JobData) (threads : List Thread) (n : ℕ) : Type 0 wh
   pub lower : parent < n
   pub tells : TellsOf job thread n
 
--- Each thread but the first is told of by one with a lower number, and whatever is told of is there and has a higher number.
+-- Each thread but the first is told of by one with a lower number, and by no other; and whatever is told of is there and has a
+-- higher number.
 pub record Named (job : JobData) (threads : List Thread) : Type 0 where
   pub each : (n : ℕ) → 0 < n → n < length threads → IsNamed job threads n
   pub told : (t n : ℕ) (thread : Thread) → slice_get threads t ≡ Some thread → TellsOf job thread n → (t < n) × (n < length threads)
+  pub alone : (t u n : ℕ) (x y : Thread) → slice_get threads t ≡ Some x → slice_get threads u ≡ Some y → TellsOf job x n → TellsOf job y n → t ≡ u
 
 -- ---- the counters
 
