@@ -1,12 +1,12 @@
 -- What a thread claims of the deliveries of signals, and of the kill. Source: own.
-use Rattle.std.proofs.Common.{eqb, ◌≡◌, ◌≢◌, ℕ, zero, suc, ◌+◌, ◌-◌, ◌*◌, ◌/◌, ◌^◌, ◌<◌, ◌≤◌, inl, inr, Bool, true, false, List, [], ◌∷◌, length, Option, Some, None, refl, sym, ◌∙◌, ap, subst, arith}
+use Rattle.std.proofs.Common.{eqb, ◌≡◌, ◌≢◌, ℕ, zero, suc, ◌+◌, ◌-◌, ◌/◌, ◌^◌, ◌<◌, ◌≤◌, inl, inr, Bool, true, false, List, [], ◌∷◌, length, Option, Some, None, refl, sym, ◌∙◌, ap, subst, arith}
 use Rattle.std.specs.Prelude.{◌==◌, ◌%◌, if◌then◌else◌, nat_lt}
-use Rattle.std.proofs.lemmas.Bool.Decides.{eqb_tells, nat_tests}
+use Rattle.std.proofs.lemmas.Bool.Decides.{nat_tests}
 use Rattle.cet_words.specs.Bytes.{code_byte}
 use Rattle.cet_words.proofs.ByteLaws.{code_place}
 use Rattle.cet_words.specs.Change.{Pushed}
 use Rattle.cet_words.specs.Job.{JobData, IsJob}
-use Rattle.cet_words.specs.Layout.{action_word, exit_word, first_shadow_page, first_shadow_word, pend_word, shadow_start, thread_limit, token_word}
+use Rattle.cet_words.specs.Layout.{action_word, exit_word, first_shadow_word, pend_word, thread_limit, token_word}
 use Rattle.cet_words.specs.declared.accesses.Access.TheVariants as access
 use Rattle.cet_isa.specs.Address.{canonical}
 use Rattle.cet_isa.specs.declared.threads.Arch.{Arch}
@@ -14,7 +14,7 @@ use Rattle.cet_isa.specs.declared.threads.Fault.{Fault}
 use Rattle.cet_isa.specs.declared.threads.FaultName.{FaultName}
 use Rattle.cet_isa.specs.declared.threads.FaultName.TheVariants.{Ud, Gp, Pf, Ac, Cp}
 use Rattle.cet_book.specs.declared.entries.Entry.TheVariants.{Frame, Restorer}
-use Rattle.cet_book.specs.Book.{Book, Region, current_of, region, relist, top}
+use Rattle.cet_book.specs.Book.{Book, current_of, region, relist, top}
 use Rattle.cet_book.specs.Facts.{In, IsReturn}
 use Rattle.cet_book.specs.Shape.{Shape}
 use Rattle.cet_book.proofs.Edits.{Owned, owned}
@@ -23,7 +23,7 @@ use Rattle.cet_book.proofs.Relies.{Relies}
 use Rattle.cet_book.proofs.Top.{relist_top}
 use Rattle.cet_book.proofs.Ways.{pushed_way}
 use Rattle.cet_book.specs.Stack.{slot}
-use Rattle.cet_page.specs.Delivery.{cause_words, delivered, enter_handler, fault_delivery, frame_at, frame_places, frame_span, frame_words, handle, ignore, pending_delivery, push_frame, push_or_kill, segv}
+use Rattle.cet_page.specs.Delivery.{delivered, enter_handler, fault_delivery, frame_at, frame_places, frame_span, frame_words, handle, ignore, pending_delivery, push_frame, push_or_kill, segv}
 use Rattle.cet_page.specs.Finish.{rsp}
 use Rattle.cet_page.specs.Gate.{is_masked, kill, signal_of}
 use Rattle.cet_page.specs.Parts.{store, store_as, store_each}
@@ -37,7 +37,7 @@ use Rattle.cet_page.specs.declared.actions.Action.{Action}
 use Rattle.cet_page.specs.declared.actions.FramePlaces.{FramePlaces}
 use Rattle.cet_page.specs.declared.checks.Kind.TheVariants as kind
 use Rattle.cet_own.specs.ExitWord.{IsEnding, killed}
-use Rattle.cet_own.specs.Past.{drew, has_restorer, left_in, numbered, restorer_word}
+use Rattle.cet_own.specs.Past.{drew, has_restorer, left_in, numbered}
 use Rattle.cet_own.specs.Stands.{IsRestorer}
 use Rattle.cet_own.proofs.Calls.{Ends, own_kept}
 use Rattle.cet_own.proofs.Endings.{by_signal}
@@ -47,7 +47,7 @@ use Rattle.cet_own.proofs.KernelParts.{Leaves, Within}
 use Rattle.cet_own.proofs.Owed.{State, own_stack}
 use Rattle.cet_own.proofs.Parts.{Claim, claim_bind, claim_cond, end_then, fetch_and_then, kernel_load_known, kernel_load_then, one_after}
 use Rattle.cet_own.proofs.Places.{below_is, room_below, room_two_below, shadow_slot}
-use Rattle.cet_own.proofs.Progress.{Progress, progress, untouched}
+use Rattle.cet_own.proofs.Progress.{Progress, untouched}
 use Rattle.cet_own.proofs.Pushed.{stores_marker, stores_restorer}
 use Rattle.cet_own.proofs.Resting.{Inside, inside_kept, inside_left, inside_stacked, rested}
 use Rattle.cet_own.proofs.Standing.{Stacked, stacked}

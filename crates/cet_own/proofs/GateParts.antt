@@ -1,5 +1,5 @@
 -- What a thread claims of the gate's way in and way out. Source: own.
-use Rattle.std.proofs.Common.{◌∷◌, suc, ◌*◌, ◌≡◌, ℕ, ◌+◌, ◌-◌, ◌<◌, ◌≤◌, inl, inr, true, length, Option, Some, None, refl, sym, ◌∙◌, ap, arith, eqb, List, ◌≢◌}
+use Rattle.std.proofs.Common.{◌∷◌, suc, ◌≡◌, ℕ, ◌+◌, ◌-◌, ◌<◌, ◌≤◌, inl, inr, true, length, Option, Some, None, refl, sym, ◌∙◌, ap, arith, eqb, List, ◌≢◌}
 use Rattle.std.specs.Prelude.{option_map, option_and_then}
 use Rattle.std.proofs.lemmas.Bool.{cases_lt}
 use Rattle.std.proofs.lemmas.Bool.Decides.{eqb_tells, nat_tests}

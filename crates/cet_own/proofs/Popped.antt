@@ -1,5 +1,5 @@
 -- rt_sigreturn's way out: the newest entry, a frame's, goes, and the supervisor stack is given back. Source: own.
-use Rattle.std.proofs.Common.{◌≡◌, ℕ, ◌+◌, ◌-◌, ◌<◌, List, [], ◌∷◌, Option, Some, None, refl, sym, ◌∙◌, ap, subst, arith}
+use Rattle.std.proofs.Common.{◌≡◌, ℕ, ◌+◌, ◌<◌, List, [], ◌∷◌, Some, None, refl, sym, ◌∙◌, ap, subst, arith}
 use Rattle.std.specs.Prelude.{slice_index, slice_set}
 use Rattle.cet_words.specs.Access.{answer, after}
 use Rattle.cet_words.specs.Change.{Change, Freed, Popped}

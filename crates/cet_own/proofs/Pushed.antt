@@ -1,8 +1,8 @@
 -- The two shadow stores of a delivery: the frame's word below the top, which no list has yet, and below it the restorer, with
 -- which both are entries. Source: own.
-use Rattle.std.proofs.Common.{◌≡◌, ◌≢◌, ℕ, ◌+◌, ◌-◌, ◌*◌, ◌^◌, ◌<◌, ◌≤◌, inl, false, List, [], ◌∷◌, length, Some, refl, sym, ◌∙◌, ap, subst, arith}
+use Rattle.std.proofs.Common.{◌≡◌, ◌≢◌, ℕ, ◌+◌, ◌-◌, ◌*◌, ◌^◌, ◌≤◌, inl, false, List, [], ◌∷◌, length, Some, refl, sym, ◌∙◌, ap, subst, arith}
 use Rattle.std.specs.Prelude.{slice_index, slice_set}
-use Rattle.cet_words.specs.Access.{answer, after}
+use Rattle.cet_words.specs.Access.{after}
 use Rattle.cet_words.specs.Change.{Change, Pushed}
 use Rattle.cet_words.specs.Job.{ImageData}
 use Rattle.cet_words.specs.Layout.{image_end}

@@ -1,11 +1,10 @@
 -- What a thread claims of each of its rows. Source: own.
-use Rattle.std.proofs.Common.{◌≢◌, ◌≡◌, ℕ, zero, suc, ◌+◌, ◌-◌, ◌<◌, ◌≤◌, true, length, Option, Some, None, refl, ap, subst, arith, false, List, []}
+use Rattle.std.proofs.Common.{◌≡◌, ℕ, zero, suc, ◌+◌, ◌-◌, ◌<◌, ◌≤◌, true, length, Option, Some, None, refl, ap, subst, arith, false, List, []}
 use Rattle.std.specs.Prelude.{◌==◌}
 use Rattle.std.proofs.Math.Nat.{mod-lt}
 use Rattle.cet_words.specs.Bytes.{code_byte}
 use Rattle.cet_words.proofs.ByteLaws.{code_place}
 use Rattle.cet_words.specs.Job.{JobData, IsJob}
-use Rattle.std.proofs.lemmas.Bool.Decides.{nat_tests}
 use Rattle.cet_words.specs.Layout.{page_at, exit_word, pend_word, image_end, image_start}
 use Rattle.cet_isa.specs.Address.{canonical}
 use Rattle.cet_isa.specs.Reading.{Decoding, Read, Short, Unknown, decoded}

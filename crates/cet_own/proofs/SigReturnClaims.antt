@@ -1,11 +1,11 @@
 -- What a thread claims of rt_sigreturn: the word at SSP that it takes for a frame's is one. Source: own.
-use Rattle.std.proofs.Common.{◌≡◌, ◌≢◌, ℕ, ◌+◌, ◌-◌, ◌/◌, ◌^◌, ◌<◌, ◌≤◌, Bool, true, false, List, [], ◌∷◌, length, Option, Some, None, refl, sym, ◌∙◌, ap, subst, arith, inl, inr}
+use Rattle.std.proofs.Common.{◌≡◌, ℕ, ◌+◌, ◌-◌, ◌/◌, ◌^◌, ◌<◌, ◌≤◌, Bool, true, false, List, [], ◌∷◌, length, Some, None, refl, sym, ◌∙◌, ap, subst, arith, inl, inr}
 use Rattle.std.specs.Prelude.{◌==◌, ◌%◌, ◌&&◌, if◌then◌else◌, nat_le}
 use Rattle.std.proofs.lemmas.Bool.{cases_lt}
 use Rattle.std.proofs.lemmas.Bool.Decides.{nat_tests}
 use Rattle.std.proofs.lemmas.List.{get_or_past}
 use Rattle.cet_words.specs.Job.{JobData, IsJob}
-use Rattle.cet_words.specs.Layout.{first_kernel_word, first_shadow_page, last_region_end, shadow_start, token_word, word_in}
+use Rattle.cet_words.specs.Layout.{first_kernel_word, first_shadow_page, last_region_end, shadow_start, word_in}
 use Rattle.cet_words.specs.declared.accesses.Access.TheVariants as access
 use Rattle.cet_isa.specs.Address.{canonical}
 use Rattle.cet_isa.specs.declared.threads.Arch.{Arch}
@@ -16,11 +16,8 @@ use Rattle.cet_book.specs.Book.{Book, Region, current_of, nowhere, region, top}
 use Rattle.cet_book.specs.Facts.{AllReturn, In}
 use Rattle.cet_book.specs.Shape.{Shape}
 use Rattle.cet_book.specs.Stack.{slot, tops}
-use Rattle.cet_book.proofs.Relies.{Relies}
 use Rattle.cet_page.specs.Delivery.{frame_last, segv}
-use Rattle.cet_page.specs.Gate.{kill}
-use Rattle.cet_page.specs.Parts.{load, loads}
-use Rattle.cet_page.specs.Script.{done, ◌>>=◌}
+use Rattle.cet_page.specs.Parts.{loads}
 use Rattle.cet_page.specs.SigReturn.{popped_frame, return_by, returned, returned_frame, returned_span, rt_sigreturn}
 use Rattle.cet_page.specs.Tokens.{frame_ssp, is_frame_word}
 use Rattle.cet_page.specs.Trail.{Visit}
@@ -35,7 +32,7 @@ use Rattle.cet_own.proofs.Owed.{HeadWord, State, own_stack}
 use Rattle.cet_own.proofs.Parts.{Claim, claim_bind, claim_cond, kernel_load_known}
 use Rattle.cet_own.proofs.Places.{entry_at, shadow_slot}
 use Rattle.cet_own.proofs.Progress.{untouched}
-use Rattle.cet_own.proofs.Resting.{Inside, inside_kept, rested}
+use Rattle.cet_own.proofs.Resting.{rested}
 use Rattle.cet_own.proofs.Standing.{AtRest}
 use Rattle.cet_own.proofs.StructureParts.{load_span_claim, loads_claim, shadow_probe_then}
 

@@ -1,6 +1,6 @@
 -- What a thread claims of rt_sigaction, rt_sigprocmask and tgkill. Source: own.
-use Rattle.std.proofs.Common.{eqb, ◌≡◌, ◌≢◌, ℕ, ◌+◌, ◌-◌, ◌<◌, ◌≤◌, ◌⊎◌, inl, inr, Bool, true, false, List, [], ◌∷◌, length, Option, Some, None, refl, sym, ◌∙◌, ap, subst, arith}
-use Rattle.std.specs.Prelude.{◌==◌, ◌&&◌, ◌||◌, not, is_some, nat_lt, Result, Ok, Err}
+use Rattle.std.proofs.Common.{◌≡◌, ◌≢◌, ℕ, ◌+◌, ◌-◌, ◌<◌, ◌≤◌, inl, inr, Bool, true, false, List, [], ◌∷◌, Option, Some, None, refl, ap, arith}
+use Rattle.std.specs.Prelude.{◌==◌, ◌&&◌, ◌||◌, not, is_some, nat_lt, Ok, Err}
 use Rattle.std.proofs.lemmas.Bool.Decides.{nat_tests}
 use Rattle.cet_words.specs.Bytes.{code_byte}
 use Rattle.cet_words.proofs.ByteLaws.{code_place}
@@ -8,11 +8,10 @@ use Rattle.cet_words.specs.Job.{JobData, IsJob}
 use Rattle.cet_words.specs.Layout.{action_word, first_kernel_word, first_shadow_word, next_thread_word, pend_word, token_word}
 use Rattle.cet_words.specs.declared.accesses.Access.TheVariants as access
 use Rattle.cet_isa.specs.declared.threads.Arch.{Arch}
-use Rattle.cet_book.specs.Facts.{IsReturn}
 use Rattle.cet_book.proofs.Cases.{and_true}
 use Rattle.cet_page.specs.Finish.{r10, rdi, rdx, rsi}
 use Rattle.cet_page.specs.Gate.{failed, serve}
-use Rattle.cet_page.specs.Parts.{load, store, store_as, store_each}
+use Rattle.cet_page.specs.Parts.{store, store_as}
 use Rattle.cet_page.specs.Script.{Script, done, ◌>>=◌}
 use Rattle.cet_page.specs.Signals.{action_refused, allowed_flags, asked_action, asked_mask, change_action, change_mask, copy_action, copy_mask, group, has_handler, is_allowed, is_code, is_thread, last_signal, load_action, mask_refused, mask_size, new_action, new_mask, old_action, old_mask, post, rt_sigaction, rt_sigprocmask, set_action, set_handler, tgkill}
 use Rattle.cet_page.specs.Structures.{Given, given_span, given_word}
@@ -21,7 +20,7 @@ use Rattle.cet_page.specs.declared.actions.Action.{Action}
 use Rattle.cet_page.specs.declared.checks.Kind.TheVariants as kind
 use Rattle.cet_page.specs.declared.services.Errno.{Errno}
 use Rattle.cet_page.specs.declared.services.Errno.TheVariants as errno
-use Rattle.cet_own.specs.Past.{has_restorer, left_in, restorer_word}
+use Rattle.cet_own.specs.Past.{restorer_word}
 use Rattle.cet_own.specs.Safe.{IsElsewhere}
 use Rattle.cet_own.specs.Stands.{IsRestorer}
 use Rattle.cet_own.proofs.Actions.{sets_handler, sets_other, sets_restorer}
@@ -31,9 +30,9 @@ use Rattle.cet_own.proofs.DeliveryClaims.{pend_out}
 use Rattle.cet_own.proofs.GateParts.{gate_out_then}
 use Rattle.cet_own.proofs.KernelParts.{Leaves, Within, failed_claim, serve_claim}
 use Rattle.cet_own.proofs.Owed.{Owed, State, own_stack}
-use Rattle.cet_own.proofs.Parts.{Claim, claim_bind, claim_cond, fetch_or_then, kernel_load_then, store_then}
-use Rattle.cet_own.proofs.Progress.{progress, untouched}
-use Rattle.cet_own.proofs.Resting.{Inside, inside_kept, inside_left, inside_stacked, rested}
+use Rattle.cet_own.proofs.Parts.{Claim, claim_bind, claim_cond, fetch_or_then, kernel_load_then}
+use Rattle.cet_own.proofs.Progress.{untouched}
+use Rattle.cet_own.proofs.Resting.{inside_kept, inside_left, inside_stacked, rested}
 use Rattle.cet_own.proofs.Still.{or_false}
 use Rattle.cet_own.proofs.StructureParts.{Below, given_load_span, given_load_word, given_store_span, given_store_word, low_word, store_each_claim}
 
@@ -109,13 +108,15 @@ module _ (job : JobData) (j : IsJob job) (arch : Arch) (l : own_stack job arch.n
       let other1 : (action_word signal + 1 == restorer_word signal) ≡ false = (let n : action_word signal + 1 ≢ restorer_word signal = omega arith in grind (arith, nat_tests)) in
       let other3 : (action_word signal + 3 == restorer_word signal) ≡ false = (let n : action_word signal + 3 ≢ restorer_word signal = omega arith in grind (arith, nat_tests)) in
       let here : (action_word signal + 2 == restorer_word signal) ≡ true = grind (arith, nat_tests) in
-      let above : nat_lt 0 action.restorer ≡ true = grind (arith, nat_tests) in
-      (inside_stacked within3, λ now r known. (
-        sets_handler signal action.handler few (inr (rw (other1, other3, here, above) refl)) refl refl,
-        now,
-        refl,
-        h _ now now (inside_left (rw apart refl) (inside_kept r within3)),
-      )))))
+      let above : nat_lt 0 action.restorer ≡ true = grind (arith, nat_tests) in (
+        inside_stacked within3,
+        λ now r known. (
+          sets_handler signal action.handler few (inr (rw (other1, other3, here, above) refl)) refl refl,
+          now,
+          refl,
+          h _ now now (inside_left (rw apart refl) (inside_kept r within3)),
+        ),
+      ))))
 
   -- 0 or 1
   plain_claim : (Q : List Visit → State → State → Unit {0} → Type 0) (past : List Visit) (before s : State) (signal value : ℕ) → signal < 64 → value ≤ 1 → Inner past s → ((p : List Visit) (z n : State) → Inner p n → Q p z n tt) → Claim job arch Q past before s (store (action_word signal) value)

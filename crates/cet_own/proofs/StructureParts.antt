@@ -1,9 +1,8 @@
 -- What a thread in the kernel claims of structures of its program: looks, loads and stores of words one after another. Source: own.
-use Rattle.std.proofs.Common.{◌≡◌, ◌≢◌, ℕ, zero, suc, ◌+◌, ◌-◌, ◌*◌, ◌/◌, ◌<◌, ◌≤◌, inl, true, false, List, [], ◌∷◌, length, Option, Some, None, refl, sym, ◌∙◌, ap, subst, arith}
-use Rattle.std.specs.Prelude.{◌==◌, ◌%◌, Result, Ok, Err}
+use Rattle.std.proofs.Common.{◌≡◌, ℕ, zero, suc, ◌+◌, ◌-◌, ◌*◌, ◌/◌, ◌<◌, ◌≤◌, inl, true, false, List, [], ◌∷◌, length, Option, Some, None, refl, sym, subst, arith}
+use Rattle.std.specs.Prelude.{◌==◌, ◌%◌, Ok, Err}
 use Rattle.cet_words.specs.Job.{JobData}
 use Rattle.cet_words.specs.Layout.{page_at, word_in, first_kernel_page, first_kernel_word, first_shadow_page, first_shadow_word, shadow_end, shadow_start, token_word}
-use Rattle.cet_words.specs.declared.accesses.Access.TheVariants as access
 use Rattle.cet_isa.specs.declared.threads.Arch.{Arch}
 use Rattle.cet_book.specs.Book.{region}
 use Rattle.cet_book.specs.Facts.{In, LiesIn}

@@ -1,7 +1,7 @@
 -- What the record of each row tells of: of the stack that map_shadow_stack or clone has claimed, and else of none; and of the
 -- thread that clone has borne. Source: own.
 use Rattle.std.proofs.Common.{◌≡◌, ◌⊎◌, ℕ, zero, suc, ◌+◌, ◌%◌, Bool, true, false, inl, inr, cond, List, [], ◌∷◌, Option, Some, None, refl, ap, subst, sym, arith}
-use Rattle.std.specs.Prelude.{◌==◌, ◌-◌, nat_lt, if◌then◌else◌, Result, Ok, Err}
+use Rattle.std.specs.Prelude.{◌==◌, ◌-◌, nat_lt, if◌then◌else◌, Ok, Err}
 use Rattle.std.specs.Int.{cast_unsigned}
 use Rattle.cet_words.specs.Layout.{page_at, pages_of, thread_limit, thread_region_size}
 use Rattle.cet_words.specs.Job.{JobData}

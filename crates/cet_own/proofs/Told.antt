@@ -1,11 +1,11 @@
 -- What the answers of a row have told stays so, whatever the threads do since. Source: own.
-use Rattle.std.proofs.Common.{◌≡◌, ◌≢◌, ℕ, ◌+◌, ◌*◌, ◌-◌, ◌<◌, ◌≤◌, true, List, [], ◌∷◌, length, Option, None, Some, refl, sym, ◌∙◌, ap, arith}
+use Rattle.std.proofs.Common.{◌≡◌, ℕ, ◌+◌, ◌*◌, ◌-◌, List, [], ◌∷◌, Option, None, Some, refl, ap, arith}
 use Rattle.cet_words.specs.Job.{ImageData}
-use Rattle.cet_words.specs.Layout.{first_kernel_page, first_shadow_page, shadow_start}
+use Rattle.cet_words.specs.Layout.{first_shadow_page, shadow_start}
 use Rattle.cet_words.specs.declared.accesses.Access.{Access}
 use Rattle.cet_words.specs.declared.accesses.Access.TheVariants as access
 use Rattle.cet_book.specs.Book.{Book, region}
-use Rattle.cet_book.specs.Facts.{In, LiesIn}
+use Rattle.cet_book.specs.Facts.{LiesIn}
 use Rattle.cet_book.proofs.Comes.{Lasts}
 use Rattle.cet_book.proofs.Held.{Free, Held}
 use Rattle.cet_page.specs.Trail.{Visit}

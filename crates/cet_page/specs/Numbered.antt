@@ -135,7 +135,11 @@ pub record Named (job : JobData) (threads : List Thread) : Type 0 where
 
 -- ---- the counters
 
--- 32 threads draw at most once for each of their 100,000 records and for a row that isn't done; a place has at most 1,023 pages
+-- A thread of the 32 adds to a counter at most once for each of its 100,000 records, and once in a row that isn't done.
+abbrev pub most_draws : ℕ
+most_draws = thread_limit * (100000 + 1)
+
+-- The counters begin at 1 and 9, and an add to the second is of at most 1,023 pages. So neither comes near 2 ^ 64.
 pub record CountsLow (words : List ℕ) : Type 0 where
-  pub next : slice_index words next_thread_word ≤ 1 + 32 * 100000 + 32
-  pub draw : slice_index words draw_shadow_word ≤ 9 + 1023 * (32 * 100000 + 32)
+  pub next : slice_index words next_thread_word ≤ 1 + most_draws
+  pub draw : slice_index words draw_shadow_word ≤ 9 + 1023 * most_draws
