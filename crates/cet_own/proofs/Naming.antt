@@ -16,7 +16,7 @@ use Rattle.cet_isa.specs.declared.threads.Record.{Record}
 use Rattle.cet_book.specs.Book.{first_book}
 use Rattle.cet_page.specs.Core.{Core, access_of, answered, born, changes_of, child_core, child_of, first_core, fault_record, next_access, next_changes, row_played, taken, unheld, wanted}
 use Rattle.cet_page.specs.Machine.{Machine, Starts, Thread, act, accessed, run, step, step_by, thread_after, with_child}
-use Rattle.cet_page.specs.Numbered.{BirthsAreTold, Draws, bears, bears_nobody, leaves, DrawsRight, IsBearing, IsNamed, Named, Names, Numbered, TellsOf, TellsOn, borne_by, borne_in, named}
+use Rattle.cet_page.specs.Numbered.{AreClosed, BirthsAreTold, ClosedAreAll, Draws, bears, bears_nobody, leaves, DrawsRight, IsBearing, IsNamed, Named, Names, Numbered, TellsOf, TellsOn, borne_by, borne_in, named}
 use Rattle.cet_page.specs.Row.{row}
 use Rattle.cet_page.specs.Script.{Script, done, fault, ask, tell, Played, Completed, Faulted, Wants, birth, held_after, play}
 use Rattle.cet_page.specs.Trail.{Visit, row_trail, trail, trail_of, visit}
@@ -446,3 +446,22 @@ first_named job = record { each = λ n l m. absurd (omega arith); told = λ t n 
 pub named_run : (job : JobData) (start : Machine) (turns : List ℕ) → IsJob job → Starts job start → Named job (run job start turns).threads
 named_run job start turns j s =
     named_from job j turns start (record { book = first_book }) (first_stands job start j s) (subst (Named job) (sym s.threads) (first_named job))
+
+-- ---- all threads are told of
+
+module _ (job : JobData) (threads : List Thread) (h : Named job threads) (has : ℕ → Bool) (c : AreClosed threads has) where
+  reached_by : (n parent : ℕ) (thread : Thread) → slice_get threads parent ≡ Some thread → has parent ≡ true → TellsOf job thread n → has n ≡ true
+  reached_by n parent thread found there (inl names) = c.named parent n thread found there names
+  reached_by n parent thread found there (inr b) = absurd (c.ended parent thread found there b.goes)
+
+  -- those below a bound
+  reached_below : (bound n : ℕ) → n < bound → n < length threads → has n ≡ true
+  reached_below zero n l m = absurd (omega arith)
+  reached_below (suc bound) zero l m = c.first
+  reached_below (suc bound) (suc n) l m =
+      let d = h.each (suc n) (omega arith) m in
+      let lower = d.lower in
+      reached_by (suc n) d.parent d.thread d.found (reached_below bound d.parent (omega arith) (omega arith)) d.tells
+
+pub reached_run : (job : JobData) (start : Machine) (turns : List ℕ) → IsJob job → Starts job start → ClosedAreAll (run job start turns).threads
+reached_run job start turns j s has c n l = reached_below job (run job start turns).threads (named_run job start turns j s) has c (suc n) n (omega arith) l

@@ -4,7 +4,7 @@ ghost use Rattle.std.specs.Prelude.{ℕ, List};
 ghost use Rattle.cet_words.specs.Job.{JobData, IsJob};
 ghost use Rattle.cet_book.specs.Book.{first_book};
 ghost use Rattle.cet_page.specs.Machine.{Machine, Starts, run};
-ghost use Rattle.cet_page.specs.Numbered.{BirthsAreTold, CountsLow, DrawsRight, Named, Numbered};
+ghost use Rattle.cet_page.specs.Numbered.{BirthsAreTold, ClosedAreAll, CountsLow, DrawsRight, Named, Numbered};
 ghost use Rattle.cet_own.specs.Along.{Along};
 ghost use Rattle.cet_own.specs.ExitWord.{EndsRight};
 ghost use Rattle.cet_own.specs.Gates.{TurnTells};
@@ -55,6 +55,12 @@ pub fn births_are_told()
 /// then it hasn't ended. And whatever thread is told of so is there, and has a higher number.
 pub fn every_run_is_named()
     ensures { (job : JobData) (start : Machine) (turns : List ℕ) → IsJob job → Starts job start → Named job (run job start turns).threads }
+{}
+
+/// After every run of every job, ended threads among which are thread 0 and all that their `born` records
+/// name are all threads that there are.
+pub fn every_run_is_reached()
+    ensures { (job : JobData) (start : Machine) (turns : List ℕ) → IsJob job → Starts job start → ClosedAreAll (run job start turns).threads }
 {}
 
 /// After every run of every job the words NEXT_THREAD and DRAW_SHADOW are far below 2 ^ 64, so no

@@ -1,6 +1,6 @@
 -- Threads and their numbers: what an access keeps, who draws a number, who names it, and how far the counters of the machine
 -- go. Source: own.
-use Rattle.std.specs.Prelude.{◌≡◌, ℕ, ◌+◌, ◌*◌, ◌<◌, ◌≤◌, ◌⊎◌, List, [], ◌∷◌, Option, Some, None, length, min, slice_get, slice_index}
+use Rattle.std.specs.Prelude.{◌≡◌, ◌≢◌, ℕ, ◌+◌, ◌*◌, ◌<◌, ◌≤◌, ◌⊎◌, Bool, true, List, [], ◌∷◌, Option, Some, None, length, min, slice_get, slice_index}
 use Rattle.cet_words.specs.Access.{answer, after}
 use Rattle.cet_words.specs.Change.{Change, Born}
 use Rattle.cet_words.specs.Job.{JobData}
@@ -132,6 +132,16 @@ pub record Named (job : JobData) (threads : List Thread) : Type 0 where
   pub each : (n : ℕ) → 0 < n → n < length threads → IsNamed job threads n
   pub told : (t n : ℕ) (thread : Thread) → slice_get threads t ≡ Some thread → TellsOf job thread n → (t < n) × (n < length threads)
   pub alone : (t u n : ℕ) (x y : Thread) → slice_get threads t ≡ Some x → slice_get threads u ≡ Some y → TellsOf job x n → TellsOf job y n → t ≡ u
+
+-- These are numbers of ended threads, 0 among them, and all that the records of one of them name are among them.
+pub record AreClosed (threads : List Thread) (has : ℕ → Bool) : Type 0 where
+  pub first : has 0 ≡ true
+  pub ended : (t : ℕ) (thread : Thread) → slice_get threads t ≡ Some thread → has t ≡ true → thread.core.over ≢ None
+  pub named : (t n : ℕ) (thread : Thread) → slice_get threads t ≡ Some thread → has t ≡ true → Names n thread.trace → has n ≡ true
+
+-- such numbers are those of all threads
+abbrev pub ClosedAreAll : List Thread → Type 0
+ClosedAreAll threads = (has : ℕ → Bool) → AreClosed threads has → (n : ℕ) → n < length threads → has n ≡ true
 
 -- ---- the counters
 
