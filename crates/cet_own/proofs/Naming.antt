@@ -1,22 +1,20 @@
 -- Each thread but the first is told of by one with a lower number, along every run. Source: own.
 use Rattle.std.proofs.Common.{◌≡◌, ◌≢◌, ◌⊎◌, ℕ, zero, suc, ◌+◌, ◌<◌, ◌≤◌, inl, inr, Bool, true, false, List, [], ◌∷◌, ◌++◌, Option, Some, None, refl, sym, ◌∙◌, ap, subst, arith, length, length-append, length-set}
-use Rattle.std.specs.Prelude.{◌||◌, min, slice_get, slice_set, slice_index}
+use Rattle.std.specs.Prelude.{slice_get, slice_set}
 use Rattle.std.proofs.lemmas.Bool.{cases_lt}
 use Rattle.std.proofs.lemmas.Bool.Decides.{eqb_tells}
-use Rattle.std.proofs.lemmas.Option.{slice_get_past, slice_get_within}
+use Rattle.std.proofs.lemmas.Option.{slice_get_within}
 use Rattle.cet_words.specs.Access.{answer}
 use Rattle.cet_words.specs.Change.{Change, Born, Seeded}
 use Rattle.cet_words.specs.Job.{JobData, IsJob}
-use Rattle.cet_words.specs.Layout.{next_thread_word, thread_limit}
 use Rattle.cet_words.specs.declared.accesses.Access.{Access}
 use Rattle.cet_words.specs.declared.accesses.Access.TheVariants as access
-use Rattle.cet_isa.specs.declared.threads.Arch.{Arch}
 use Rattle.cet_isa.specs.declared.threads.End.{End}
 use Rattle.cet_isa.specs.declared.threads.Record.{Record}
 use Rattle.cet_book.specs.Book.{first_book}
-use Rattle.cet_page.specs.Core.{Core, access_of, answered, born, changes_of, child_core, child_of, first_core, fault_record, next_access, next_changes, row_played, taken, unheld, wanted}
-use Rattle.cet_page.specs.Machine.{Machine, Starts, Thread, act, accessed, run, step, step_by, thread_after, with_child}
-use Rattle.cet_page.specs.Numbered.{AreClosed, BirthsAreTold, ClosedAreAll, Draws, bears, bears_nobody, leaves, DrawsRight, IsBearing, IsNamed, Named, Names, Numbered, TellsOf, TellsOn, borne_by, borne_in, named}
+use Rattle.cet_page.specs.Core.{Core, access_of, answered, born, changes_of, child_core, child_of, first_core, fault_record, next_access, next_changes, row_played, taken, unheld}
+use Rattle.cet_page.specs.Machine.{Machine, Starts, Thread, act, run, step, step_by, thread_after, with_child}
+use Rattle.cet_page.specs.Numbered.{AreClosed, BirthsAreTold, ClosedAreAll, Draws, bears, bears_nobody, leaves, DrawsRight, IsNamed, Named, Names, Numbered, TellsOf, TellsOn, borne_by, borne_in, named}
 use Rattle.cet_page.specs.Row.{row}
 use Rattle.cet_page.specs.Script.{Script, done, fault, ask, tell, Played, Completed, Faulted, Wants, birth, held_after, play}
 use Rattle.cet_page.specs.Trail.{Visit, row_trail, trail, trail_of, visit}

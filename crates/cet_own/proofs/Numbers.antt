@@ -1,9 +1,9 @@
 -- The numbers of threads in a run: the place of each in the list, the draws of new ones, and how far the counters go.
 -- Source: own.
-use Rattle.std.proofs.Common.{◌≡◌, ℕ, ◌+◌, ◌*◌, ◌%◌, ◌^◌, ◌<◌, ◌≤◌, List, [], ◌∷◌, Option, Some, None, refl, sym, ◌∙◌, ap, subst, arith, get_or-set_same}
-use Rattle.std.specs.Prelude.{length, min, slice_get, slice_index, sum_by}
+use Rattle.std.proofs.Common.{◌≡◌, ℕ, List, [], ◌∷◌, Option, Some, None, refl, sym, ◌∙◌, ap, subst, arith}
+use Rattle.std.specs.Prelude.{slice_get, slice_index}
 use Rattle.cet_words.specs.Access.{answer, after}
-use Rattle.cet_words.specs.Change.{Change, Born}
+use Rattle.cet_words.specs.Change.{Change}
 use Rattle.cet_words.specs.Job.{JobData, IsJob}
 use Rattle.cet_words.specs.declared.accesses.Access.{Access}
 use Rattle.cet_words.specs.declared.accesses.Access.TheVariants as access
@@ -13,7 +13,7 @@ use Rattle.cet_isa.specs.declared.threads.End.TheVariants as ending
 use Rattle.cet_book.specs.Book.{first_book}
 use Rattle.cet_page.specs.Core.{Core, first_core, access_of, born, child_core, child_of, next_access, next_changes, row_played, taken, wanted}
 use Rattle.cet_page.specs.Machine.{Machine, Starts, Thread, run, step}
-use Rattle.cet_page.specs.Numbered.{CountsLow, Draws, bears, bears_nobody, leaves, DrawsRight, IsNew, Numbered}
+use Rattle.cet_page.specs.Numbered.{CountsLow, Draws, bears, bears_nobody, leaves, DrawsRight, Numbered}
 use Rattle.cet_page.specs.Script.{Wants, birth}
 use Rattle.cet_page.specs.Trail.{trail_of}
 use Rattle.cet_page.proofs.ChildLaws.{child_taken}
@@ -25,7 +25,7 @@ use Rattle.cet_own.proofs.Owed.{State}
 use Rattle.cet_own.proofs.Paid.{counters_tell, few_sum, one_most, unaltered}
 use Rattle.cet_own.proofs.Run.{first_stands, turn}
 use Rattle.cet_own.proofs.StandsAt.{core_at}
-use Rattle.cet_own.proofs.Threads.{CoreStands, InRow, ThreadStands}
+use Rattle.cet_own.proofs.Threads.{CoreStands, ThreadStands}
 use Rattle.cet_own.proofs.Turn.{led}
 use Rattle.cet_own.proofs.Turns.{Invariant}
 

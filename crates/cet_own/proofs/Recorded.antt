@@ -1,7 +1,7 @@
 -- What the records of threads and their present rows tell of the book, kept by every turn: each stack that is told or claimed is
 -- a region, no two have one start, and every region that is kept is told, or is one that a present row made so. It holds of any
 -- number of threads and regions. Source: own.
-use Rattle.std.proofs.Common.{◌≡◌, ℕ, zero, suc, ◌+◌, ◌-◌, ◌≤◌, inl, inr, Bool, true, false, List, [], ◌∷◌, ◌++◌, Option, Some, None, refl, sym, ◌∙◌, ap, subst, arith, add-one}
+use Rattle.std.proofs.Common.{◌≡◌, ℕ, zero, suc, ◌+◌, ◌-◌, ◌≤◌, inl, inr, List, [], ◌∷◌, ◌++◌, Option, Some, None, refl, sym, ◌∙◌, ap, subst, arith}
 use Rattle.std.specs.Prelude.{◌==◌, All, slice_get, slice_set, sum_by}
 use Rattle.std.proofs.lemmas.Bool.{cases_lt}
 use Rattle.std.proofs.lemmas.Bool.Decides.{eqb_tells}
@@ -15,7 +15,6 @@ use Rattle.cet_words.specs.Change.{Change}
 use Rattle.cet_words.specs.Job.{JobData}
 use Rattle.cet_words.specs.Layout.{first_region_start}
 use Rattle.cet_words.specs.declared.accesses.Access.{Access}
-use Rattle.cet_words.specs.declared.accesses.Access.TheVariants as access
 use Rattle.cet_isa.specs.declared.threads.Arch.{Arch}
 use Rattle.cet_isa.specs.declared.threads.Record.{Record}
 use Rattle.cet_isa.specs.declared.threads.End.{End}
@@ -28,21 +27,18 @@ use Rattle.cet_book.proofs.Comes.{changes_last}
 use Rattle.cet_page.specs.Core.{Core, unheld, row_played, changes_of, next_changes, next_access, access_of, wanted, answered, taken, child_core, child_of, born}
 use Rattle.cet_page.specs.Machine.{Thread, Machine, thread_after, with_child, accessed, act, step_by, step}
 use Rattle.cet_page.specs.Row.{row}
-use Rattle.cet_page.specs.Script.{Script, done, fault, ask, tell, Played, Completed, Faulted, Wants, play, birth, held_after}
-use Rattle.cet_page.specs.ValsData.{ValsData, keeps, kept_after, vals_after}
-use Rattle.cet_page.specs.Trail.{Visit, visit, trail, row_trail, trail_of}
+use Rattle.cet_page.specs.Script.{Played, Completed, Faulted, Wants, birth, held_after}
+use Rattle.cet_page.specs.ValsData.{ValsData, vals_after}
+use Rattle.cet_page.specs.Trail.{row_trail, trail_of}
 use Rattle.cet_page.specs.Within.{Waits, CoreAt, IsCore}
 use Rattle.cet_page.specs.declared.finishes.Finish.{Finish}
 use Rattle.cet_page.specs.declared.finishes.Finish.TheVariants.{Noted, Posted, Exited, Stopped}
 use Rattle.cet_page.proofs.ChildLaws.{child_taken}
-use Rattle.cet_page.proofs.Walk.{Walks, Spent, acted}
-use Rattle.cet_page.proofs.WalkRows.{Ends, walk_row}
 use Rattle.cet_page.proofs.WithinLaws.{row_grown}
 use Rattle.cet_own.specs.Event.{access_changes, thread_changes, turn_changes}
 use Rattle.cet_own.specs.Told.{told, told_in, first_span}
 use Rattle.cet_own.proofs.Drawing.{times, occurs, times-append, times_found, sum_found, HasSpan, HasStart, span_starts, span_lasts, Drawing, drawing_all}
 use Rattle.cet_own.proofs.Drawn.{Drawn, nothing_drawn, draws, drawn, TellsOf, tells_nothing, tells_stack, EndTells, CameTells, came_tells}
-use Rattle.cet_own.proofs.Frame.{kept_cons}
 use Rattle.cet_own.proofs.Paid.{sum_moved}
 use Rattle.cet_own.proofs.TellingRows.{row_tells}
 use Rattle.cet_own.proofs.Threads.{left_by}
