@@ -1,9 +1,9 @@
 //! tgkill: a signal for a thread (Linux, tgkill(2)).
 
 ghost use Rattle.std.specs.Prelude.{◌≡◌, ◌+◌, ◌-◌, ◌^◌, ◌<◌, ◌≤◌, true};
+ghost use Rattle.cet_page.specs.Finish.{rdx};
 ghost use Rattle.cet_page.specs.Script.{play};
 ghost use Rattle.cet_page.specs.Plays.{Refines};
-ghost use Rattle.cet_page.specs.MapShadowStack.{rdx};
 ghost use Rattle.cet_page.specs.Signals.{is_thread, last_signal, post, tgkill};
 ghost use Rattle.cet_page.specs.Structures.{signal_bit};
 
