@@ -32,6 +32,7 @@ use Rattle.cet_own.specs.Told.{told_in, told_spans, first_span, kept_pointer, ke
 use Rattle.cet_own.proofs.Covered.{Covered, told_numbers, AllEnded, LastCovered}
 use Rattle.cet_own.proofs.Drawing.{times, occurs, once_here, HasSpan}
 use Rattle.cet_own.proofs.Drawn.{Drawn, nothing_drawn, drawn}
+use Rattle.cet_own.proofs.Numbers.{core_number}
 use Rattle.cet_own.proofs.Owed.{State}
 use Rattle.cet_own.proofs.Recorded.{Recorded, ThreadSpans, row_drawn, used, shown, recorded_turn}
 use Rattle.cet_own.proofs.Run.{turn, first_stands}
@@ -55,12 +56,6 @@ record IsTop (b : Book) (p : ℕ × ℕ) : Type 0 where
   inside : number < length b.regions
   current : (region b number).holder ≡ Current p.0
   at : p.1 ≡ top (region b number)
-
-core_number : (job : JobData) (t : ℕ) (s : State) (core : Core) (over : Option End) → CoreStands job t s core over → core.arch.number ≡ t
-core_number job t s core None h = h.number
-core_number job t s core (Some (ending.Exit status)) h = h.2
-core_number job t s core (Some ending.Group) h = h.3
-core_number job t s core (Some ending.Limit) h = h.3
 
 ended_top : (job : JobData) (t : ℕ) (s : State) (core : Core) → Ended job t s core → All (IsTop s.book) ((core.arch.number, core.arch.ssp) ∷ [])
 ended_top job t s core h =

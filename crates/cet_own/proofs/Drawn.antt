@@ -1,24 +1,26 @@
 -- What a row has drawn, and that its record tells of it: of the stack that the row has claimed, and always where that stack
--- was parked or got a thread. A row owes this whatever its accesses answer. Source: own.
-use Rattle.std.proofs.Common.{◌≡◌, ◌⊎◌, ℕ, zero, suc, ◌+◌, ◌*◌, List, [], ◌∷◌}
+-- was parked or got a thread; and of the thread that it has borne. A row owes this whatever its accesses answer. Source: own.
+use Rattle.std.proofs.Common.{◌≡◌, ◌⊎◌, ℕ, zero, suc, ◌+◌, ◌*◌, List, [], ◌∷◌, Option, Some, None}
 use Rattle.cet_words.specs.Change.{Change, Claimed, Seeded, Born}
 use Rattle.cet_words.specs.declared.accesses.Access.TheVariants as access
 use Rattle.cet_isa.specs.declared.threads.Arch.{Arch}
 use Rattle.cet_isa.specs.declared.threads.Record.{Record}
 use Rattle.cet_book.specs.View.{Span}
+use Rattle.cet_page.specs.Numbered.{named}
 use Rattle.cet_page.specs.Script.{Script, done, fault, ask, tell, Played, Completed, Faulted, Wants, play}
 use Rattle.cet_page.specs.Trail.{Visit, visit, trail}
 use Rattle.cet_page.specs.declared.finishes.Finish.{Finish}
 use Rattle.cet_page.specs.declared.finishes.Finish.TheVariants.{Noted, Posted, Exited, Stopped}
 use Rattle.cet_own.specs.Told.{told}
 
--- the stacks that a row has claimed, and the starts of those that were parked or got a thread
+-- the stacks that a row has claimed, the starts of those that were parked or got a thread, and the number of that thread
 pub record Drawn : Type 0 where
   pub claimed : List Span
   pub kept : List ℕ
+  pub born : Option ℕ
 
 abbrev pub nothing_drawn : Drawn
-nothing_drawn = record { claimed = []; kept = [] }
+nothing_drawn = record { claimed = []; kept = []; born = None }
 
 abbrev pub claimed_span : (start pages : ℕ) → Span
 claimed_span start pages = record { start = start; end = start + 4096 * pages }
@@ -26,7 +28,7 @@ claimed_span start pages = record { start = start; end = start + 4096 * pages }
 abbrev pub draw : Change → Drawn → Drawn
 draw (Claimed start pages maker) d = record d { claimed = claimed_span start pages ∷ d.claimed }
 draw (Seeded start blanks) d = record d { kept = start ∷ d.kept }
-draw (Born child start) d = record d { kept = start ∷ d.kept }
+draw (Born child start) d = record d { kept = start ∷ d.kept; born = Some child }
 draw c d = d
 
 abbrev pub draws : List Change → Drawn → Drawn
@@ -44,14 +46,19 @@ pub data TellsOf (d : Drawn) (spans : List Span) : Type 0 where
   tells_nothing : spans ≡ [] → d.kept ≡ [] → TellsOf d spans
   tells_stack : (s : Span) → spans ≡ s ∷ [] → d.claimed ≡ s ∷ [] → (d.kept ≡ []) ⊎ (d.kept ≡ s.start ∷ []) → TellsOf d spans
 
+-- and it names the thread that was borne
+pub record RecordTells (d : Drawn) (r : Record) : Type 0 where
+  pub stack : TellsOf d (told r r.what)
+  pub thread : d.born ≡ named r.what r.a
+
 abbrev pub EndTells : Drawn → Finish → Type 0
-EndTells d (Noted next r) = TellsOf d (told r r.what)
+EndTells d (Noted next r) = RecordTells d r
 EndTells d (Posted next) = d.kept ≡ []
-EndTells d (Exited next r status) = TellsOf d (told r r.what)
+EndTells d (Exited next r status) = RecordTells d r
 EndTells d Stopped = d.kept ≡ []
 
 abbrev pub RowTells : Drawn → Arch × Record → Type 0
-RowTells d x = TellsOf d (told x.1 x.1.what)
+RowTells d x = RecordTells d x.1
 
 -- from here on, where so much was drawn, Q holds of what was drawn at the end and of the result
 abbrev pub Telling : {A : Type 0} → (Q : Drawn → A → Type 0) → Drawn → Script A → Type 0

@@ -65,3 +65,5 @@ pub mod Turns
 pub mod StandsAt
 pub mod Run
 pub mod Switched
+pub mod Numbers
+pub mod Naming

@@ -93,7 +93,7 @@ counted words a past size (bears_nobody e many once none) = added words a past s
 
 -- ---- what the row has come to
 
-one_most : (c : Bool) → one c ≤ 1
+pub one_most : (c : Bool) → one c ≤ 1
 one_most true = omega arith
 one_most false = omega arith
 
@@ -149,7 +149,7 @@ pub record Paid (job : JobData) (words : List ℕ) (threads : List Thread) : Typ
   pub nexts : slice_index words next_word ≤ 1 + sum_by (thread_births job) threads
 
 -- 32 threads of at most 100,001 each
-few_sum : (job : JobData) (threads : List Thread) (d : Thread) (f : Thread → ℕ) → length threads ≤ 32 → ((t : ℕ) (thread : Thread) → slice_get threads t ≡ Some thread → f thread ≤ 100001) → sum_by f threads ≤ 3200032
+pub few_sum : (job : JobData) (threads : List Thread) (d : Thread) (f : Thread → ℕ) → length threads ≤ 32 → ((t : ℕ) (thread : Thread) → slice_get threads t ≡ Some thread → f thread ≤ 100001) → sum_by f threads ≤ 3200032
 few_sum job threads d f few each =
     let all : All (λ x. f x ≤ 100001) threads = All-from_get_or (λ x. f x ≤ 100001) threads d (λ i l. each i (get_or threads i d) (slice_get-get_or threads i d l)) in
     let sum = sum_by-le f 100001 threads all in

@@ -1,7 +1,7 @@
 -- What the records of threads and their present rows tell of the book, kept by every turn: each stack that is told or claimed is
 -- a region, no two have one start, and every region that is kept is told, or is one that a present row made so. It holds of any
 -- number of threads and regions. Source: own.
-use Rattle.std.proofs.Common.{◌≡◌, ℕ, zero, suc, ◌+◌, ◌-◌, ◌≤◌, inl, inr, Bool, true, false, List, [], ◌∷◌, ◌++◌, Option, Some, None, refl, sym, ◌∙◌, ap, subst, arith, add-one}
+use Rattle.std.proofs.Common.{◌≡◌, ℕ, zero, suc, ◌+◌, ◌-◌, ◌≤◌, inl, inr, List, [], ◌∷◌, ◌++◌, Option, Some, None, refl, sym, ◌∙◌, ap, subst, arith}
 use Rattle.std.specs.Prelude.{◌==◌, All, slice_get, slice_set, sum_by}
 use Rattle.std.proofs.lemmas.Bool.{cases_lt}
 use Rattle.std.proofs.lemmas.Bool.Decides.{eqb_tells}
@@ -15,7 +15,6 @@ use Rattle.cet_words.specs.Change.{Change}
 use Rattle.cet_words.specs.Job.{JobData}
 use Rattle.cet_words.specs.Layout.{first_region_start}
 use Rattle.cet_words.specs.declared.accesses.Access.{Access}
-use Rattle.cet_words.specs.declared.accesses.Access.TheVariants as access
 use Rattle.cet_isa.specs.declared.threads.Arch.{Arch}
 use Rattle.cet_isa.specs.declared.threads.Record.{Record}
 use Rattle.cet_isa.specs.declared.threads.End.{End}
@@ -28,21 +27,18 @@ use Rattle.cet_book.proofs.Comes.{changes_last}
 use Rattle.cet_page.specs.Core.{Core, unheld, row_played, changes_of, next_changes, next_access, access_of, wanted, answered, taken, child_core, child_of, born}
 use Rattle.cet_page.specs.Machine.{Thread, Machine, thread_after, with_child, accessed, act, step_by, step}
 use Rattle.cet_page.specs.Row.{row}
-use Rattle.cet_page.specs.Script.{Script, done, fault, ask, tell, Played, Completed, Faulted, Wants, play, birth, held_after}
-use Rattle.cet_page.specs.ValsData.{ValsData, keeps, kept_after, vals_after}
-use Rattle.cet_page.specs.Trail.{Visit, visit, trail, row_trail, trail_of}
+use Rattle.cet_page.specs.Script.{Played, Completed, Faulted, Wants, birth, held_after}
+use Rattle.cet_page.specs.ValsData.{ValsData, vals_after}
+use Rattle.cet_page.specs.Trail.{row_trail, trail_of}
 use Rattle.cet_page.specs.Within.{Waits, CoreAt, IsCore}
 use Rattle.cet_page.specs.declared.finishes.Finish.{Finish}
 use Rattle.cet_page.specs.declared.finishes.Finish.TheVariants.{Noted, Posted, Exited, Stopped}
 use Rattle.cet_page.proofs.ChildLaws.{child_taken}
-use Rattle.cet_page.proofs.Walk.{Walks, Spent, acted}
-use Rattle.cet_page.proofs.WalkRows.{Ends, walk_row}
-use Rattle.cet_page.proofs.WithinLaws.{spent}
+use Rattle.cet_page.proofs.WithinLaws.{row_grown}
 use Rattle.cet_own.specs.Event.{access_changes, thread_changes, turn_changes}
 use Rattle.cet_own.specs.Told.{told, told_in, first_span}
 use Rattle.cet_own.proofs.Drawing.{times, occurs, times-append, times_found, sum_found, HasSpan, HasStart, span_starts, span_lasts, Drawing, drawing_all}
 use Rattle.cet_own.proofs.Drawn.{Drawn, nothing_drawn, draws, drawn, TellsOf, tells_nothing, tells_stack, EndTells, CameTells, came_tells}
-use Rattle.cet_own.proofs.Frame.{kept_cons}
 use Rattle.cet_own.proofs.Paid.{sum_moved}
 use Rattle.cet_own.proofs.TellingRows.{row_tells}
 use Rattle.cet_own.proofs.Threads.{left_by}
@@ -70,31 +66,8 @@ pub record Recorded (job : JobData) (b : Book) (threads : List Thread) : Type 0 
 
 -- ---- an access draws what its changes say
 
-drawn_more : {A : Type 0} (P : A → Type 0) (wrote : Bool) (s : Script A) (n k i : ℕ) (vs : List ℕ) (past : List Visit) (a : Access) (own : ℕ → List Change) (v : ℕ) → Walks n k wrote P s → Spent s i vs → play s i vs ≡ Wants a own → drawn (trail (suc i) s (kept_after vs a v) past) ≡ draws (own v) (drawn (trail i s vs past))
-drawn_more P wrote (done x) n k i vs past a own v f h w = cc
-drawn_more P wrote (fault e) n k i vs past a own v f h w = cc
-drawn_more P wrote (ask b changes c) n k zero [] past a own v f h w =
-    let e : a ≡ b = cc in
-    let same : changes ≡ own = cc in
-    let kept : keeps a ≡ true = ap keeps e ∙ f.0 in
-    rw kept (ap (λ (l : ℕ → List Change). draws (l v) (drawn past)) same)
-drawn_more P wrote (ask b changes c) n k zero (x ∷ vs) past a own v f h w = absurd h
-drawn_more P wrote (ask b changes c) n k (suc i) [] past a own v f h w = absurd h
-drawn_more P wrote (ask b changes c) n k (suc i) (x ∷ vs) past a own v f h w =
-    let g = f.1 x in
-    subst (λ l. drawn (trail (suc (suc i)) (ask b changes c) l past) ≡ draws (own v) (drawn (trail (suc i) (ask b changes c) (x ∷ vs) past))) (kept_cons x vs a v)
-    (drawn_more P (acted wrote b x (changes x)) (c x) (n + 1) (k + 1) i vs (visit b x (changes x) ∷ past) a own v g.1 h w)
-drawn_more P wrote (tell word value changes s) n k zero [] past a own v f h w =
-    let same : (λ (u : ℕ). changes) ≡ own = cc in
-    ap (λ (l : ℕ → List Change). draws (l v) (drawn past)) same
-drawn_more P wrote (tell word value changes s) n k zero (x ∷ vs) past a own v f h w = absurd h
-drawn_more P wrote (tell word value changes s) n k (suc i) vs past a own v f h w =
-    drawn_more P true s (n + 1) k i vs (visit (access.Store word value) 0 changes ∷ past) a own v f.1 h w
-
-row_more : (job : JobData) (core : Core) (a : Access) (own : ℕ → List Change) (v : ℕ) → Waits job core → row_played job core.arch core.vals ≡ Wants a own → drawn (row_trail job core.arch (vals_after core.vals a v)) ≡ draws (own v) (drawn (trail_of job core))
-row_more job core a own v h w =
-    let arch = unheld core.arch in
-    rw add-one (drawn_more (Ends job arch) false (row job arch) 0 0 core.vals.accesses core.vals.values [] a own v (walk_row job arch).walks (spent job core h) w)
+pub row_more : (job : JobData) (core : Core) (a : Access) (own : ℕ → List Change) (v : ℕ) → Waits job core → row_played job core.arch core.vals ≡ Wants a own → drawn (row_trail job core.arch (vals_after core.vals a v)) ≡ draws (own v) (drawn (trail_of job core))
+row_more job core a own v h w = let r = row_grown job core a own v h w in ap drawn r.1
 
 -- ---- what a thread tells after its access
 
@@ -110,9 +83,9 @@ told_more trace r =
 onward_came : (job : JobData) (thread : Thread) (held : Option ℕ) (seen : ValsData) (d : Drawn) (child : Option Core) (c : Played Finish) → drawn (row_trail job thread.core.arch seen) ≡ d → CameTells EndTells d c → Onward job d thread (thread_after thread (left_by job thread.core.arch held seen c child))
 onward_came job thread held seen d child (Wants a changes) e o = goes_on refl e
 onward_came job thread held seen d child (Faulted f) e o = ends [] (told_more thread.trace _) refl (tells_nothing refl o)
-onward_came job thread held seen d child (Completed (Noted next r) left values) e o = ends (told r r.what) (told_more thread.trace r) refl o
+onward_came job thread held seen d child (Completed (Noted next r) left values) e o = ends (told r r.what) (told_more thread.trace r) refl o.stack
 onward_came job thread held seen d child (Completed (Posted next) left values) e o = ends [] (sym (append-nil (told_in thread.trace))) refl (tells_nothing refl o)
-onward_came job thread held seen d child (Completed (Exited next r status) left values) e o = ends (told r r.what) (told_more thread.trace r) refl o
+onward_came job thread held seen d child (Completed (Exited next r status) left values) e o = ends (told r r.what) (told_more thread.trace r) refl o.stack
 onward_came job thread held seen d child (Completed Stopped left values) e o = ends [] (sym (append-nil (told_in thread.trace))) refl (tells_nothing refl o)
 
 onward : (job : JobData) (thread : Thread) (a : Access) (own : ℕ → List Change) (v : ℕ) → Waits job thread.core → row_played job thread.core.arch thread.core.vals ≡ Wants a own → Onward job (draws (next_changes job thread.core v) (row_drawn job thread)) thread (thread_after thread (taken job thread.core v))

@@ -38,7 +38,7 @@ token_found words b p h place = (
       subst (λ n. slot_word words n ≡ top (region b k.0) + 1) here (h.parked k.0 k.1) ∙ omega arith,
 )
 
-core_at : (job : JobData) (t : ℕ) (s : State) (thread : Thread) (over : Option End) → CoreStands job t s thread.core over → CoreAt job thread.core over
+pub core_at : (job : JobData) (t : ℕ) (s : State) (thread : Thread) (over : Option End) → CoreStands job t s thread.core over → CoreAt job thread.core over
 core_at job t s thread None h = h.waits
 core_at job t s thread (Some (ending.Exit status)) h = h.1
 core_at job t s thread (Some ending.Group) h = h.2

@@ -1,5 +1,6 @@
--- What the record of each row tells of: of the stack that map_shadow_stack has claimed, and else of none. Source: own.
-use Rattle.std.proofs.Common.{◌≡◌, ℕ, zero, suc, ◌+◌, ◌%◌, Bool, true, false, inl, inr, cond, List, [], ◌∷◌, Option, Some, None, refl, ap, subst, sym, arith}
+-- What the record of each row tells of: of the stack that map_shadow_stack or clone has claimed, and else of none; and of the
+-- thread that clone has borne. Source: own.
+use Rattle.std.proofs.Common.{◌≡◌, ◌⊎◌, ℕ, zero, suc, ◌+◌, ◌%◌, Bool, true, false, inl, inr, cond, List, [], ◌∷◌, Option, Some, None, refl, ap, subst, sym, arith}
 use Rattle.std.specs.Prelude.{◌==◌, ◌-◌, nat_lt, if◌then◌else◌, Ok, Err}
 use Rattle.std.specs.Int.{cast_unsigned}
 use Rattle.cet_words.specs.Layout.{page_at, pages_of, thread_limit, thread_region_size}
@@ -54,12 +55,23 @@ use Rattle.cet_page.specs.declared.finishes.Leaving.TheVariants as leaving
 use Rattle.cet_page.specs.declared.services.Errno.{Errno}
 use Rattle.cet_page.specs.declared.services.Errno.TheVariants as errno
 use Rattle.cet_page.specs.declared.flags.Computed.{Computed}
-use Rattle.cet_own.proofs.Drawn.{Drawn, nothing_drawn, claimed_span, draws, tells_nothing, tells_stack, EndTells, RowTells, Telling}
+use Rattle.cet_page.specs.Numbered.{named}
+use Rattle.cet_own.specs.Told.{told}
+use Rattle.cet_book.specs.View.{Span}
+use Rattle.cet_own.proofs.Drawn.{Drawn, nothing_drawn, claimed_span, draws, tells_nothing, tells_stack, RecordTells, EndTells, RowTells, Telling}
 
 -- ---- one lemma for each part, with what follows it; changes that draw nothing
 
 record Tells {A : Type 0} (Q : Drawn → A → Type 0) (d : Drawn) (s : Script A) : Type 0 where
   tells : Telling Q d s
+
+-- a record tells of nothing and names nobody
+tells_none : {d : Drawn} {r : Record} → told r r.what ≡ [] → d.kept ≡ [] → d.born ≡ named r.what r.a → RecordTells d r
+tells_none p q n = record { stack = tells_nothing p q; thread = n }
+
+-- it tells of the stack, and names who was borne
+tells_one : {d : Drawn} {r : Record} (s : Span) → told r r.what ≡ s ∷ [] → d.claimed ≡ s ∷ [] → (d.kept ≡ []) ⊎ (d.kept ≡ s.start ∷ []) → d.born ≡ named r.what r.a → RecordTells d r
+tells_one s p q k n = record { stack = tells_stack s p q k; thread = n }
 
 draws_if : (d : Drawn) (b : Bool) (s t : List Change) → draws s d ≡ d → draws t d ≡ d → draws (cond b s t) d ≡ d
 draws_if d true s t p q = p
@@ -197,7 +209,7 @@ module _ {A B C : Type 0} {Q : Drawn → A → Type 0} {d : Drawn} where
   tells_assoc : (m : Script C) (h : C → Script B) (f : B → Script A) → Tells Q d (m >>= (λ x. h x >>= f)) → Tells Q d ((m >>= h) >>= f)
   tells_assoc m h f w = record { tells = assoc_telling Q d m h f w.tells }
 
-ruleset tells_parts = (tells_done, tells_fault, tells_if, tells_return, tells_fault_then, tells_if_then, tells_assoc, tells_peek, tells_load, tells_loads, tells_exchange, tells_swap, tells_fetch_add, tells_fetch_or, tells_fetch_and, tells_store, tells_stores, tells_each, tells_tested, tells_look, tells_probe, draws_if, tells_nothing)
+ruleset tells_parts = (tells_done, tells_fault, tells_if, tells_return, tells_fault_then, tells_if_then, tells_assoc, tells_peek, tells_load, tells_loads, tells_exchange, tells_swap, tells_fetch_add, tells_fetch_or, tells_fetch_and, tells_store, tells_stores, tells_each, tells_tested, tells_look, tells_probe, draws_if, tells_none)
 
 -- ---- operands and the gate
 
@@ -279,20 +291,20 @@ tells_shadow_stacks arch i next = search rules depth 99 fits 9000
 -- ---- map_shadow_stack: its record tells of the stack that was claimed, which is parked where it gets a token
 
 abbrev one_drawn : (start pages : ℕ) (kept : List ℕ) → Drawn
-one_drawn start pages kept = record { claimed = claimed_span start pages ∷ []; kept = kept }
+one_drawn start pages kept = record { claimed = claimed_span start pages ∷ []; kept = kept; born = None }
 
 tells_seed : (arch : Arch) (start size k : ℕ) (token : Bool) → Tells EndTells (one_drawn start (pages_of size) []) ((seed_if start size (pages_of size) token >>= (λ _. done (claimed arch start size))) >>= leave k)
 tells_seed arch start size k true =
-    tells_assoc _ _ _ (tells_stored _ _ _ _ (tells_return _ _ (tells_gate_out _ k _ (tells_done (tells_stack (claimed_span start (pages_of size)) refl refl (inr refl))))))
+    tells_assoc _ _ _ (tells_stored _ _ _ _ (tells_return _ _ (tells_gate_out _ k _ (tells_done (tells_one (claimed_span start (pages_of size)) refl refl (inr refl) refl)))))
 tells_seed arch start size k false =
-    tells_assoc _ _ _ (tells_return _ _ (tells_return _ _ (tells_gate_out _ k _ (tells_done (tells_stack (claimed_span start (pages_of size)) refl refl (inl refl))))))
+    tells_assoc _ _ _ (tells_return _ _ (tells_return _ _ (tells_gate_out _ k _ (tells_done (tells_one (claimed_span start (pages_of size)) refl refl (inl refl) refl)))))
 
 tells_fill : (arch : Arch) (d size k : ℕ) (token : Bool) → Tells EndTells (one_drawn (drawn_start d) (pages_of size) []) (fill_stack arch d size (pages_of size) token >>= leave k)
 unfolding fill_stack
 tells_fill arch d size k token = tells_assoc _ _ _ (tells_stores _ _ _ _ _ (tells_seed arch (drawn_start d) size k token))
 
 tells_failed : (arch : Arch) (error : Errno) (k : ℕ) → Tells EndTells nothing_drawn (done (failed arch error) >>= leave k)
-tells_failed arch error k = tells_return _ _ (tells_gate_out _ k _ (tells_done (tells_nothing refl refl)))
+tells_failed arch error k = tells_return _ _ (tells_gate_out _ k _ (tells_done (tells_none refl refl refl)))
 
 -- by whether the draw succeeds
 tells_drawn : (arch : Arch) (d size k : ℕ) (token c : Bool) → Tells EndTells (draws (if c then Claimed (drawn_start d) (pages_of size) token ∷ [] else []) nothing_drawn) ((if c then fill_stack arch d size (pages_of size) token else done (failed arch errno.NoMem)) >>= leave k)
@@ -338,8 +350,8 @@ tells_numbered : (arch : Arch) (d v k : ℕ) (c : Bool) → Tells EndTells (draw
 unfolding give_up
 tells_numbered arch d v k true =
     let start : drawn_start d + thread_region_size - thread_region_size ≡ drawn_start d = omega arith in
-    tells_return _ _ (tells_gate_out _ k _ (tells_done (tells_stack (claimed_span (drawn_start d) thread_pages) (ap (λ n. record { start = n; end = drawn_start d + thread_region_size } ∷ []) start) refl (inr refl))))
-tells_numbered arch d v k false = tells_assoc _ _ _ (tells_stores _ _ _ _ _ (tells_return _ _ (tells_gate_out _ k _ (tells_done (tells_nothing refl refl)))))
+    tells_return _ _ (tells_gate_out _ k _ (tells_done (tells_one (claimed_span (drawn_start d) thread_pages) (ap (λ n. record { start = n; end = drawn_start d + thread_region_size } ∷ []) start) refl (inr refl) refl)))
+tells_numbered arch d v k false = tells_assoc _ _ _ (tells_stores _ _ _ _ _ (tells_return _ _ (tells_gate_out _ k _ (tells_done (tells_none refl refl refl)))))
 
 tells_bear : (arch : Arch) (d k : ℕ) → Tells EndTells (one_drawn (drawn_start d) thread_pages []) (bear arch d >>= leave k)
 unfolding bear

@@ -1,13 +1,11 @@
 -- One turn keeps the invariant: of the thread that acts, of one that it bears, and of all others. Source: own.
 use Rattle.cet_own.specs.Gates.{ThreadGates}
-use Rattle.std.proofs.Common.{[], ◌∷◌, ◌++◌, ◌⊎◌, length-append, ◌≡◌, ◌≢◌, ℕ, ◌<◌, ◌≤◌, inl, inr, List, length, Option, Some, None, refl, sym, ◌∙◌, ap, subst, arith, length-set, get_or-set_same, get_or-set_other, true}
+use Rattle.std.proofs.Common.{[], ◌∷◌, ◌++◌, ◌⊎◌, length-append, ◌≡◌, ◌≢◌, ℕ, ◌<◌, ◌≤◌, inl, inr, List, length, Option, Some, None, refl, sym, ◌∙◌, ap, subst, arith, length-set, get_or-set_same, true}
 use Rattle.std.specs.Prelude.{slice_get, slice_set, slice_index, sum_by, min, ◌+◌, ◌%◌, ◌^◌, ◌-◌, ◌==◌}
-use Rattle.std.proofs.lemmas.List.{get_or_append_left}
 use Rattle.std.proofs.lemmas.List.Sums.{sum_by-append}
-use Rattle.std.proofs.Math.Seq.{get_or-append_seam}
 use Rattle.std.proofs.lemmas.Bool.{cases_lt}
 use Rattle.std.proofs.lemmas.Bool.Decides.{eqb_tells, nat_tests}
-use Rattle.std.proofs.lemmas.Option.{slice_get_past, slice_get_within, slice_get-get_or}
+use Rattle.std.proofs.lemmas.Option.{slice_get_past, slice_get_within}
 use Rattle.cet_words.specs.Layout.{word_count, token_word, kernel_return}
 use Rattle.cet_words.specs.Access.{answer, after}
 use Rattle.cet_words.specs.Job.{JobData, IsJob}
@@ -31,6 +29,7 @@ use Rattle.cet_page.specs.Script.{Wants, birth}
 use Rattle.cet_page.specs.Machine.{Thread, Machine, machine, thread_after, with_child, act, step_by}
 use Rattle.cet_page.specs.Within.{Waits}
 use Rattle.cet_page.proofs.ChildLaws.{ChildAt, child_at, child_taken}
+use Rattle.cet_page.proofs.NumberLaws.{get_last, get_low, get_other, get_same}
 use Rattle.cet_own.specs.Event.{access_changes, thread_changes}
 use Rattle.cet_own.specs.Safe.{AccessReturns, ThreadReturns, KeepsStack, HasStack, IsSafeAt}
 use Rattle.cet_own.specs.ToldTokens.{AccessTokens, ThreadTokens}
@@ -151,32 +150,7 @@ pub record TurnedBy (job : JobData) (m : Machine) (t : ℕ) (s : State) (thread 
 pub stays : (job : JobData) (m : Machine) (t : ℕ) (s : State) (thread : Thread) → Invariant job m s → TurnedBy job m t s thread None
 stays job m t s thread st = record { next = s; is = refl; stands = st; returns = tt; restores = tt; reads = tt }
 
-get_other : (threads : List Thread) (t y : ℕ) (x : Thread) → y ≢ t → slice_get (slice_set threads t x) y ≡ slice_get threads y
-get_other threads t y x n = elim (cases_lt y (length threads)) [
-  | inl l ↦
-      let l' : y < length (slice_set threads t x) = omega (arith, length-set threads t x) in
-      slice_get-get_or (slice_set threads t x) y x l' ∙ ap Some (get_or-set_other threads t y x x n) ∙ sym (slice_get-get_or threads y x l)
-  | inr g ↦
-      let g' : length (slice_set threads t x) ≤ y = omega (arith, length-set threads t x) in
-      slice_get_past (slice_set threads t x) y g' ∙ sym (slice_get_past threads y g)
-]
-
-get_same : (threads : List Thread) (t : ℕ) (x : Thread) → t < length threads → slice_get (slice_set threads t x) t ≡ Some x
-get_same threads t x l =
-    let l' : t < length (slice_set threads t x) = omega (arith, length-set threads t x) in
-    slice_get-get_or (slice_set threads t x) t x l' ∙ ap Some (get_or-set_same threads t x x l)
-
 -- ---- births in the list of threads
-
-get_low : (threads : List Thread) (x : Thread) (y : ℕ) → y < length threads → slice_get (threads ++ x ∷ []) y ≡ slice_get threads y
-get_low threads x y l =
-    let more = length-append threads (x ∷ []) in
-    slice_get-get_or (threads ++ x ∷ []) y x (omega arith) ∙ ap Some (get_or_append_left threads (x ∷ []) x y l) ∙ sym (slice_get-get_or threads y x l)
-
-get_last : (threads : List Thread) (x : Thread) → slice_get (threads ++ x ∷ []) (length threads) ≡ Some x
-get_last threads x =
-    let more = length-append threads (x ∷ []) in
-    slice_get-get_or (threads ++ x ∷ []) (length threads) x (omega arith) ∙ ap Some (get_or-append_seam threads x [] x)
 
 get_past : (threads : List Thread) (x : Thread) (y : ℕ) → length threads < y → slice_get (threads ++ x ∷ []) y ≡ slice_get threads y
 get_past threads x y l =

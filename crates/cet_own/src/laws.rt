@@ -4,6 +4,7 @@ ghost use Rattle.std.specs.Prelude.{ℕ, List};
 ghost use Rattle.cet_words.specs.Job.{JobData, IsJob};
 ghost use Rattle.cet_book.specs.Book.{first_book};
 ghost use Rattle.cet_page.specs.Machine.{Machine, Starts, run};
+ghost use Rattle.cet_page.specs.Numbered.{BirthsAreTold, ClosedAreAll, CountsLow, DrawsRight, Named, Numbered};
 ghost use Rattle.cet_own.specs.Along.{Along};
 ghost use Rattle.cet_own.specs.ExitWord.{EndsRight};
 ghost use Rattle.cet_own.specs.Gates.{TurnTells};
@@ -48,4 +49,42 @@ pub fn every_run_switches()
 /// many of its newest entries as the counts add up to.
 pub fn every_run_raises()
     ensures { (job : JobData) (start : Machine) (turns : List ℕ) → IsJob job → Starts job start → Raises job start turns }
+{}
+
+/// After every run of every job the thread at each place of the list has that number, and there are as
+/// many threads as the word NEXT_THREAD says, or 32 where it says more. Each is a thread of the job.
+pub fn every_run_is_numbered()
+    ensures { (job : JobData) (start : Machine) (turns : List ℕ) → IsJob job → Starts job start → Numbered job (run job start turns) }
+{}
+
+/// After every run of every job, the access that a thread waits for draws the number of a thread by a
+/// fetch-and-add of 1, and bears that thread exactly where the number is below 32; or it leaves the word
+/// NEXT_THREAD as it was, and bears nobody.
+pub fn every_run_draws_numbers()
+    ensures { (job : JobData) (start : Machine) (turns : List ℕ) → IsJob job → Starts job start → DrawsRight job (run job start turns) }
+{}
+
+/// An access adds to what its thread tells of exactly the thread that it bears, if there is one: by the
+/// `born` record that comes with it, or by that of the row, which isn't done.
+pub fn births_are_told()
+    ensures { BirthsAreTold }
+{}
+
+/// After every run of every job, each thread but the first is told of by a thread with a lower number, and
+/// by that one alone: a `born` record of it names it, or its present row has borne it and isn't done, and
+/// then it hasn't ended. And whatever thread is told of so is there, and has a higher number.
+pub fn every_run_is_named()
+    ensures { (job : JobData) (start : Machine) (turns : List ℕ) → IsJob job → Starts job start → Named job (run job start turns).threads }
+{}
+
+/// After every run of every job, ended threads among which are thread 0 and all that their `born` records
+/// name are all threads that there are.
+pub fn every_run_is_reached()
+    ensures { (job : JobData) (start : Machine) (turns : List ℕ) → IsJob job → Starts job start → ClosedAreAll (run job start turns).threads }
+{}
+
+/// After every run of every job the words NEXT_THREAD and DRAW_SHADOW are far below 2 ^ 64, so no
+/// fetch-and-add on one of them wraps.
+pub fn every_run_counts_low()
+    ensures { (job : JobData) (start : Machine) (turns : List ℕ) → IsJob job → Starts job start → CountsLow (run job start turns).words }
 {}

@@ -1,7 +1,7 @@
 -- What the first exchange of the kernel's entry leaves, in the row of a thread. Source: own.
 use Rattle.std.proofs.Common.{zero, suc, true, false, cond, arith, ap, sym, ◌∙◌, subst}
 use Rattle.std.proofs.lemmas.Bool.Decides.{nat_tests}
-use Rattle.std.specs.Prelude.{◌≡◌, ◌≢◌, ℕ, ◌+◌, ◌-◌, List, [], ◌∷◌, Bool, Option, Some, None, refl, ◌==◌}
+use Rattle.std.specs.Prelude.{◌≡◌, ℕ, ◌-◌, List, [], ◌∷◌, Bool, Option, Some, None, refl, ◌==◌}
 use Rattle.cet_words.specs.Change.{Change, Busied}
 use Rattle.cet_words.specs.Layout.{token, token_word, kernel_return}
 use Rattle.cet_words.specs.Job.{JobData}
@@ -12,19 +12,17 @@ use Rattle.cet_isa.specs.declared.threads.Arch.{Arch}
 use Rattle.cet_isa.specs.declared.threads.End.{End}
 use Rattle.cet_isa.specs.declared.threads.Fault.{Fault}
 use Rattle.cet_isa.specs.declared.threads.Record.{Record}
-use Rattle.cet_page.specs.Script.{done, ◌>>=◌, Played, Completed, Faulted, Wants, play, no_changes, held_after}
+use Rattle.cet_page.specs.Script.{done, ◌>>=◌, Played, Completed, Wants, play, no_changes, held_after}
 use Rattle.cet_page.specs.ValsData.{ValsData, vals_after}
 use Rattle.cet_page.specs.Parts.{load_as, read_entry, store_as, store, compare_exchange_as}
-use Rattle.cet_page.specs.Finish.{counted}
 use Rattle.cet_page.specs.Gate.{Work, stack_of, busied_if, gate_in, entered, inside, found_busy}
 use Rattle.cet_page.specs.Delivery.{fault_delivery, pending_delivery}
 use Rattle.cet_page.specs.Posting.{due_signal, pending_signal}
 use Rattle.cet_page.specs.Services.{service}
 use Rattle.cet_page.specs.Row.{row, row_from, between, after_signals, boundary}
-use Rattle.cet_page.specs.Core.{Core, unheld, row_played, wanted, access_of, next_access, kept_by, core_by, noted_by, answered, taken}
+use Rattle.cet_page.specs.Core.{Core, unheld, row_played, wanted, access_of, next_access, core_by, noted_by, answered, taken}
 use Rattle.cet_page.specs.Entering.{AtGate, at_syscall, at_signal, at_fault, Enters, gate_exchange}
 use Rattle.cet_page.specs.declared.finishes.Finish.{Finish}
-use Rattle.cet_page.specs.declared.finishes.Finish.TheVariants.{Noted}
 use Rattle.cet_page.proofs.RowLaws.{parts_of_row}
 
 -- ---- the kernel's entry, once the page was looked at

@@ -16,3 +16,4 @@ pub mod RestoreLaws
 pub mod ChildLaws
 pub mod EnterLaws
 pub mod StructureLaws
+pub mod NumberLaws

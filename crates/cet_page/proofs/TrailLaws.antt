@@ -3,10 +3,11 @@ use Rattle.std.proofs.Common.{zero, suc, true, false, arith, subst, ap, sym, ◌
 use Rattle.std.specs.Prelude.{◌≡◌, ℕ, ◌+◌, Bool, List, [], ◌∷◌, ◌++◌, length, refl}
 use Rattle.cet_words.specs.declared.accesses.Access.{Access}
 use Rattle.cet_words.specs.declared.accesses.Access.TheVariants as access
-use Rattle.cet_page.specs.Script.{Script, done, fault, ask, tell}
+use Rattle.cet_words.specs.Change.{Change}
+use Rattle.cet_page.specs.Script.{Script, done, fault, ask, tell, Wants, play}
 use Rattle.cet_page.specs.ValsData.{ValsData, keeps, kept_after}
 use Rattle.cet_page.specs.Trail.{Visit, visit, trail, vals_of}
-use Rattle.cet_page.proofs.Walk.{Walks, Spent, acted}
+use Rattle.cet_page.proofs.Walk.{Walks, Spent, acted, kept_cons}
 
 kept_one : (l : List ℕ) (a : Access) (v : ℕ) → keeps a ≡ true → kept_after l a v ≡ l ++ v ∷ []
 kept_one l a v e = rw e refl
@@ -63,3 +64,28 @@ shown P wrote (tell word value changes s) n k (suc i) vs past h c l =
 
 pub trail_spent : {A : Type 0} (P : A → Type 0) (s : Script A) (n k : ℕ) (seen : ValsData) → Walks n k false P s → vals_of (trail seen.accesses s seen.values []) ≡ seen → Spent s seen.accesses seen.values
 trail_spent P s n k seen h e = shown P false s n k seen.accesses seen.values [] h (ap (λ (x : ValsData). x.accesses) e ∙ omega arith) (ap (λ (x : ValsData). x.values) e)
+
+-- ---- one access more
+
+-- it stands first
+pub trail_more : {A : Type 0} (P : A → Type 0) (wrote : Bool) (s : Script A) (n k i : ℕ) (vs : List ℕ) (past : List Visit) (a : Access) (own : ℕ → List Change) (v : ℕ) → Walks n k wrote P s → Spent s i vs → play s i vs ≡ Wants a own → (w : ℕ) × (trail (suc i) s (kept_after vs a v) past ≡ visit a w (own v) ∷ trail i s vs past)
+trail_more P wrote (done x) n k i vs past a own v f h w = cc
+trail_more P wrote (fault e) n k i vs past a own v f h w = cc
+trail_more P wrote (ask b changes c) n k zero [] past a own v f h w =
+    let e : b ≡ a = cc in
+    let same : changes ≡ own = cc in
+    let kept : keeps a ≡ true = sym (ap keeps e) ∙ f.0 in
+    (v, rw kept (ap (λ (x : Access). visit x v (changes v) ∷ past) e ∙ ap (λ (l : ℕ → List Change). visit a v (l v) ∷ past) same))
+trail_more P wrote (ask b changes c) n k zero (x ∷ vs) past a own v f h w = absurd h
+trail_more P wrote (ask b changes c) n k (suc i) [] past a own v f h w = absurd h
+trail_more P wrote (ask b changes c) n k (suc i) (x ∷ vs) past a own v f h w =
+    let g = f.1 x in
+    let r = trail_more P (acted wrote b x (changes x)) (c x) (n + 1) (k + 1) i vs (visit b x (changes x) ∷ past) a own v g.1 h w in
+    (r.0, subst (λ l. trail (suc (suc i)) (ask b changes c) l past ≡ visit a r.0 (own v) ∷ trail (suc i) (ask b changes c) (x ∷ vs) past) (sym (kept_cons x vs a v)) r.1)
+trail_more P wrote (tell word value changes s) n k zero [] past a own v f h w =
+    let e : access.Store word value ≡ a = cc in
+    let same : (λ (u : ℕ). changes) ≡ own = cc in
+    (0, ap (λ (x : Access). visit x 0 changes ∷ past) e ∙ ap (λ (l : ℕ → List Change). visit a 0 (l v) ∷ past) same)
+trail_more P wrote (tell word value changes s) n k zero (x ∷ vs) past a own v f h w = absurd h
+trail_more P wrote (tell word value changes s) n k (suc i) vs past a own v f h w =
+    trail_more P true s (n + 1) k i vs (visit (access.Store word value) 0 changes ∷ past) a own v f.1 h w

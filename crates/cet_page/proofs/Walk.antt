@@ -18,7 +18,7 @@ use Rattle.cet_page.specs.Script.{Script, done, fault, ask, tell, ◌>>=◌, Pla
 use Rattle.cet_page.specs.ValsData.{keeps, kept_after}
 use Rattle.cet_page.specs.Page.{allows, page_fault}
 use Rattle.cet_page.specs.Parts.{check_address_as, look_in_as, look_as, probe_in, probe, read_entry, load_as, store_as, compare_exchange_as, swap, fetch_add_as, fetch_or, fetch_and, stores, store_each, loads, general_protection}
-use Rattle.cet_page.specs.Structures.{if_found, span, one_word, Given, given, given_at, given_span, given_word}
+use Rattle.cet_page.specs.Structures.{if_found, span}
 use Rattle.cet_page.specs.Values.{limit, width}
 use Rattle.cet_page.specs.Finish.{IsMade}
 use Rattle.cet_page.specs.Gate.{gate_in, gate_out, freed}
@@ -401,7 +401,7 @@ pub ruleset walk_rules = (walk_parts, walk_store_each, walk_stores_most, walk_lo
 
 -- ---- what it tells of a script that was played
 
-kept_cons : (x : ℕ) (vs : List ℕ) (a : Access) (v : ℕ) → kept_after (x ∷ vs) a v ≡ x ∷ kept_after vs a v
+pub kept_cons : (x : ℕ) (vs : List ℕ) (a : Access) (v : ℕ) → kept_after (x ∷ vs) a v ≡ x ∷ kept_after vs a v
 kept_cons x vs a v = elim (keeps a) as (λ b. cond b ((x ∷ vs) ++ v ∷ []) (x ∷ vs) ≡ x ∷ cond b (vs ++ v ∷ []) vs) [ true ↦ refl | false ↦ refl ]
 
 -- The accesses so far are the first ones of the script, and these are the answers kept of them.

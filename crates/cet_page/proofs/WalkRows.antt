@@ -3,7 +3,7 @@ use Rattle.cet_words.specs.declared.images.Signal.{Signal}
 use Rattle.std.proofs.lemmas.Option.{slice_get_within}
 use Rattle.std.specs.List.{filter}
 use Rattle.std.proofs.Common.{true, false, cond, refl}
-use Rattle.std.specs.Prelude.{◌≡◌, ℕ, ◌+◌, ◌<◌, ◌≤◌, Bool, List, [], ◌∷◌, length, nat_le, nat_lt, Option, Some, None, Result, Ok, Err, slice_get, ◌==◌}
+use Rattle.std.specs.Prelude.{◌≡◌, ℕ, ◌+◌, ◌<◌, ◌≤◌, Bool, List, [], ◌∷◌, length, nat_le, nat_lt, Option, Some, None, Ok, Err, slice_get, ◌==◌}
 use Rattle.std.proofs.Common.{arith}
 use Rattle.std.proofs.lemmas.Bool.Decides.{nat_tests}
 use Rattle.cet_words.specs.Job.{JobData}
@@ -36,7 +36,7 @@ use Rattle.cet_page.specs.Family.{family_of}
 use Rattle.cet_page.specs.Arithmetic.{operated, alu, test, imul, move, movzx, movsxd, cmov, xchg, lock_xadd, lock_cmpxchg, arithmetic}
 use Rattle.cet_page.specs.ShadowStacks.{shadow_stacks, rstorssp, save, saveprevssp, incsspq}
 use Rattle.cet_page.specs.Flow.{call, call_next, call_indirect, ret, push, pop, leave, jump_indirect, flow}
-use Rattle.cet_page.specs.Gate.{gate_in, entered, serve, is_masked, signal_of, kill}
+use Rattle.cet_page.specs.Gate.{gate_in, entered, is_masked, signal_of, kill}
 use Rattle.cet_page.specs.Gate.{leave as leave_kernel}
 use Rattle.cet_page.specs.MapShadowStack.{can_draw, drawn_start, fill_stack, draw_stack, map_by, map_shadow_stack, refused}
 use Rattle.cet_page.specs.Mmap.{draw_pages, map_pages, map_refused, mmap, mmap_by, munmap, munmap_by, unmap_pages, unmapped_page}
@@ -46,7 +46,7 @@ use Rattle.cet_page.specs.Finish.{r10, rdi, rdx, rsi}
 use Rattle.cet_page.specs.declared.checks.Kind.{Kind}
 use Rattle.cet_page.specs.declared.services.Errno.{Errno}
 use Rattle.cet_page.specs.Services.{syscall}
-use Rattle.cet_page.specs.Structures.{Given, given, given_at, given_span, given_word, one_word, if_found}
+use Rattle.cet_page.specs.Structures.{Given, given_span, given_word, one_word}
 use Rattle.cet_page.specs.Signals.{load_action, asked_action, copy_action, set_handler, set_action, change_action, new_action, old_action, rt_sigaction, asked_mask, copy_mask, change_mask, old_mask, rt_sigprocmask, post, tgkill}
 use Rattle.cet_page.specs.Delivery.{frame_span, frame_places, frame_words, push_frame, push_or_kill, ignore, enter_handler, handle, pending_delivery, fault_delivery}
 use Rattle.cet_page.specs.SigReturn.{returned_span, popped_frame, return_by, rt_sigreturn, signal_service}

@@ -2,7 +2,7 @@
 use Rattle.std.proofs.lemmas.Bool.Decides.{nat_tests}
 use Rattle.std.proofs.lemmas.Bool.{lt-ltb}
 use Rattle.std.proofs.Common.{add-one, true, false, arith, ◌∙◌, ap, sym, subst}
-use Rattle.std.specs.Prelude.{◌≡◌, ℕ, ◌+◌, ◌<◌, ◌≤◌, Bool, List, Option, Some, None, refl, ◌==◌, length, nat_lt, if◌then◌else◌}
+use Rattle.std.specs.Prelude.{◌≡◌, ℕ, ◌+◌, ◌<◌, ◌≤◌, Bool, List, [], ◌∷◌, Option, Some, None, refl, ◌==◌, length, nat_lt, if◌then◌else◌}
 use Rattle.cet_words.specs.Layout.{first_region_start}
 use Rattle.cet_words.specs.declared.accesses.Access.{Access}
 use Rattle.cet_words.specs.Job.{JobData, IsJob}
@@ -13,12 +13,12 @@ use Rattle.cet_isa.specs.declared.threads.End.TheVariants as ending
 use Rattle.cet_page.specs.Script.{Played, Completed, Faulted, Wants, birth}
 use Rattle.cet_page.specs.ValsData.{ValsData, no_vals, vals_after, most_values, most_accesses}
 use Rattle.cet_page.specs.Finish.{IsMade}
-use Rattle.cet_page.specs.Trail.{vals_of, row_trail}
+use Rattle.cet_page.specs.Trail.{visit, vals_of, row_trail, trail_of}
 use Rattle.cet_page.specs.Within.{IsState, Waits, CoreAt, IsCore}
 use Rattle.cet_page.specs.Row.{row}
 use Rattle.cet_page.specs.Core.{Core, first_core, unheld, row_played, wanted, access_of, next_access, kept_by, recorded, faulted, core_by, answered, taken, born, child_arch, child_core}
 use Rattle.cet_page.proofs.Walk.{Spent, OnOver, spent_more, spent_fits, over_play, births, BornFits, MayBear}
-use Rattle.cet_page.proofs.TrailLaws.{trail_shows, trail_spent}
+use Rattle.cet_page.proofs.TrailLaws.{trail_more, trail_shows, trail_spent}
 use Rattle.cet_page.proofs.WalkRows.{Ends, walk_row, row_begins}
 use Rattle.cet_page.specs.Plays.{Wanted, birth_by}
 use Rattle.cet_page.specs.declared.cursors.Mark.TheVariants as marks
@@ -62,6 +62,13 @@ core_kept job arch held seen l s c p (Completed Stopped left values) e k = recor
 -- the accesses so far are the first ones of the row
 pub spent : (job : JobData) (core : Core) → Waits job core → Spent (row job (unheld core.arch)) core.vals.accesses core.vals.values
 spent job core h = let arch = unheld core.arch in trail_spent (Ends job arch) (row job arch) 0 0 core.vals (walk_row job arch).walks h.vals
+
+-- one access more stands first in the trail of the row
+pub row_grown : (job : JobData) (core : Core) (a : Access) (own : ℕ → List Change) (v : ℕ) → Waits job core → row_played job core.arch core.vals ≡ Wants a own → (w : ℕ) × (row_trail job core.arch (vals_after core.vals a v) ≡ visit a w (own v) ∷ trail_of job core)
+row_grown job core a own v h w =
+    let arch = unheld core.arch in
+    let r = trail_more (Ends job arch) false (row job arch) 0 0 core.vals.accesses core.vals.values [] a own v (walk_row job arch).walks (spent job core h) w in
+    (r.0, rw add-one r.1)
 
 -- the same of one access more
 pub shows_next : (job : JobData) (core : Core) (a : Access) (own : ℕ → List Change) (answer : ℕ) → Waits job core → row_played job core.arch core.vals ≡ Wants a own → vals_of (row_trail job core.arch (vals_after core.vals a answer)) ≡ vals_after core.vals a answer

@@ -8,7 +8,6 @@ use Rattle.cet_words.specs.declared.accesses.Access.TheVariants as access
 use Rattle.cet_isa.specs.Address.{canonical}
 use Rattle.cet_isa.specs.Reading.{Read, decoded}
 use Rattle.cet_isa.specs.declared.instructions.Instr.TheVariants as instr
-use Rattle.cet_isa.specs.declared.threads.Arch.{Arch}
 use Rattle.cet_isa.specs.declared.threads.Fault.{Fault}
 use Rattle.cet_isa.specs.declared.threads.Record.{Record}
 use Rattle.cet_page.specs.Core.{Core, next_access, recorded}

@@ -1,9 +1,8 @@
 -- The gate into the kernel, what a call leaves, the delivery of a fault and the kill. Source: Intel SDM volume 1 (supervisor
 -- shadow-stack tokens, SETSSBSY and CLRSSBSY) for the token; Linux for the numbers of errors; the fixed order is own.
 use Rattle.std.specs.Prelude.{ℕ, ◌+◌, ◌-◌, ◌/◌, ◌%◌, ◌^◌, Bool, List, [], ◌∷◌, Option, Some, None, ◌==◌, if◌then◌else◌, slice_set}
-use Rattle.cet_words.specs.Layout.{exit_word, action_word, token, token_page, token_word, kernel_return}
+use Rattle.cet_words.specs.Layout.{exit_word, token, token_page, token_word, kernel_return}
 use Rattle.cet_words.specs.Job.{JobData}
-use Rattle.cet_isa.specs.declared.threads.Fault.{Fault}
 use Rattle.cet_isa.specs.declared.threads.FaultName.{FaultName}
 use Rattle.cet_isa.specs.declared.threads.FaultName.TheVariants.{Ud, Gp, Pf, Ac, Cp}
 use Rattle.cet_isa.specs.declared.threads.Record.{Record}

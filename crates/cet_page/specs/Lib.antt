@@ -35,3 +35,4 @@ pub mod Within
 pub mod Machine
 pub mod Left
 pub mod PartsOfRow
+pub mod Numbered

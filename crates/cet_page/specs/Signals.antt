@@ -1,6 +1,6 @@
 -- The services rt_sigaction (13), rt_sigprocmask (14) and tgkill (234). Source: Linux, sigaction(2), sigprocmask(2) and
 -- tgkill(2), for the calls and their errors. Own: the order of tests, looks and accesses, and which flags and restorers are taken.
-use Rattle.std.specs.Prelude.{ℕ, ◌+◌, ◌-◌, ◌==◌, ◌&&◌, ◌||◌, not, nat_le, nat_lt, min, Bool, true, false, is_some, if◌then◌else◌, slice_index, bit_and, bit_or, [], ◌∷◌, Option, Some, None, Ok, Err}
+use Rattle.std.specs.Prelude.{ℕ, ◌+◌, ◌-◌, ◌==◌, ◌&&◌, ◌||◌, not, nat_le, nat_lt, min, Bool, true, is_some, if◌then◌else◌, bit_and, bit_or, [], ◌∷◌, Option, Some, None, Ok, Err}
 use Rattle.cet_words.specs.Bytes.{code_byte}
 use Rattle.cet_words.specs.Job.{JobData}
 use Rattle.cet_words.specs.Layout.{action_word, next_thread_word, pend_word, thread_limit}

@@ -1,6 +1,6 @@
 -- Where a thread's structures lie that the kernel reads or writes: a look at the first word and one at the last. Source: own;
 -- the mask is that of Linux (sigprocmask: signals 9 and 19 can't be blocked).
-use Rattle.std.specs.Prelude.{ℕ, ◌+◌, ◌-◌, ◌%◌, ◌^◌, ◌==◌, Bool, if◌then◌else◌, bit_and, Option, Some, None, option_map, Result, Ok, Err}
+use Rattle.std.specs.Prelude.{ℕ, ◌-◌, ◌%◌, ◌^◌, ◌==◌, if◌then◌else◌, bit_and, Option, Some, None, option_map, Result, Ok, Err}
 use Rattle.cet_words.specs.Layout.{word_in}
 use Rattle.cet_page.specs.Script.{Script, done, ◌>>=◌}
 use Rattle.cet_page.specs.Parts.{probe}

@@ -31,7 +31,7 @@ pub use families::{Family, family_of};
 pub use fetches::{fetch, missing, next_address};
 pub use finishes::{Finish, Leaving, counted};
 pub use flags::{Computed, StatusFlags};
-pub use laws::parts_are_in_their_rows;
+pub use laws::{accesses_run_out, numbers_stay, parts_are_in_their_rows};
 pub use nexts::Next;
 pub use operands::{
     assigned, compared, effective, register, register_of, settled, stepped, truncated,
