@@ -45,7 +45,7 @@ pub fn outcome_of<P: Perform>(
 }
 
 /// The start of a job: the start words, and thread 0.
-fn start(alloc: Global, job: &Job) -> Result<(Plain, Guests), NoMemory>
+pub(crate) fn start(alloc: Global, job: &Job) -> Result<(Plain, Guests), NoMemory>
     ensures is_job { IsJob job.now }
     ensures starts { IfOk result (λ at. Starts job.now (machine at.0 (threads_of at.1.all.items))) }
     ensures guests { IfOk result (λ at. AreGuests job.now at.1.all.items at.1.live.items) }

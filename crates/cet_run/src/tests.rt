@@ -3,7 +3,10 @@
 ghost use Rattle.std.specs.Prelude.{◌≡◌, ◌≤◌, length};
 
 use super::*;
-use crate::told_stacks::{FIRST_STACK, push_all_told, put_in_order};
+use crate::ends::thread_outs;
+use crate::runs::start;
+use crate::told_stacks::{FIRST_STACK, kept_pointers, push_all_told, put_in_order};
+use crate::turns::give_robin;
 use cet_book::{Region, Shown};
 use cet_isa::{End, Record, What};
 use cet_words::{Bytes, Image, Job, NoMemory, Segment, Segments};
@@ -156,6 +159,29 @@ fn each_schedule_runs_one_thread_to_its_exit(rt: HostRuntime) -> Result<(), Fail
     expect_exit_seven(&rt, &robin(alloc, &job)?);
     expect_exit_seven(&rt, &replay(alloc, &job, &[])?);
     expect_exit_seven(&rt, &mix(alloc, &job, 1)?);
+    Ok(())
+}
+
+/// What a run by Robin has left, read off its words and threads.
+fn read_off(alloc: Global, job: &Job) -> Result<Outcome, NoMemory> {
+    let (mut words, mut guests) = start(alloc, job)?;
+    give_robin(alloc, job, &mut words, &mut guests)?;
+    let ssps = kept_pointers(alloc, &guests.all)?;
+    let outs = thread_outs(alloc, guests.all)?;
+    outcome_of(alloc, job, &mut words, outs, &ssps)
+}
+
+#[test]
+fn an_outcome_is_read_off_what_a_run_has_left(rt: HostRuntime) -> Result<(), Fail> {
+    let alloc = rt.alloc();
+    let image = image_of(alloc, &EXIT_SEVEN)?;
+    let job = Job {
+        image: &image,
+        procs: 1,
+        limit: 100,
+        signals: &[],
+    };
+    expect_exit_seven(&rt, &read_off(alloc, &job)?);
     Ok(())
 }
 
