@@ -1,6 +1,6 @@
 -- The numbers of the live threads, thread by thread.
 use Rattle.std.proofs.Common.{◌≡◌, ℕ, zero, suc, ◌+◌, ◌/◌, ◌%◌, ◌^◌, ◌<◌, ◌≤◌, Bool, true, false, List, [], ◌∷◌, ◌++◌, length, take, drop, Option, Some, None, refl, ap, sym, ◌∙◌, subst, arith, get_or}
-use Rattle.std.specs.Prelude.{IsSome, cond, is_some, not, map, option_map, slice_get, slice_set}
+use Rattle.std.specs.Prelude.{IsSome, cond, is_some, not, option_map, slice_get, slice_set}
 use Rattle.std.specs.Option.{option_or}
 use Rattle.std.proofs.lemmas.List.{append_assoc, get_or-set_same, length-map, map-append, map-set, set_split, take_more}
 use Rattle.std.proofs.lemmas.Option.{slice_get-map, slice_get_past, slice_get_read, slice_get_within}

@@ -1,12 +1,11 @@
 -- One turn, and runs of turns.
-use Rattle.std.proofs.Common.{◌≡◌, ℕ, ◌+◌, ◌*◌, ◌-◌, ◌<◌, ◌≤◌, List, [], ◌∷◌, ◌++◌, length, take, Option, Some, None, arith, refl, ap, sym, ◌∙◌, subst, get_or, append_assoc}
-use Rattle.std.specs.Prelude.{IsSome, IfSome, cond, map, min, option_map, slice_get, slice_set, sum_by}
+use Rattle.std.proofs.Common.{◌≡◌, ℕ, ◌+◌, ◌*◌, ◌-◌, ◌<◌, ◌≤◌, List, [], ◌∷◌, ◌++◌, length, take, Option, Some, None, arith, refl, ap, sym, ◌∙◌, subst, get_or}
+use Rattle.std.specs.Prelude.{IsSome, IfSome, option_map, slice_get, slice_set, sum_by}
 use Rattle.std.proofs.lemmas.List.Sums.{sum_by-append, sum_by-set}
 use Rattle.std.proofs.lemmas.List.{append-nil, take_more, map-append, map-set, length-append, length-map, length-set}
 use Rattle.std.proofs.lemmas.List.Elements.{All-append, All-cons, All-nil}
-use Rattle.std.proofs.lemmas.Option.{get_or_from_slice_get, slice_get-map, slice_get_within}
+use Rattle.std.proofs.lemmas.Option.{get_or_from_slice_get, slice_get-map}
 use Rattle.cet_words.specs.Access.{answer, after}
-use Rattle.cet_words.specs.Change.{Change}
 use Rattle.cet_words.specs.declared.accesses.Access.{Access}
 use Rattle.cet_words.specs.Job.{JobData}
 use Rattle.cet_isa.specs.declared.threads.Arch.{Arch}
@@ -26,7 +25,7 @@ use Rattle.cet_own.specs.Gates.{TurnTells}
 use Rattle.cet_own.specs.Stands.{Stands}
 use Rattle.cet_own.proofs.Run.{stands_run}
 use Rattle.cet_run.specs.TracedThreads.{AllTraced, IsSetAt, Stepped, TracedThreadData, core_of, left_among, left_to, thread_of, threads_of, with_traced}
-use Rattle.cet_run.specs.Turns.{IsGoing, IsStill, IsTurned, NotGoing, Reached, thread_left, total_left, whole_thread}
+use Rattle.cet_run.specs.Turns.{IsGoing, IsStill, IsTurned, NotGoing, Reached, thread_left, whole_thread}
 
 -- ---- one access
 

@@ -1,5 +1,5 @@
 -- The shadow stacks that a report shows, by the last book of the run. Source: own.
-use Rattle.std.specs.Prelude.{ℕ, List, ◌∷◌, map}
+use Rattle.std.specs.Prelude.{List, ◌∷◌, map}
 use Rattle.std.specs.List.{flat_map}
 use Rattle.cet_book.specs.Book.{Book, region, starting_at}
 use Rattle.cet_book.specs.View.{Span, shown_region}

@@ -1,4 +1,4 @@
-use Rattle.std.proofs.Common.{◌≡◌, ◌∙◌, ap}
+use Rattle.std.proofs.Common.{◌∙◌, ap}
 use Rattle.cet_own.specs.Told.{kept_pointers}
 use Rattle.cet_run.specs.TracedThreads.{threads_of}
 use Rattle.cet_run.proofs.Finished.{finished_left, robined_finishes}

@@ -1,9 +1,9 @@
 use Rattle.std.proofs.Common.{◌≡◌, refl, sym, ap, subst, ◌∙◌}
 use Rattle.std.proofs.lemmas.Result.{on_ok_weaker}
 use Rattle.cet_page.specs.Machine.{machine, step}
-use Rattle.cet_run.specs.TracedThreads.{AllTraced, TracedThreadData, left_to, threads_of, with_traced}
+use Rattle.cet_run.specs.TracedThreads.{TracedThreadData, left_to, threads_of, with_traced}
 use Rattle.cet_run.specs.Turns.{IsTurned}
-use Rattle.cet_run.proofs.Steps.{all_with, child_last, turned_is, whole_falls}
+use Rattle.cet_run.proofs.Steps.{child_last, turned_is, whole_falls}
 use Rattle.cet_run.proofs.guests.Guests.turn.Goals as goal
 use Rattle.std.proofs.Common.{List, ◌<◌}
 
