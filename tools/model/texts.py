@@ -1,4 +1,5 @@
 """The examples and the cases that are runs: their sources, words, and what is stated of them."""
+import subprocess
 from collections import namedtuple
 from pathlib import Path
 
@@ -8,11 +9,20 @@ EXAMPLES = Path(__file__).resolve().parents[2] / "examples"
 Text = namedtuple("Text", "name source words report status")
 
 
+RUNTIME = EXAMPLES.parent / "tools" / "texts.py"
+
+
+def runtime():
+    """The text that `asm --runtime` appends."""
+    return subprocess.run([RUNTIME, "runtime"], capture_output=True, check=True, text=True).stdout
+
+
 def example(path):
     words, report = path.with_suffix(".words"), path.with_suffix(".report")
+    made, run = words.read_text().splitlines() if words.exists() else ("asm", "run")
+    source = path.read_text() + ("\n" + runtime() if made == "asm --runtime" else "")
     status = path.with_suffix(".status").read_text().rstrip("\n").replace("\n", " ")
-    return Text(path.stem, path.read_text(), words.read_text().split() if words.exists() else ["run"],
-                report.read_text() if report.exists() else None, status)
+    return Text(path.stem, source, run.split(), report.read_text() if report.exists() else None, status)
 
 
 def case(path):
