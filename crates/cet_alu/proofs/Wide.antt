@@ -8,10 +8,12 @@ pub from_bool_is_bit : (b : Bool) → from_bool b ≡ bit b
 from_bool_is_bit true = refl
 from_bool_is_bit false = refl
 
-pub wide_sum : (a b : ℤ) (c : ℕ) → FitsSigned w64 a → FitsSigned w64 b → c < 256 → to_z w128 (of_z w128 (to_z w128 (of_z w128 (to_z w128 (of_z w128 a) +ℤ to_z w128 (of_z w128 b))) +ℤ to_z w128 (of_z w128 (pos c)))) ≡ a +ℤ b +ℤ pos c
+pub wide_sum : (a b : ℤ) (c : ℕ) → FitsSigned w64 a → FitsSigned w64 b → c < 256 → to_z w128
+    (of_z w128 (to_z w128 (of_z w128 (to_z w128 (of_z w128 a) +ℤ to_z w128 (of_z w128 b))) +ℤ to_z w128 (of_z w128 (pos c)))) ≡ a +ℤ b +ℤ pos c
 wide_sum a b c f g h = omega (arith, ints)
 
-pub wide_difference : (a b : ℤ) (c : ℕ) → FitsSigned w64 a → FitsSigned w64 b → c < 256 → to_z w128 (of_z w128 (to_z w128 (of_z w128 (to_z w128 (of_z w128 a) -ℤ to_z w128 (of_z w128 b))) -ℤ to_z w128 (of_z w128 (pos c)))) ≡ a -ℤ b -ℤ pos c
+pub wide_difference : (a b : ℤ) (c : ℕ) → FitsSigned w64 a → FitsSigned w64 b → c < 256 → to_z w128
+    (of_z w128 (to_z w128 (of_z w128 (to_z w128 (of_z w128 a) -ℤ to_z w128 (of_z w128 b))) -ℤ to_z w128 (of_z w128 (pos c)))) ≡ a -ℤ b -ℤ pos c
 wide_difference a b c f g h = omega (arith, ints)
 
 pub wide_product : (a b : ℤ) → FitsSigned w64 a → FitsSigned w64 b → to_z w128 (of_z w128 (to_z w128 (of_z w128 a) *ℤ to_z w128 (of_z w128 b))) ≡ a *ℤ b

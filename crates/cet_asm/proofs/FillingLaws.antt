@@ -139,7 +139,8 @@ pub filled_resolved : (env : List ℕ → ℕ) (next : ℕ) (u : Fixups) (i : In
 unfolding filled
 filled_resolved env next u i = go u.displacement u.immediate u.target
   where
-    go : (d m t : Option (List ℕ)) → filled env next (record { displacement = d; immediate = m; target = t; short = u.short }) i ≡ filled_at next (record { displacement = address_for env d; immediate = address_for env m; target = address_for env t }) i
+    go : (d m t : Option (List ℕ)) → filled env next (record { displacement = d; immediate = m; target = t; short = u.short }) i ≡ filled_at next
+        (record { displacement = address_for env d; immediate = address_for env m; target = address_for env t }) i
     go None None None = refl
     go None None (Some t) = refl
     go None (Some m) None = refl

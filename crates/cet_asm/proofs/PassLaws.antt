@@ -116,8 +116,12 @@ unfolding broken_at
 twice_faulty w h s number x y = go (own_fault s) (knows_all w s)
   where
     go : (o : Option Rule) (t : Bool) →
-        option_or (fault_at number (option_or o (option_or (rule_unless t rules.UnknownLabel) (option_or (rule_unless (not true) rules.DefinedBefore) (option_or (rule_unless (is_in_reach w h s) rules.OutOfReach) (option_or (directive_fault s) (rule_unless (not (is_too_long h s)) rules.TooLong))))))) x
-        ≡ option_or (fault_at number (option_or o (option_or (rule_unless t rules.UnknownLabel) (option_or (rule_unless (not true) rules.DefinedBefore) (option_or (rule_unless (is_in_reach w h s) rules.OutOfReach) (option_or (directive_fault s) (rule_unless (not (is_too_long h s)) rules.TooLong))))))) y
+        option_or (fault_at number (option_or o (option_or (rule_unless t rules.UnknownLabel)
+        (option_or (rule_unless (not true) rules.DefinedBefore) (option_or (rule_unless (is_in_reach w h s) rules.OutOfReach)
+        (option_or (directive_fault s) (rule_unless (not (is_too_long h s)) rules.TooLong))))))) x
+        ≡ option_or (fault_at number (option_or o (option_or (rule_unless t rules.UnknownLabel)
+        (option_or (rule_unless (not true) rules.DefinedBefore) (option_or (rule_unless (is_in_reach w h s) rules.OutOfReach)
+        (option_or (directive_fault s) (rule_unless (not (is_too_long h s)) rules.TooLong))))))) y
     go (Some r) t = refl
     go None true = refl
     go None false = refl

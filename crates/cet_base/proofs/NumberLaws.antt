@@ -1,5 +1,6 @@
 -- What is written as a number reads as that number. Source: own.
-use Rattle.std.proofs.Common.{◌≡◌, ℕ, zero, suc, ◌+◌, ◌*◌, ◌/◌, ◌%◌, ◌^◌, ◌<◌, ◌≤◌, Bool, true, false, ◌&&◌, cond, eqb, ltb, leb, nat_eq, List, [], ◌∷◌, length, Some, None, codes, refl, subst, ap, sym, ◌∙◌, arith, lt-ltb, le-leb}
+use Rattle.std.proofs.Common.{◌≡◌, ℕ, zero, suc, ◌+◌, ◌*◌, ◌/◌, ◌%◌, ◌^◌, ◌<◌, ◌≤◌, Bool, true, false, ◌&&◌, cond, eqb, ltb, leb, nat_eq}
+use Rattle.std.proofs.Common.{List, [], ◌∷◌, length, Some, None, codes, refl, subst, ap, sym, ◌∙◌, arith, lt-ltb, le-leb}
 use Rattle.std.specs.Char.{digit_value, is_digit}
 use Rattle.std.specs.Fmt.{decimal, digit_glyph, digits, digits_onto}
 use Rattle.std.specs.List.{list_all, starts_with}

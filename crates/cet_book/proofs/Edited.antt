@@ -9,7 +9,8 @@ use Rattle.cet_book.specs.declared.entries.Entry.{Entry}
 use Rattle.cet_book.specs.declared.entries.Entry.TheVariants.{Call, Restorer, Frame, Previous, Blank}
 use Rattle.cet_book.specs.declared.entries.Holder.{Holder}
 use Rattle.cet_book.specs.declared.entries.Holder.TheVariants.{Current, Parked, Lost}
-use Rattle.cet_book.specs.Book.{Region, Book, nowhere, region, capacity, is_maker, current_of, parked_at, starting_at, held_by, stack_of, put_stack, holds_stack, is_free, with_current, relist, unlink, acquire, called, returned, raised, acquired, released, claim, can_claim, pushed, popped, ended, book_after}
+use Rattle.cet_book.specs.Book.{Region, Book, nowhere, region, capacity, is_maker, current_of, parked_at, starting_at, held_by, stack_of, put_stack, holds_stack, is_free}
+use Rattle.cet_book.specs.Book.{with_current, relist, unlink, acquire, called, returned, raised, acquired, released, claim, can_claim, pushed, popped, ended, book_after}
 use Rattle.cet_book.specs.Shape.{Shape, IsBook}
 use Rattle.cet_book.proofs.Edits.{Owned, owned}
 use Rattle.cet_book.proofs.Unlink.{Gone, lost, parked, Linked}
@@ -79,7 +80,8 @@ made_by t s b next test o h e =
 
 module _ (t : ℕ) (b next : Book) (h : IsBook b) where
   -- the region that is current on thread t, and what is done with it
-  with_own : {c : Change} (f : ℕ → Region → Option Book) → with_current t b f ≡ Some next → ((o : Owned t (current_of t b) b) → f (current_of t b) (region b (current_of t b)) ≡ Some next → Edited t c b next) → Edited t c b next
+  with_own : {c : Change} (f : ℕ → Region → Option Book) → with_current t b f ≡ Some next →
+      ((o : Owned t (current_of t b) b) → f (current_of t b) (region b (current_of t b)) ≡ Some next → Edited t c b next) → Edited t c b next
   with_own f e k = let w = with_current_some t b next f e in k (owned t b h.shape w.0) w.1
 
   called_edited : (back : ℕ) → book_after t b (Called back) ≡ Some next → Edited t (Called back) b next

@@ -31,7 +31,8 @@ put_all b k r inside P here others i = subst (P i) (sym (region-put b k i r insi
   | inr e ↦ rw e.0 (others i e.1)
 ])
 
-pub put2_all : (b : Book) (m k : ℕ) (rm rk : Region) → m < length b.regions → k < length b.regions → (P : ℕ → Region → Type 0) → P k rk → P m rm → ((i : ℕ) → i ≢ k → i ≢ m → P i (region b i)) → (i : ℕ) → P i (region (put (put b m rm) k rk) i)
+pub put2_all : (b : Book) (m k : ℕ) (rm rk : Region) → m < length b.regions → k < length b.regions → (P : ℕ → Region → Type 0) → P k rk → P m rm → ((i : ℕ) → i ≢ k → i ≢ m → P i (region b i)) →
+    (i : ℕ) → P i (region (put (put b m rm) k rk) i)
 put2_all b m k rm rk in_m in_k P at_k at_m others i =
     let inside : k < length (put b m rm).regions = omega (arith, length-set b.regions m rm) in
     subst (P i) (sym (region-put (put b m rm) k i rk inside)) (elim (eqb_tells i k) [
@@ -52,7 +53,8 @@ same-put b k r inside s e = record {
   end = put_all b k r inside (λ i q. q.end ≡ (region b i).end) e (λ i n. refl);
 }
 
-pub same-put2 : (b : Book) (m k : ℕ) (rm rk : Region) → m < length b.regions → k < length b.regions → rm.start ≡ (region b m).start → rm.end ≡ (region b m).end → rk.start ≡ (region b k).start → rk.end ≡ (region b k).end → SameBounds b (put (put b m rm) k rk)
+pub same-put2 : (b : Book) (m k : ℕ) (rm rk : Region) → m < length b.regions → k < length b.regions → rm.start ≡ (region b m).start → rm.end ≡ (region b m).end → rk.start ≡ (region b k).start →
+    rk.end ≡ (region b k).end → SameBounds b (put (put b m rm) k rk)
 same-put2 b m k rm rk in_m in_k sm em sk ek = record {
   len = length-set (set b.regions m rm) k rk ∙ length-set b.regions m rm;
   start = put2_all b m k rm rk in_m in_k (λ i q. q.start ≡ (region b i).start) sk sm (λ i n n'. refl);

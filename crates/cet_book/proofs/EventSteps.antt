@@ -1,5 +1,6 @@
 -- The book's step, event by event, over the tests and the changes that the code makes. Source: own.
-use Rattle.std.proofs.Common.{◌≡◌, ◌≢◌, ◌^◌, inl, inr, ℕ, zero, suc, ◌+◌, ◌-◌, ◌<◌, ◌≤◌, Bool, true, false, List, [], ◌∷◌, length, get_or, set, Option, Some, None, Result, Ok, Err, refl, sym, ◌∙◌, ap, subst, cond, arith, drop, take, ◌++◌, append-nil, length-set, get_or-set_same, get_or-set_other, drop_of_length-le}
+use Rattle.std.proofs.Common.{◌≡◌, ◌≢◌, ◌^◌, inl, inr, ℕ, zero, suc, ◌+◌, ◌-◌, ◌<◌, ◌≤◌, Bool, true, false, List, [], ◌∷◌, length, get_or, set, Option, Some, None, Result, Ok, Err}
+use Rattle.std.proofs.Common.{refl, sym, ◌∙◌, ap, subst, cond, arith, drop, take, ◌++◌, append-nil, length-set, get_or-set_same, get_or-set_other, drop_of_length-le}
 use Rattle.std.specs.Prelude.{nat_lt, nat_le, ◌==◌, slice_get, option_and_then}
 use Rattle.std.proofs.Math.Seq.{take-length}
 use Rattle.std.specs.List.{position_or_len}
@@ -9,7 +10,8 @@ use Rattle.std.proofs.lemmas.Bool.Decides.{nat_tests}
 use Rattle.cet_book.specs.declared.entries.Entry.{Entry}
 use Rattle.cet_book.specs.declared.entries.Entry.TheVariants.{Call, Restorer, Frame, Previous, Blank}
 use Rattle.cet_book.specs.declared.entries.Holder.{Holder}
-use Rattle.cet_book.specs.Book.{book_step, Region, Book, nowhere, capacity, is_current, current_of, with_current, with_entry, called, returned, popped, raised, pushed, released, is_maker, born, can_claim, claim, claimed, acquired, acquire, parked_at, has_token, top, holds_stack, held_by, is_free, busied, remove_entry, unlink}
+use Rattle.cet_book.specs.Book.{book_step, Region, Book, nowhere, capacity, is_current, current_of, with_current, with_entry, called, returned, popped, raised, pushed, released, is_maker}
+use Rattle.cet_book.specs.Book.{born, can_claim, claim, claimed, acquired, acquire, parked_at, has_token, top, holds_stack, held_by, is_free, busied, remove_entry, unlink}
 use Rattle.cet_book.specs.declared.entries.Holder.TheVariants.{Parked, Current, Lost}
 use Rattle.cet_book.proofs.Edits.{current_holds}
 use Rattle.cet_book.proofs.Acquire.{parked_at_holds}
@@ -30,7 +32,8 @@ pub with_none : (t at : ℕ) (R : List Region) (g : List (Option ℕ)) (f : ℕ 
 unfolding current_of
 with_none t at R g f e l = let n : nat_lt at (length R) ≡ false = grind (arith, nat_tests) in rw (← e, n) refl
 
-pub with_some : (t at : ℕ) (R : List Region) (g : List (Option ℕ)) (f : ℕ → Region → Option Book) → at ≡ position_or_len (λ r. is_current t r.holder) R → at < length R → with_current t (book_of R g) f ≡ f at (get_or R at nowhere)
+pub with_some : (t at : ℕ) (R : List Region) (g : List (Option ℕ)) (f : ℕ → Region → Option Book) → at ≡ position_or_len (λ r. is_current t r.holder) R → at < length R →
+    with_current t (book_of R g) f ≡ f at (get_or R at nowhere)
 unfolding current_of
 with_some t at R g f e l = let n : nat_lt at (length R) ≡ true = grind (arith, nat_tests) in rw (← e, n) refl
 
@@ -49,7 +52,8 @@ removed_at R m h l e = ap (λ (x : List Entry). handed (slice_get x 0) h (set R 
 not_self : (m s : ℕ) (es : List Entry) → links m (Previous s ∷ es) ≡ 0 → s ≢ m
 not_self m s es n u = let t : (s == m) ≡ true = grind (arith, nat_tests) in let o : one (s == m) ≡ 1 = ap one t in absurd (omega arith)
 
-unlinked : (m s : ℕ) (R : List Region) (g : List (Option ℕ)) (es : List Entry) (h : Holder) → (get_or R m nowhere).entries ≡ Previous s ∷ es → links m (Previous s ∷ es) ≡ 0 → Some (unlink m s es h (book_of R g)) ≡ Some (book_of (removed m h R) g)
+unlinked : (m s : ℕ) (R : List Region) (g : List (Option ℕ)) (es : List Entry) (h : Holder) → (get_or R m nowhere).entries ≡ Previous s ∷ es → links m (Previous s ∷ es) ≡ 0 →
+    Some (unlink m s es h (book_of R g)) ≡ Some (book_of (removed m h R) g)
 unlinked m s R g es h e n =
     let mid : List Region = set R m (record (get_or R m nowhere) { entries = es }) in
     let other = get_or-set_other R m s (record (get_or R m nowhere) { entries = es }) nowhere (not_self m s es n) in
@@ -57,12 +61,15 @@ unlinked m s R g es h e n =
 
 -- ---- events whose test has an answer
 
-pub called_step : (t back at : ℕ) (R : List Region) (g : List (Option ℕ)) (c : Bool) → at ≡ position_or_len (λ r. is_current t r.holder) R → at < length R → nat_le (length (get_or R at nowhere).entries + 1) (capacity (get_or R at nowhere)) ≡ c → with_current t (book_of R g) (λ m r. called back m r (book_of R g)) ≡ cond c (Some (book_of (set R at (with_entry (Call back) (get_or R at nowhere))) g)) None
+pub called_step : (t back at : ℕ) (R : List Region) (g : List (Option ℕ)) (c : Bool) → at ≡ position_or_len (λ r. is_current t r.holder) R → at < length R →
+    nat_le (length (get_or R at nowhere).entries + 1) (capacity (get_or R at nowhere)) ≡ c →
+    with_current t (book_of R g) (λ m r. called back m r (book_of R g)) ≡ cond c (Some (book_of (set R at (with_entry (Call back) (get_or R at nowhere))) g)) None
 called_step t back at R g c e l p =
     with_some t at R g (λ m r. called back m r (book_of R g)) e l ∙
     rw (lt_le (length (get_or R at nowhere).entries) (capacity (get_or R at nowhere)), p) refl
 
-pub popped_step : (m : ℕ) (R : List Region) (g : List (Option ℕ)) (l : List Entry) (c : Bool) → (get_or R m nowhere).entries ≡ l → is_frame (slice_get l 0) ≡ c → popped m l (book_of R g) ≡ cond c (Some (book_of (removed m Lost R) g)) None
+pub popped_step : (m : ℕ) (R : List Region) (g : List (Option ℕ)) (l : List Entry) (c : Bool) → (get_or R m nowhere).entries ≡ l → is_frame (slice_get l 0) ≡ c →
+    popped m l (book_of R g) ≡ cond c (Some (book_of (removed m Lost R) g)) None
 popped_step m R g [] c e f = ap (λ d. cond d (Some (book_of (removed m Lost R) g)) None) f
 popped_step m R g (Call x ∷ es) c e f = ap (λ d. cond d (Some (book_of (removed m Lost R) g)) None) f
 popped_step m R g (Restorer x ∷ es) c e f = ap (λ d. cond d (Some (book_of (removed m Lost R) g)) None) f
@@ -70,7 +77,8 @@ popped_step m R g (Frame ∷ es) c e f = ap (λ x. Some (book_of x g)) (sym (rem
 popped_step m R g (Previous s ∷ es) c e f = ap (λ d. cond d (Some (book_of (removed m Lost R) g)) None) f
 popped_step m R g (Blank ∷ es) c e f = ap (λ d. cond d (Some (book_of (removed m Lost R) g)) None) f
 
-pub returned_step : (m : ℕ) (R : List Region) (g : List (Option ℕ)) (l : List Entry) (c : Bool) → (get_or R m nowhere).entries ≡ l → links m l ≡ 0 → can_return (slice_get l 0) ≡ c → returned m l (book_of R g) ≡ cond c (Some (book_of (removed m Lost R) g)) None
+pub returned_step : (m : ℕ) (R : List Region) (g : List (Option ℕ)) (l : List Entry) (c : Bool) → (get_or R m nowhere).entries ≡ l → links m l ≡ 0 → can_return (slice_get l 0) ≡ c →
+    returned m l (book_of R g) ≡ cond c (Some (book_of (removed m Lost R) g)) None
 returned_step m R g [] c e n f = ap (λ d. cond d (Some (book_of (removed m Lost R) g)) None) f
 returned_step m R g (Call x ∷ es) c e n f = ap (λ x. Some (book_of x g)) (sym (removed_at R m Lost (Call x ∷ es) e)) ∙ ap (λ d. cond d (Some (book_of (removed m Lost R) g)) None) f
 returned_step m R g (Restorer x ∷ es) c e n f = ap (λ x. Some (book_of x g)) (sym (removed_at R m Lost (Restorer x ∷ es) e)) ∙ ap (λ d. cond d (Some (book_of (removed m Lost R) g)) None) f
@@ -78,7 +86,9 @@ returned_step m R g (Frame ∷ es) c e n f = ap (λ d. cond d (Some (book_of (re
 returned_step m R g (Previous s ∷ es) c e n f = unlinked m s R g es Lost e n ∙ ap (λ d. cond d (Some (book_of (removed m Lost R) g)) None) f
 returned_step m R g (Blank ∷ es) c e n f = ap (λ x. Some (book_of x g)) (sym (removed_at R m Lost (Blank ∷ es) e)) ∙ ap (λ d. cond d (Some (book_of (removed m Lost R) g)) None) f
 
-pub pushed_step : (t x at : ℕ) (R : List Region) (g : List (Option ℕ)) (c : Bool) → at ≡ position_or_len (λ r. is_current t r.holder) R → at < length R → nat_le (length (get_or R at nowhere).entries + 2) (capacity (get_or R at nowhere)) ≡ c → with_current t (book_of R g) (λ m r. pushed x m r (book_of R g)) ≡ cond c (Some (book_of (set R at (with_entry (Restorer x) (with_entry Frame (get_or R at nowhere)))) g)) None
+pub pushed_step : (t x at : ℕ) (R : List Region) (g : List (Option ℕ)) (c : Bool) → at ≡ position_or_len (λ r. is_current t r.holder) R → at < length R →
+    nat_le (length (get_or R at nowhere).entries + 2) (capacity (get_or R at nowhere)) ≡ c →
+    with_current t (book_of R g) (λ m r. pushed x m r (book_of R g)) ≡ cond c (Some (book_of (set R at (with_entry (Restorer x) (with_entry Frame (get_or R at nowhere)))) g)) None
 pushed_step t x at R g c e l p = with_some t at R g (λ m r. pushed x m r (book_of R g)) e l ∙ rw p refl
 
 -- nothing was left for the stack, so nothing is parked
@@ -90,7 +100,9 @@ released_none m none R g (Frame ∷ es) n k = refl
 released_none m none R g (Blank ∷ es) n k = refl
 released_none m none R g (Previous s ∷ es) n k = let e = get_or_past R s nowhere k in rw e refl
 
-pub released_step : (m none : ℕ) (R : List Region) (g : List (Option ℕ)) (l : List Entry) (c : Bool) → length R ≤ none → leads_to (slice_get l 0) none < length R → (get_or R m nowhere).entries ≡ l → links m l ≡ 0 → nat_le (length (get_or R (leads_to (slice_get l 0) none) nowhere).entries + 1) (capacity (get_or R (leads_to (slice_get l 0) none) nowhere)) ≡ c → released m l (book_of R g) ≡ cond c (Some (book_of (removed m Parked R) g)) None
+pub released_step : (m none : ℕ) (R : List Region) (g : List (Option ℕ)) (l : List Entry) (c : Bool) → length R ≤ none → leads_to (slice_get l 0) none < length R → (get_or R m nowhere).entries ≡ l →
+    links m l ≡ 0 → nat_le (length (get_or R (leads_to (slice_get l 0) none) nowhere).entries + 1) (capacity (get_or R (leads_to (slice_get l 0) none) nowhere)) ≡ c →
+    released m l (book_of R g) ≡ cond c (Some (book_of (removed m Parked R) g)) None
 released_step m none R g [] c n k e z f = absurd (omega arith)
 released_step m none R g (Call x ∷ es) c n k e z f = absurd (omega arith)
 released_step m none R g (Restorer x ∷ es) c n k e z f = absurd (omega arith)
@@ -100,29 +112,34 @@ released_step m none R g (Previous s ∷ es) c n k e z f =
     ap (λ d. cond d (Some (unlink m s es Parked (book_of R g))) None) (lt_le (length (get_or R s nowhere).entries) (capacity (get_or R s nowhere)) ∙ f) ∙
     ap (λ o. cond c o None) (unlinked m s R g es Parked e z)
 
-pub born_step : (t child s at : ℕ) (R : List Region) (g : List (Option ℕ)) (c : Bool) → is_maker t (get_or R s nowhere).holder ≡ true → at ≡ position_or_len (λ r. is_current child r.holder) R → nat_le (length R) at ≡ c → born t child s (book_of R g) ≡ cond c (Some (book_of (set R s (record (get_or R s nowhere) { holder = Current child })) g)) None
+pub born_step : (t child s at : ℕ) (R : List Region) (g : List (Option ℕ)) (c : Bool) → is_maker t (get_or R s nowhere).holder ≡ true → at ≡ position_or_len (λ r. is_current child r.holder) R →
+    nat_le (length R) at ≡ c → born t child s (book_of R g) ≡ cond c (Some (book_of (set R s (record (get_or R s nowhere) { holder = Current child })) g)) None
 unfolding current_of
 born_step t child s at R g c m e l = rw (m, ← e, l) refl
 
 pub born_none : (t child s : ℕ) (R : List Region) (g : List (Option ℕ)) → is_maker t (get_or R s nowhere).holder ≡ false → born t child s (book_of R g) ≡ None
 born_none t child s R g m = rw m refl
 
-pub busied_step : (t k at : ℕ) (R : List Region) (g : List (Option ℕ)) (c : Bool) → k < 8 → is_free (get_or g k None) ≡ true → at ≡ position_or_len (holds_stack t) g → nat_le (length g) at ≡ c → busied t k (book_of R g) ≡ cond c (Some (book_of R (set g k (Some t)))) None
+pub busied_step : (t k at : ℕ) (R : List Region) (g : List (Option ℕ)) (c : Bool) → k < 8 → is_free (get_or g k None) ≡ true → at ≡ position_or_len (holds_stack t) g → nat_le (length g) at ≡ c →
+    busied t k (book_of R g) ≡ cond c (Some (book_of R (set g k (Some t)))) None
 unfolding held_by
 busied_step t k at R g c l f e n = let b : nat_lt k 8 ≡ true = grind (arith, nat_tests) in rw (b, f, ← e, n) refl
 
-pub claimed_step : (t start pages : ℕ) (maker : Bool) (R : List Region) (g : List (Option ℕ)) (c d : Bool) → d ≡ can_claim start pages (book_of R g) → d ≡ c → claimed t start pages maker (book_of R g) ≡ cond c (Some (book_of (R ++ claim t start pages maker ∷ []) g)) None
+pub claimed_step : (t start pages : ℕ) (maker : Bool) (R : List Region) (g : List (Option ℕ)) (c d : Bool) → d ≡ can_claim start pages (book_of R g) → d ≡ c →
+    claimed t start pages maker (book_of R g) ≡ cond c (Some (book_of (R ++ claim t start pages maker ∷ []) g)) None
 claimed_step t start pages maker R g c d e f = ap (λ x. cond x (Some (book_of (R ++ claim t start pages maker ∷ []) g)) None) (sym e ∙ f)
 
 -- ---- some entries less
-pub remove_step : (m : ℕ) (R : List Region) (g : List (Option ℕ)) (e : Entry) (es : List Entry) → (get_or R m nowhere).entries ≡ e ∷ es → links m (e ∷ es) ≡ 0 → remove_entry m (e ∷ es) (book_of R g) ≡ Some (book_of (removed m Lost R) g)
+pub remove_step : (m : ℕ) (R : List Region) (g : List (Option ℕ)) (e : Entry) (es : List Entry) → (get_or R m nowhere).entries ≡ e ∷ es → links m (e ∷ es) ≡ 0 →
+    remove_entry m (e ∷ es) (book_of R g) ≡ Some (book_of (removed m Lost R) g)
 remove_step m R g (Call x) es e n = ap (λ x. Some (book_of x g)) (sym (removed_at R m Lost (Call x ∷ es) e))
 remove_step m R g (Restorer x) es e n = ap (λ x. Some (book_of x g)) (sym (removed_at R m Lost (Restorer x ∷ es) e))
 remove_step m R g Frame es e n = ap (λ x. Some (book_of x g)) (sym (removed_at R m Lost (Frame ∷ es) e))
 remove_step m R g (Previous s) es e n = unlinked m s R g es Lost e n
 remove_step m R g Blank es e n = ap (λ x. Some (book_of x g)) (sym (removed_at R m Lost (Blank ∷ es) e))
 
-older : (m : ℕ) (h : Holder) (R : List Region) (e : Entry) (es : List Entry) → m < length R → (get_or R m nowhere).entries ≡ e ∷ es → links m (e ∷ es) ≡ 0 → (get_or (handed (Some e) h (set R m (record (get_or R m nowhere) { entries = es }))) m nowhere).entries ≡ es
+older : (m : ℕ) (h : Holder) (R : List Region) (e : Entry) (es : List Entry) → m < length R → (get_or R m nowhere).entries ≡ e ∷ es → links m (e ∷ es) ≡ 0 →
+    (get_or (handed (Some e) h (set R m (record (get_or R m nowhere) { entries = es }))) m nowhere).entries ≡ es
 older m h R (Call x) es l e n = ap (λ (r : Region). r.entries) (get_or-set_same R m (record (get_or R m nowhere) { entries = es }) nowhere l)
 older m h R (Restorer x) es l e n = ap (λ (r : Region). r.entries) (get_or-set_same R m (record (get_or R m nowhere) { entries = es }) nowhere l)
 older m h R Frame es l e n = ap (λ (r : Region). r.entries) (get_or-set_same R m (record (get_or R m nowhere) { entries = es }) nowhere l)
@@ -144,7 +161,8 @@ same_length (Some (Previous s)) m h R = length-set R s (record (get_or R s nowhe
 same_length (Some Blank) m h R = refl
 
 pub removed_length : (m : ℕ) (h : Holder) (R : List Region) → length (removed m h R) ≡ length R
-removed_length m h R = same_length (slice_get (get_or R m nowhere).entries 0) m h (set R m (record (get_or R m nowhere) { entries = drop 1 (get_or R m nowhere).entries })) ∙ length-set R m (record (get_or R m nowhere) { entries = drop 1 (get_or R m nowhere).entries })
+removed_length m h R = same_length (slice_get (get_or R m nowhere).entries 0) m h (set R m (record (get_or R m nowhere) { entries = drop 1 (get_or R m nowhere).entries })) ∙
+    length-set R m (record (get_or R m nowhere) { entries = drop 1 (get_or R m nowhere).entries })
 
 pub fewer_links : (m : ℕ) (e : Entry) (es : List Entry) → links m (e ∷ es) ≡ 0 → links m es ≡ 0
 fewer_links m e es n = omega arith
@@ -203,7 +221,10 @@ set_twice (z ∷ xs) zero x y = refl
 set_twice (z ∷ xs) (suc i) x y = ap (λ (l : List Region). z ∷ l) (set_twice xs i x y)
 
 -- the three writes of the code are the two of the definition
-pub take_is : (R : List Region) (m q : ℕ) (e : Entry) (f h : Holder) → m < length R → q < length R → m ≢ q → (let a : List Region = set R q (with_entry e (get_or R q nowhere)) in let b : List Region = set a m (record (get_or a m nowhere) { holder = f }) in set b q (record (get_or b q nowhere) { holder = h })) ≡ set (set R m (record (get_or R m nowhere) { holder = f })) q (record (get_or R q nowhere) { entries = e ∷ (get_or R q nowhere).entries; holder = h })
+pub take_is : (R : List Region) (m q : ℕ) (e : Entry) (f h : Holder) → m < length R → q < length R → m ≢ q →
+    (let a : List Region = set R q (with_entry e (get_or R q nowhere)) in let b : List Region = set a m (record (get_or a m nowhere) { holder = f }) in
+    set b q (record (get_or b q nowhere) { holder = h })) ≡ set (set R m (record (get_or R m nowhere) { holder = f })) q
+    (record (get_or R q nowhere) { entries = e ∷ (get_or R q nowhere).entries; holder = h })
 take_is R m q e f h im iq n =
     let a : List Region = set R q (with_entry e (get_or R q nowhere)) in
     let am : get_or a m nowhere ≡ get_or R m nowhere = get_or-set_other R q m (with_entry e (get_or R q nowhere)) nowhere n in
@@ -214,7 +235,8 @@ take_is R m q e f h im iq n =
     ap (λ (l : List Region). set l q (record (with_entry e (get_or R q nowhere)) { holder = h })) (set_swap R q m (with_entry e (get_or R q nowhere)) (record (get_or R m nowhere) { holder = f }) (λ u. n (sym u))) ∙
     set_twice (set R m (record (get_or R m nowhere) { holder = f })) q (with_entry e (get_or R q nowhere)) (record (with_entry e (get_or R q nowhere)) { holder = h })
 
-pub acquired_step : (t p m q : ℕ) (R : List Region) (g : List (Option ℕ)) (c : Bool) → q ≡ position_or_len (has_token p) R → nat_lt q (length R) ≡ c → acquired t p m (book_of R g) ≡ cond c (Some (acquire t m q (book_of R g))) None
+pub acquired_step : (t p m q : ℕ) (R : List Region) (g : List (Option ℕ)) (c : Bool) → q ≡ position_or_len (has_token p) R → nat_lt q (length R) ≡ c →
+    acquired t p m (book_of R g) ≡ cond c (Some (acquire t m q (book_of R g))) None
 unfolding parked_at
 acquired_step t p m q R g c e n = rw (← e, n) refl
 
@@ -223,7 +245,8 @@ pub record Takeable (R : List Region) (m q : ℕ) : Type 0 where
   pub apart : m ≢ q
   pub room : nat_le (length (get_or R q nowhere).entries + 1) (capacity (get_or R q nowhere)) ≡ true
 
-pub takeable : (t p m q : ℕ) (R : List Region) (g : List (Option ℕ)) → IsBook (book_of R g) → m ≡ position_or_len (λ r. is_current t r.holder) R → m < length R → q ≡ position_or_len (has_token p) R → q < length R → Takeable R m q
+pub takeable : (t p m q : ℕ) (R : List Region) (g : List (Option ℕ)) → IsBook (book_of R g) → m ≡ position_or_len (λ r. is_current t r.holder) R → m < length R → q ≡ position_or_len (has_token p) R →
+    q < length R → Takeable R m q
 unfolding current_of parked_at
 takeable t p m q R g h em im eq iq =
     let current : (get_or R m nowhere).holder ≡ Current t = rw em (current_holds t (book_of R g) (rw (← em) im)) in

@@ -1,5 +1,6 @@
 -- Regions that are found: one more, and those that words lead to; and more room for the way to a region in view. Source: own.
-use Rattle.std.proofs.Common.{◌≡◌, ◌≢◌, ℕ, zero, suc, ◌+◌, ◌-◌, ◌<◌, ◌≤◌, inl, inr, Bool, true, false, List, [], ◌∷◌, ◌++◌, length, get_or, set, refl, sym, ◌∙◌, ap, subst, cond, arith, length-set, get_or-set_same, get_or-set_other}
+use Rattle.std.proofs.Common.{◌≡◌, ◌≢◌, ℕ, zero, suc, ◌+◌, ◌-◌, ◌<◌, ◌≤◌, inl, inr, Bool, true, false, List, [], ◌∷◌, ◌++◌, length, get_or}
+use Rattle.std.proofs.Common.{set, refl, sym, ◌∙◌, ap, subst, cond, arith, length-set, get_or-set_same, get_or-set_other}
 use Rattle.std.specs.Prelude.{nat_lt}
 use Rattle.std.proofs.lemmas.Bool.{false≢true, cases_lt}
 use Rattle.std.proofs.lemmas.Bool.Decides.{eqb_tells, nat_tests}
@@ -50,7 +51,8 @@ abbrev pub with_mark : Found → (j : ℕ) → Shown → (from : ℕ) → Found
 with_mark f j s from = record { marks = set f.marks j (InView s from); order = f.order ++ j ∷ [] }
 
 -- all marks, where one of them is new
-pub set_all : (f : Found) (j : ℕ) (s : Shown) (from : ℕ) → j < length f.marks → (P : ℕ → Mark → Type 0) → P j (InView s from) → ((k : ℕ) → k ≢ j → P k (mark_at f k)) → (k : ℕ) → P k (mark_at (with_mark f j s from) k)
+pub set_all : (f : Found) (j : ℕ) (s : Shown) (from : ℕ) → j < length f.marks → (P : ℕ → Mark → Type 0) → P j (InView s from) → ((k : ℕ) → k ≢ j → P k (mark_at f k)) → (k : ℕ) →
+    P k (mark_at (with_mark f j s from) k)
 set_all f j s from l P here others k = elim (eqb_tells k j) [
   | inl e ↦ subst (λ i. P i (mark_at (with_mark f j s from) i)) (sym e.1) (subst (P j) (sym (get_or-set_same f.marks j (InView s from) Unseen l)) here)
   | inr e ↦ subst (P k) (sym (get_or-set_other f.marks j k (InView s from) Unseen e.1)) (others k e.1)
@@ -65,7 +67,8 @@ was_seen Unseen e = absurd (false≢true (sym e))
 was_seen (InView s from) e = refl
 
 -- a region is marked, or was so before
-pub marked_by : (P : Found → Type 0) (f : Found) (j : ℕ) (s : Shown) (from : ℕ) → j < length f.marks → (is_unseen (mark_at f j) ≡ true → P (with_mark f j s from)) → (is_unseen (mark_at f j) ≡ false → P f) → P (marked j s from f)
+pub marked_by : (P : Found → Type 0) (f : Found) (j : ℕ) (s : Shown) (from : ℕ) → j < length f.marks → (is_unseen (mark_at f j) ≡ true → P (with_mark f j s from)) →
+    (is_unseen (mark_at f j) ≡ false → P f) → P (marked j s from f)
 unfolding marked
 marked_by P f j s from l new old =
     let inside : nat_lt j (length f.marks) ≡ true = grind (arith, nat_tests) in
@@ -109,10 +112,11 @@ currents_follows rs ssps (suc c) f = follows_then (currents_follows rs ssps c f)
 
 pub park_follows : (rs : List Span) (copies : List (List ℕ)) (k : ℕ) (f : Found) → Follows f (park rs copies k f)
 unfolding park
-park_follows rs copies k f = elim (nat_lt (token_from (get_or rs k no_span).start (get_or copies k [])) (length (get_or copies k []))) as (λ (c : Bool). Follows f (cond c (marked k shown.Parked (token_from (get_or rs k no_span).start (get_or copies k []) + 1) f) f)) [
-  | true ↦ marked_follows f k shown.Parked _
-  | false ↦ follows_same f
-]
+park_follows rs copies k f = elim (nat_lt (token_from (get_or rs k no_span).start (get_or copies k [])) (length (get_or copies k []))) as
+    (λ (c : Bool). Follows f (cond c (marked k shown.Parked (token_from (get_or rs k no_span).start (get_or copies k []) + 1) f) f)) [
+      | true ↦ marked_follows f k shown.Parked _
+      | false ↦ follows_same f
+    ]
 
 pub parks_follows : (rs : List Span) (copies : List (List ℕ)) (c : ℕ) (f : Found) → Follows f (parks rs copies c f)
 unfolding parks

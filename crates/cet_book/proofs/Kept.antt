@@ -6,7 +6,8 @@ use Rattle.cet_words.specs.Change.{Change, Called, Returned, Raised, Acquired, R
 use Rattle.cet_book.specs.declared.entries.Entry.{Entry}
 use Rattle.cet_book.specs.declared.entries.Entry.TheVariants.{Call, Restorer, Frame, Previous, Blank}
 use Rattle.cet_book.specs.declared.entries.Holder.TheVariants.{Maker, Parked, Lost}
-use Rattle.cet_book.specs.Book.{Region, Book, region, capacity, is_maker, current_of, parked_at, starting_at, held_by, stack_of, holds_stack, is_free, with_current, relist, unlink, called, returned, raised, acquired, released, claim, can_claim, claimed, seeded, born, pushed, popped, ended, busied, freed, book_after, books_after}
+use Rattle.cet_book.specs.Book.{Region, Book, region, capacity, is_maker, current_of, parked_at, starting_at, held_by, stack_of, holds_stack, is_free, with_current, relist, unlink, called}
+use Rattle.cet_book.specs.Book.{returned, raised, acquired, released, claim, can_claim, claimed, seeded, born, pushed, popped, ended, busied, freed, book_after, books_after}
 use Rattle.cet_book.proofs.Changes.{then_by}
 use Rattle.cet_book.specs.Facts.{Bounds, links, Returns}
 use Rattle.cet_book.specs.Shape.{Shape, StackShape, IsBook}
@@ -184,7 +185,8 @@ raised_kept t m n b next o e =
     record { shape = s.owned.shape; stacks = s.stacks; others = λ y ne _. raised_relies t m n b next o e y ne; returns = λ _. raised_returns t m n b next o e }
 
 -- the book with the region of a thread
-owned_by : (t : ℕ) (c : Change) (b next : Book) (f : ℕ → Region → Option Book) → Shape b → with_current t b f ≡ Some next → ((m : ℕ) → Owned t m b → f m (region b m) ≡ Some next → Keeps t c b next) → Keeps t c b next
+owned_by : (t : ℕ) (c : Change) (b next : Book) (f : ℕ → Region → Option Book) → Shape b → with_current t b f ≡ Some next → ((m : ℕ) → Owned t m b → f m (region b m) ≡ Some next → Keeps t c b next) →
+    Keeps t c b next
 owned_by t change b next f h e keeps =
     let c = with_current_some t b next f e in
     keeps (current_of t b) (owned t b h c.0) c.1

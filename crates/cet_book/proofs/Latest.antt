@@ -1,5 +1,6 @@
 -- A thread comes to a stack by taking it or by its birth alone, so the list of latest stacks is kept. Source: own.
-use Rattle.std.proofs.Common.{◌≡◌, ℕ, zero, suc, ◌<◌, ◌≤◌, inl, inr, Bool, true, false, ◌&&◌, List, length, get_or, set, replicate, Option, Some, Result, Ok, Err, refl, sym, ◌∙◌, ap, subst, arith, ◌++◌, take, drop, get_or-set_same, get_or-set_other}
+use Rattle.std.proofs.Common.{◌≡◌, ℕ, zero, suc, ◌<◌, ◌≤◌, inl, inr, Bool, true, false, ◌&&◌, List, length, get_or, set, replicate, Option, Some}
+use Rattle.std.proofs.Common.{Result, Ok, Err, refl, sym, ◌∙◌, ap, subst, arith, ◌++◌, take, drop, get_or-set_same, get_or-set_other}
 use Rattle.std.specs.Prelude.{nat_lt, nat_le}
 use Rattle.std.specs.List.{position_or_len}
 use Rattle.std.proofs.lemmas.Bool.{false≢true}
@@ -140,7 +141,8 @@ step_comes b next (ev.Freed t k) h s e = edit_comes t (change.Freed k) b next (�
 
 -- ---- one thread comes to one
 
-pub acquired_latest : (t p m : ℕ) (b next : Book) (latest : List ℕ) → IsBook b → m ≡ position_or_len (has_token p) b.regions → t < length latest → with_current t b (λ m r. acquired t p m b) ≡ Some next → Latest b.regions latest → Latest next.regions (set latest t m)
+pub acquired_latest : (t p m : ℕ) (b next : Book) (latest : List ℕ) → IsBook b → m ≡ position_or_len (has_token p) b.regions → t < length latest →
+    with_current t b (λ m r. acquired t p m b) ≡ Some next → Latest b.regions latest → Latest next.regions (set latest t m)
 unfolding parked_at
 acquired_latest t p m b next latest h at low e old i y =
     let w = with_current_some t b next (λ m r. acquired t p m b) e in
@@ -183,24 +185,29 @@ latest_kept (Err NotLegal) old new e latest h s a l = subst (λ (b : Book). Late
 latest_kept (Err NoMemory) old new e latest h s a l = subst (λ (b : Book). Latest b.regions latest) (sym a.1) l
 
 -- of regions that were lent as a list
-pub kept_list : (result : Result (Unit {0}) BookFault) (old new : List Region) (g : List (Option ℕ)) (latest : List ℕ) (e : Event) → IsListed old g latest → Stays e → Applied result (book_of old g) (book_of new g) (book_step (book_of old g) e) → IsListed new g latest
+pub kept_list : (result : Result (Unit {0}) BookFault) (old new : List Region) (g : List (Option ℕ)) (latest : List ℕ) (e : Event) → IsListed old g latest → Stays e →
+    Applied result (book_of old g) (book_of new g) (book_step (book_of old g) e) → IsListed new g latest
 kept_list result old new g latest e h s a = record {
   book = applied_kept result (book_of old g) (book_of new g) e h.book a;
   list = latest_kept result (book_of old g) (book_of new g) e latest h.book s a h.list;
 }
 
 -- of supervisor stacks
-pub kept_gates : (result : Result (Unit {0}) BookFault) (old new : List (Option ℕ)) (R : List Region) (latest : List ℕ) (e : Event) → IsListed R old latest → Applied result (book_of R old) (book_of R new) (book_step (book_of R old) e) → IsListed R new latest
+pub kept_gates : (result : Result (Unit {0}) BookFault) (old new : List (Option ℕ)) (R : List Region) (latest : List ℕ) (e : Event) → IsListed R old latest →
+    Applied result (book_of R old) (book_of R new) (book_step (book_of R old) e) → IsListed R new latest
 kept_gates result old new R latest e h a = record { book = applied_kept result (book_of R old) (book_of R new) e h.book a; list = h.list }
 
 -- of regions that were lent as a slice, with a list that may be another one
-pub kept_moved : (result : Result (Unit {0}) BookFault) (n : ℕ) (new lent old : List Region) (g : List (Option ℕ)) (latest after : List ℕ) (e : Event) → IsListed old g latest → lent ≡ old → length new ≡ length lent → n ≡ length old → Applied result (book_of lent g) (book_of new g) (book_step (book_of lent g) e) → Latest new after → IsListed (take n (new ++ drop (length new) old)) g after
+pub kept_moved : (result : Result (Unit {0}) BookFault) (n : ℕ) (new lent old : List Region) (g : List (Option ℕ)) (latest after : List ℕ) (e : Event) → IsListed old g latest → lent ≡ old →
+    length new ≡ length lent → n ≡ length old → Applied result (book_of lent g) (book_of new g) (book_step (book_of lent g) e) → Latest new after →
+    IsListed (take n (new ++ drop (length new) old)) g after
 kept_moved result n new lent old g latest after e h q l m a listed =
     let long : length new ≡ length old = l ∙ ap (λ (x : List Region). length x) q in
     subst (λ x. IsListed x g after) (sym (back n new old long m))
     (record { book = applied_kept result (book_of lent g) (book_of new g) e (subst (λ x. IsBook (book_of x g)) (sym q) h.book) a; list = listed })
 
-pub kept_back : (result : Result (Unit {0}) BookFault) (n : ℕ) (new lent old : List Region) (g : List (Option ℕ)) (latest : List ℕ) (e : Event) → IsListed old g latest → Stays e → lent ≡ old → length new ≡ length lent → n ≡ length old → Applied result (book_of lent g) (book_of new g) (book_step (book_of lent g) e) → IsListed (take n (new ++ drop (length new) old)) g latest
+pub kept_back : (result : Result (Unit {0}) BookFault) (n : ℕ) (new lent old : List Region) (g : List (Option ℕ)) (latest : List ℕ) (e : Event) → IsListed old g latest → Stays e → lent ≡ old →
+    length new ≡ length lent → n ≡ length old → Applied result (book_of lent g) (book_of new g) (book_step (book_of lent g) e) → IsListed (take n (new ++ drop (length new) old)) g latest
 kept_back result n new lent old g latest e h s q l m a =
     kept_moved result n new lent old g latest latest e h q l m a
     (latest_kept result (book_of lent g) (book_of new g) e latest (subst (λ x. IsBook (book_of x g)) (sym q) h.book) s a (subst (λ x. Latest x latest) (sym q) h.list))

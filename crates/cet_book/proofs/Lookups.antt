@@ -31,7 +31,8 @@ not_true false n = refl
 not_true true n = absurd (n refl)
 
 -- of stacks of which the first `count` start at p or below, the last of these alone may have its token at p
-module _ (p count : ℕ) (R : List Region) (g : List (Option ℕ)) (h : IsBook (book_of R g)) (most : count ≤ length R) (below : (k : ℕ) → k < count → (get_or R k nowhere).start ≤ p) (above : (k : ℕ) → count ≤ k → k < length R → p < (get_or R k nowhere).start) where
+module _ (p count : ℕ) (R : List Region) (g : List (Option ℕ)) (h : IsBook (book_of R g)) (most : count ≤ length R) (below : (k : ℕ) → k < count → (get_or R k nowhere).start ≤ p) (above : (k : ℕ) →
+    count ≤ k → k < length R → p < (get_or R k nowhere).start) where
   last_alone : (i : ℕ) → i < length R → has_token p (get_or R i nowhere) ≡ true → i + 1 ≡ count
   last_alone i l e =
       let t = has_token_true p (get_or R i nowhere) e in

@@ -1,5 +1,6 @@
 -- The loops that find stacks in view, one turn at a time. Source: own.
-use Rattle.std.proofs.Common.{◌≡◌, ◌≢◌, ℕ, zero, suc, ◌+◌, ◌-◌, ◌*◌, ◌<◌, ◌≤◌, true, false, List, [], ◌∷◌, ◌++◌, length, get_or, drop, refl, sym, ◌∙◌, ap, subst, arith, add-one, drop-cons, set, drop_of_length-le}
+use Rattle.std.proofs.Common.{◌≡◌, ◌≢◌, ℕ, zero, suc, ◌+◌, ◌-◌, ◌*◌, ◌<◌, ◌≤◌, true, false, List, [], ◌∷◌, ◌++◌, length, get_or}
+use Rattle.std.proofs.Common.{drop, refl, sym, ◌∙◌, ap, subst, arith, add-one, drop-cons, set, drop_of_length-le}
 use Rattle.std.specs.Prelude.{nat_lt, ◌==◌}
 use Rattle.std.proofs.lemmas.Bool.Decides.{nat_tests}
 use Rattle.std.proofs.lemmas.List.Sums.{position_or_len_is}
@@ -54,13 +55,15 @@ pub element : {X : Type 0} (xs : List X) (i : ℕ) (x d : X) → x ≡ get_or xs
 element xs i x d e l = get_or_any xs i d x l ∙ sym e
 
 -- what the code makes of the two lists is the mark
-pub put_new : (at : ℕ) (s : Shown) (from : ℕ) (marks : List Mark) (order after : List ℕ) (f : Found) (x : Mark) → record { marks = marks; order = order } ≡ f → at < length marks → x ≡ get_or marks at x → x ≡ Unseen → after ≡ order ++ at ∷ [] → record { marks = set marks at (InView s from); order = after } ≡ marked at s from f
+pub put_new : (at : ℕ) (s : Shown) (from : ℕ) (marks : List Mark) (order after : List ℕ) (f : Found) (x : Mark) → record { marks = marks; order = order } ≡ f → at < length marks →
+    x ≡ get_or marks at x → x ≡ Unseen → after ≡ order ++ at ∷ [] → record { marks = set marks at (InView s from); order = after } ≡ marked at s from f
 put_new at s from marks order after f x is l e u a =
     let g : Found = record { marks = marks; order = order } in
     ap (λ (o : List ℕ). (let n : Found = record { marks = set marks at (InView s from); order = o } in n)) a ∙
     sym (marked_new at s from g l (element marks at x Unseen e l ∙ u)) ∙ ap (marked at s from) is
 
-pub put_old : (at : ℕ) (s : Shown) (from : ℕ) (marks : List Mark) (order : List ℕ) (f : Found) (x : Mark) → record { marks = marks; order = order } ≡ f → at < length marks → x ≡ get_or marks at x → x ≢ Unseen → f ≡ marked at s from f
+pub put_old : (at : ℕ) (s : Shown) (from : ℕ) (marks : List Mark) (order : List ℕ) (f : Found) (x : Mark) → record { marks = marks; order = order } ≡ f → at < length marks → x ≡ get_or marks at x →
+    x ≢ Unseen → f ≡ marked at s from f
 put_old at s from marks order f x is l e n =
     let g : Found = record { marks = marks; order = order } in
     subst (λ h. h ≡ marked at s from h) is (sym (marked_old at s from g l (λ u. n (sym (element marks at x Unseen e l) ∙ u))))
@@ -80,11 +83,13 @@ pub token_none : (start i : ℕ) (ws : List ℕ) → length ws ≤ i → token_f
 unfolding token_from
 token_none start i ws l = rw (drop_of_length-le ws l) refl
 
-pub currents_more : (rs : List Span) (ssps : List (ℕ × ℕ)) (k : ℕ) (ms now new : Found) → now ≡ currents rs ssps k ms → new ≡ top_marked rs (get_or ssps k (0, 0)).1 (shown.Current (get_or ssps k (0, 0)).0) now → new ≡ currents rs ssps (k + 1) ms
+pub currents_more : (rs : List Span) (ssps : List (ℕ × ℕ)) (k : ℕ) (ms now new : Found) → now ≡ currents rs ssps k ms →
+    new ≡ top_marked rs (get_or ssps k (0, 0)).1 (shown.Current (get_or ssps k (0, 0)).0) now → new ≡ currents rs ssps (k + 1) ms
 unfolding currents
 currents_more rs ssps k ms now new e f = rw add-one (f ∙ ap (top_marked rs (get_or ssps k (0, 0)).1 (shown.Current (get_or ssps k (0, 0)).0)) e)
 
-pub park_more : (rs : List Span) (copies : List (List ℕ)) (k : ℕ) (ms now : Found) (words : List ℕ) (found : ℕ) → now ≡ parks rs copies k ms → words ≡ get_or copies k words → k < length copies → found ≡ token_from (get_or rs k no_span).start words → parks rs copies (k + 1) ms ≡ park_if found words k now
+pub park_more : (rs : List Span) (copies : List (List ℕ)) (k : ℕ) (ms now : Found) (words : List ℕ) (found : ℕ) → now ≡ parks rs copies k ms → words ≡ get_or copies k words → k < length copies →
+    found ≡ token_from (get_or rs k no_span).start words → parks rs copies (k + 1) ms ≡ park_if found words k now
 unfolding parks park
 park_more rs copies k ms now words found e w l f = rw (add-one, element copies k words [] w l, ← f, ← e) refl
 
@@ -102,7 +107,8 @@ follow_past rs copies k f l = let t : nat_lt k (length f.order) ≡ false = grin
 pub order_inside : (marks : List Mark) (order : List ℕ) (k at : ℕ) → k < length order → at ≡ get_or order k at → ((j : ℕ) → j < length order → get_or order j 0 < length marks) → at < length marks
 order_inside marks order k at l e inside = let f : get_or order k 0 ≡ at = element order k at 0 e l in let i = inside k l in omega arith
 
-pub follow_here : (rs : List Span) (copies : List (List ℕ)) (marks : List Mark) (order : List ℕ) (f new : Found) (k at : ℕ) (m : Mark) (words : List ℕ) → record { marks = marks; order = order } ≡ f → k < length order → at ≡ get_or order k at → m ≡ get_or marks at m → at < length marks → words ≡ words_by m (get_or copies at []) → new ≡ followed rs words f → new ≡ follow rs copies k f
+pub follow_here : (rs : List Span) (copies : List (List ℕ)) (marks : List Mark) (order : List ℕ) (f new : Found) (k at : ℕ) (m : Mark) (words : List ℕ) → record { marks = marks; order = order } ≡ f →
+    k < length order → at ≡ get_or order k at → m ≡ get_or marks at m → at < length marks → words ≡ words_by m (get_or copies at []) → new ≡ followed rs words f → new ≡ follow rs copies k f
 unfolding follow
 follow_here rs copies marks order f new k at m words is l a e inside w n =
     let g : Found = record { marks = marks; order = order } in
@@ -114,6 +120,7 @@ pub follow_more : (rs : List Span) (copies : List (List ℕ)) (k : ℕ) (f now n
 unfolding follow_all
 follow_more rs copies k f now new e g = rw add-one (g ∙ ap (follow rs copies k) e)
 
-pub reports_more : (rs : List Span) (copies : List (List ℕ)) (ms : List Mark) (k : ℕ) (list new : List StackReport) (words : List ℕ) (report : StackReport) → list ≡ reports rs copies ms k → words ≡ get_or copies k words → k < length copies → report ≡ report_by (get_or rs k no_span) words (get_or ms k Unseen) → new ≡ list ++ report ∷ [] → new ≡ reports rs copies ms (k + 1)
+pub reports_more : (rs : List Span) (copies : List (List ℕ)) (ms : List Mark) (k : ℕ) (list new : List StackReport) (words : List ℕ) (report : StackReport) → list ≡ reports rs copies ms k →
+    words ≡ get_or copies k words → k < length copies → report ≡ report_by (get_or rs k no_span) words (get_or ms k Unseen) → new ≡ list ++ report ∷ [] → new ≡ reports rs copies ms (k + 1)
 unfolding reports
 reports_more rs copies ms k list new words report e w l r f = rw (add-one, element copies k words [] w l, ← r, ← e) f

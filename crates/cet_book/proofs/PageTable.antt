@@ -21,7 +21,8 @@ abbrev Apart : List Span → Type 0
 Apart rs = (i j a : ℕ) → i < length rs → j < length rs → Has a (get_or rs i no_span) → Has a (get_or rs j no_span) → i ≡ j
 
 -- an address of one region isn't on a page of another
-not_on : (r s : Span) (a : ℕ) → IsSpan r → IsSpan s → Has a r → ((b : ℕ) → Has b r → Has b s → ⊥) → (s.start - shadow_start) / 4096 ≤ (a - shadow_start) / 4096 → (a - shadow_start) / 4096 ≤ (s.end - shadow_start) / 4096 → ⊥
+not_on : (r s : Span) (a : ℕ) → IsSpan r → IsSpan s → Has a r → ((b : ℕ) → Has b r → Has b s → ⊥) → (s.start - shadow_start) / 4096 ≤ (a - shadow_start) / 4096 →
+    (a - shadow_start) / 4096 ≤ (s.end - shadow_start) / 4096 → ⊥
 not_on r s a p q h none l m =
     let pl = p.low in let pf = p.first in let ql = q.low in let qo = q.order in let qf = q.first in let qe = q.last in
     let hl = h.low in let hh = h.high in
@@ -34,7 +35,9 @@ side a b c n = elim (cases_lt c a) [
 ]
 
 -- one region more is in the table
-pub table_more : (rs : List Span) (table next : List ℕ) (at first last : ℕ) → All IsSpan rs → Apart rs → at < length rs → first ≡ ((get_or rs at no_span).start - shadow_start) / 4096 → last ≡ ((get_or rs at no_span).end - shadow_start) / 4096 → ((page none : ℕ) → first ≤ page → page ≤ last → get_or next page none ≡ at) → ((page none : ℕ) → (page < first) ⊎ (last < page) → get_or next page none ≡ get_or table page none) → IsTable rs table at → IsTable rs next (at + 1)
+pub table_more : (rs : List Span) (table next : List ℕ) (at first last : ℕ) → All IsSpan rs → Apart rs → at < length rs → first ≡ ((get_or rs at no_span).start - shadow_start) / 4096 →
+    last ≡ ((get_or rs at no_span).end - shadow_start) / 4096 → ((page none : ℕ) → first ≤ page → page ≤ last → get_or next page none ≡ at) →
+    ((page none : ℕ) → (page < first) ⊎ (last < page) → get_or next page none ≡ get_or table page none) → IsTable rs table at → IsTable rs next (at + 1)
 table_more rs table next at first last each apart inside f e here others before k a none l h =
     let spans = recursion_from_All IsSpan rs each in
     let span_at = all_at IsSpan rs at no_span spans inside in

@@ -157,7 +157,8 @@ lowered_then q m n b mid last x y =
     let second = y.many in
     record { many = omega arith; list = y.list ∙ ap (λ (l : List Entry). drop n l) x.list ∙ drop-drop n m (region b q).entries }
 
-raises_from : (t q : ℕ) (mid : List Event) (b last : Book) → IsBook b → Stage t q b → Each (λ b e next. thread_of e ≡ t → IsRaise t e ⊎ SameLists b next) b mid → book_by b mid ≡ Some last → Lowered q (raises_of t mid) b last
+raises_from : (t q : ℕ) (mid : List Event) (b last : Book) → IsBook b → Stage t q b → Each (λ b e next. thread_of e ≡ t → IsRaise t e ⊎ SameLists b next) b mid → book_by b mid ≡ Some last →
+    Lowered q (raises_of t mid) b last
 raises_from t q [] b last h g k e = let is : b ≡ last = cc in subst (Lowered q 0 b) is (lowered_none refl)
 raises_from t q (x ∷ mid) b last h g k e =
     let s = then_event (book_step b x) mid last e in

@@ -73,7 +73,8 @@ apart low (r ∷ rs) e (suc i) (suc j) a l m g h =
     let b = and_true (is_next low r) (rise r.end rs) e in
     ap suc (apart r.end rs b.1 i j a (omega arith) (omega arith) g h)
 
-by_first : (a : ℕ) (r : Span) (rs : List Span) (c : Bool) → has a r ≡ c → (if c then true else lies_in a rs) ≡ true → (lies_in a rs ≡ true → (i : ℕ) × (i < length rs) × Has a (get_or rs i no_span)) → (i : ℕ) × (i < length (r ∷ rs)) × Has a (get_or (r ∷ rs) i no_span)
+by_first : (a : ℕ) (r : Span) (rs : List Span) (c : Bool) → has a r ≡ c → (if c then true else lies_in a rs) ≡ true → (lies_in a rs ≡ true → (i : ℕ) × (i < length rs) × Has a (get_or rs i no_span)) →
+    (i : ℕ) × (i < length (r ∷ rs)) × Has a (get_or (r ∷ rs) i no_span)
 by_first a r rs true h e rest = (0, omega arith, record { low = grind (arith, nat_tests); high = grind (arith, nat_tests) })
 by_first a r rs false h e rest = let f = rest e in (suc f.0, (let l = f.1 in omega arith), f.2)
 

@@ -119,7 +119,8 @@ acquire_relies {t = t} {m = m} {q = q} {b = b} k y n =
       free = λ _ e. e;
     }
 
-hand_relies : {s : ℕ} {es : List Entry} {g : Holder} {b : Book} (h : Hands s es g b) (t y : ℕ) → t ≢ y → ((region b s).holder ≡ Current t) ⊎ ((region b s).holder ≡ Maker t) → current_of y (hand s es g b) ≡ current_of y b → Relies y b (hand s es g b)
+hand_relies : {s : ℕ} {es : List Entry} {g : Holder} {b : Book} (h : Hands s es g b) (t y : ℕ) → t ≢ y → ((region b s).holder ≡ Current t) ⊎ ((region b s).holder ≡ Maker t) →
+    current_of y (hand s es g b) ≡ current_of y b → Relies y b (hand s es g b)
 hand_relies {s = s} {b = b} h t y n was c =
     let same = hand_same h in
     record {

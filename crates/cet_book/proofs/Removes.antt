@@ -80,7 +80,8 @@ then_raised m n next None e = cc
 then_raised m n next (Some mid) e = (mid, refl, e)
 
 -- What holds where no entry goes, and is kept by each that does, holds of all that do.
-pub raised_all : (t m : ℕ) (P : ℕ → Book → Book → Type 0) → ((b : Book) → Owned t m b → P 0 b b) → ((n : ℕ) (b mid next : Book) → Owned t m b → Removal t m b mid → P n mid next → P (suc n) b next) → (n : ℕ) (b next : Book) → Owned t m b → raised m n b ≡ Some next → P n b next
+pub raised_all : (t m : ℕ) (P : ℕ → Book → Book → Type 0) → ((b : Book) → Owned t m b → P 0 b b) → ((n : ℕ) (b mid next : Book) → Owned t m b → Removal t m b mid → P n mid next → P (suc n) b next) →
+    (n : ℕ) (b next : Book) → Owned t m b → raised m n b ≡ Some next → P n b next
 raised_all t m P none more zero b next o e = let same : b ≡ next = cc in subst (P 0 b) same (none b o)
 raised_all t m P none more (suc n) b next o e =
     let step = then_raised m n next (remove_entry m (region b m).entries b) e in

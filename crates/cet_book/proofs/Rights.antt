@@ -1,5 +1,6 @@
 -- Marks that agree with the book, and that following words keeps them so. Source: own.
-use Rattle.std.proofs.Common.{◌≡◌, ◌≢◌, ℕ, suc, ◌+◌, ◌-◌, ◌^◌, ◌<◌, ◌≤◌, inl, inr, true, false, List, [], ◌∷◌, ◌++◌, length, get_or, set, refl, sym, ◌∙◌, ap, subst, arith, length-set, get_or-set_same}
+use Rattle.std.proofs.Common.{◌≡◌, ◌≢◌, ℕ, suc, ◌+◌, ◌-◌, ◌^◌, ◌<◌, ◌≤◌, inl, inr, true, false, List, [], ◌∷◌, ◌++◌, length}
+use Rattle.std.proofs.Common.{get_or, set, refl, sym, ◌∙◌, ap, subst, arith, length-set, get_or-set_same}
 use Rattle.std.specs.Prelude.{◌==◌}
 use Rattle.std.proofs.lemmas.Bool.{false≢true, cases_lt}
 use Rattle.std.proofs.lemmas.List.{length-append, get_or_append_left}
@@ -54,7 +55,8 @@ mark_view b numbers k c Unseen s r = absurd (false≢true s)
 mark_view b numbers k c (InView s' f) s r = r.view
 
 -- one more mark that agrees
-with_right : {b : Book} {numbers : List ℕ} {rs : List Span} {ms : Found} (r : Right b numbers rs ms) (j : ℕ) (s : Shown) (f : ℕ) → j < length rs → IsRight b numbers j (suc (counted is_seen ms.marks)) s f → is_seen (mark_at ms j) ≡ false → Right b numbers rs (with_mark ms j s f)
+with_right : {b : Book} {numbers : List ℕ} {rs : List Span} {ms : Found} (r : Right b numbers rs ms) (j : ℕ) (s : Shown) (f : ℕ) → j < length rs →
+    IsRight b numbers j (suc (counted is_seen ms.marks)) s f → is_seen (mark_at ms j) ≡ false → Right b numbers rs (with_mark ms j s f)
 with_right {b = b} {numbers = numbers} {rs = rs} {ms = ms} r j s f l is e =
     let inside : j < length ms.marks = (let z = r.size in omega arith) in
     let c = counted_set is_seen ms.marks j (InView s f) Unseen inside in
@@ -83,7 +85,8 @@ with_right {b = b} {numbers = numbers} {rs = rs} {ms = ms} r j s f l is e =
           (o.0, (let m = o.1 in omega arith), get_or_append_left ms.order (j ∷ []) 0 o.0 o.1 ∙ o.2)));
     }
 
-pub marked_right : {b : Book} {numbers : List ℕ} {rs : List Span} {ms : Found} (r : Right b numbers rs ms) (j : ℕ) (s : Shown) (f : ℕ) → j < length rs → IsRight b numbers j (suc (counted is_seen ms.marks)) s f → Right b numbers rs (marked j s f ms)
+pub marked_right : {b : Book} {numbers : List ℕ} {rs : List Span} {ms : Found} (r : Right b numbers rs ms) (j : ℕ) (s : Shown) (f : ℕ) → j < length rs →
+    IsRight b numbers j (suc (counted is_seen ms.marks)) s f → Right b numbers rs (marked j s f ms)
 marked_right {b = b} {numbers = numbers} {rs = rs} {ms = ms} r j s f l is =
     marked_by (λ next. Right b numbers rs next) ms j s f (let z = r.size in omega arith)
     (λ e. with_right r j s f l is (not_seen (mark_at ms j) e)) (λ _. r)
@@ -97,7 +100,8 @@ left_of q Lost n e z = absurd (z e)
 
 module _ {image : ImageData} {W : List ℕ} {b : Book} {numbers : List ℕ} {rs : List Span} {ssps : List (ℕ × ℕ)} (g : Setting image W b numbers rs ssps) where
   -- by an address that is the top of a region
-  pub top_right : {ms : Found} (r : Right b numbers rs ms) (j a : ℕ) (s : Shown) → j < length rs → a ≡ top (reg b numbers j) → s ≡ shown_of (reg b numbers j).holder → in_view b (suc (counted is_seen ms.marks)) (reg b numbers j).holder ≡ true → Right b numbers rs (top_marked rs a s ms)
+  pub top_right : {ms : Found} (r : Right b numbers rs ms) (j a : ℕ) (s : Shown) → j < length rs → a ≡ top (reg b numbers j) → s ≡ shown_of (reg b numbers j).holder →
+      in_view b (suc (counted is_seen ms.marks)) (reg b numbers j).holder ≡ true → Right b numbers rs (top_marked rs a s ms)
   unfolding top_marked
   top_right r j a s l e sh v =
       rw (e, top_place g j l, at g j l) (marked_right r j s _ l (record { shows = sh; view = v; at = refl }))
@@ -110,7 +114,8 @@ module _ {image : ImageData} {W : List ℕ} {b : Book} {numbers : List ℕ} {rs 
   link_left q s n = left_of q (region b s).holder (links s (region b q).entries) (g.facts.previous_left q s) n
 
   -- by the words of a region in view: what they lead to was left for it
-  pub follow_right : (k : ℕ) → k < length rs → (es : List Entry) (a : ℕ) (ms : Found) → ((s : ℕ) → links s es ≢ 0 → links s (reg b numbers k).entries ≢ 0) → AllReturn es → Right b numbers rs ms → Seen ms k → Right b numbers rs (followed rs (words_of (tops b) a es) ms)
+  pub follow_right : (k : ℕ) → k < length rs → (es : List Entry) (a : ℕ) (ms : Found) → ((s : ℕ) → links s es ≢ 0 → links s (reg b numbers k).entries ≢ 0) → AllReturn es → Right b numbers rs ms →
+      Seen ms k → Right b numbers rs (followed rs (words_of (tops b) a es) ms)
   unfolding followed
   follow_right k l [] a ms sub ret r seen = r
   follow_right k l (Call x ∷ es) a ms sub ret r seen =

@@ -1,5 +1,6 @@
 -- The first marks: pointers tell the current stacks, and restore tokens the parked ones. Source: own.
-use Rattle.std.proofs.Common.{◌≡◌, ◌≢◌, ℕ, zero, suc, ◌+◌, ◌-◌, ◌*◌, ◌/◌, ◌<◌, ◌≤◌, inl, inr, Bool, true, false, List, [], ◌∷◌, length, get_or, map, replicate, refl, sym, ◌∙◌, ap, subst, cond, arith}
+use Rattle.std.proofs.Common.{◌≡◌, ◌≢◌, ℕ, zero, suc, ◌+◌, ◌-◌, ◌*◌, ◌/◌, ◌<◌, ◌≤◌, inl, inr, Bool, true, false, List, []}
+use Rattle.std.proofs.Common.{◌∷◌, length, get_or, map, replicate, refl, sym, ◌∙◌, ap, subst, cond, arith}
 use Rattle.std.specs.Prelude.{◌==◌}
 use Rattle.std.proofs.lemmas.Bool.{false≢true, cases_lt}
 use Rattle.std.proofs.lemmas.Bool.Decides.{eqb_tells, nat_tests}
@@ -40,7 +41,8 @@ start_right b numbers rs = record {
 
 -- ---- the first token among words
 
-token_if : (c : Bool) (start w n : ℕ) (ws : List ℕ) → (w == start + 1) ≡ c → (n < length ws → get_or ws n 0 ≡ start + 8 + 8 * n + 1) → cond c 0 (suc n) < suc (length ws) → get_or (w ∷ ws) (cond c 0 (suc n)) 0 ≡ start + 8 * cond c 0 (suc n) + 1
+token_if : (c : Bool) (start w n : ℕ) (ws : List ℕ) → (w == start + 1) ≡ c → (n < length ws → get_or ws n 0 ≡ start + 8 + 8 * n + 1) → cond c 0 (suc n) < suc (length ws) →
+    get_or (w ∷ ws) (cond c 0 (suc n)) 0 ≡ start + 8 * cond c 0 (suc n) + 1
 token_if true start w n ws e h l = grind (arith, nat_tests)
 token_if false start w n ws e h l = h (omega arith) ∙ omega arith
 
@@ -61,7 +63,8 @@ token_least start (w ∷ ws) (suc m) l e = least_if (w == start + 1) (token_from
 
 module _ {image : ImageData} {W : List ℕ} {b : Book} {numbers : List ℕ} {rs : List Span} {ssps : List (ℕ × ℕ)} (g : Setting image W b numbers rs ssps) where
   -- only a parked region has a token among its words
-  token_parked : (k : ℕ) → k < length rs → (m : ℕ) → m < length (region_words W (span_of (reg b numbers k))) → get_or (region_words W (span_of (reg b numbers k))) m 0 ≡ (reg b numbers k).start + 8 * m + 1 → ((reg b numbers k).holder ≡ Parked) × (top (reg b numbers k) ≡ (reg b numbers k).start + 8 * m)
+  token_parked : (k : ℕ) → k < length rs → (m : ℕ) → m < length (region_words W (span_of (reg b numbers k))) →
+      get_or (region_words W (span_of (reg b numbers k))) m 0 ≡ (reg b numbers k).start + 8 * m + 1 → ((reg b numbers k).holder ≡ Parked) × (top (reg b numbers k) ≡ (reg b numbers k).start + 8 * m)
   token_parked k l m inside e =
       let r = is_place g k l in
       let low = r.low in let order = r.order in let high = r.high in let first = r.first in let last = r.last in
@@ -127,7 +130,8 @@ module _ {image : ImageData} {W : List ℕ} {b : Book} {numbers : List ℕ} {rs 
   unfolding park
   park_is k ms l = rw (at g k l, copy_at g k l) refl
 
-  park_by : (P : Found → Type 0) (k : ℕ) (ms : Found) → k < length rs → ((t : ℕ) → (reg b numbers k).holder ≡ Parked → t + 1 ≡ from_of (span_of (reg b numbers k)) (top (reg b numbers k)) → P (marked k shown.Parked (t + 1) ms)) → ((reg b numbers k).holder ≢ Parked → P ms) → P (park rs (map (region_words W) rs) k ms)
+  park_by : (P : Found → Type 0) (k : ℕ) (ms : Found) → k < length rs → ((t : ℕ) → (reg b numbers k).holder ≡ Parked → t + 1 ≡ from_of (span_of (reg b numbers k)) (top (reg b numbers k)) →
+      P (marked k shown.Parked (t + 1) ms)) → ((reg b numbers k).holder ≢ Parked → P ms) → P (park rs (map (region_words W) rs) k ms)
   park_by P k ms l new old =
       let words : List ℕ = region_words W (span_of (reg b numbers k)) in
       let t : ℕ = token_from (reg b numbers k).start (region_words W (span_of (reg b numbers k))) in

@@ -1,5 +1,6 @@
 -- What the marks tell in the end is what the book shows. Source: own.
-use Rattle.std.proofs.Common.{◌≡◌, ℕ, zero, suc, ◌+◌, ◌-◌, ◌*◌, ◌/◌, ◌^◌, ◌<◌, ◌≤◌, Bool, true, false, List, [], ◌∷◌, ◌++◌, length, get_or, drop, take, map, replicate, refl, sym, ◌∙◌, ap, subst, arith}
+use Rattle.std.proofs.Common.{◌≡◌, ℕ, zero, suc, ◌+◌, ◌-◌, ◌*◌, ◌/◌, ◌^◌, ◌<◌, ◌≤◌, Bool, true, false, List, [], ◌∷◌, ◌++◌}
+use Rattle.std.proofs.Common.{length, get_or, drop, take, map, replicate, refl, sym, ◌∙◌, ap, subst, arith}
 use Rattle.std.specs.Prelude.{All}
 use Rattle.std.proofs.lemmas.Bool.{false≢true}
 use Rattle.std.proofs.lemmas.List.{map_more, get_or-map}
@@ -84,11 +85,13 @@ module _ {image : ImageData} {W : List ℕ} {b : Book} {numbers : List ℕ} {rs 
       let sum : length b.regions - counted is_seen last.marks + counted is_seen last.marks ≡ length b.regions = omega arith in
       subst (λ n. in_view b n (reg b numbers k).holder ≡ true) sum (view_at_least b (counted is_seen last.marks) (length b.regions - counted is_seen last.marks) (reg b numbers k).holder v)
 
-  marked_shown : (k : ℕ) → k < length rs → (s : Shown) (f : ℕ) → IsRight b numbers k (counted is_seen last.marks) s f → (let x : StackReport = record { region = get_or rs k no_span; shown = s; words = drop f (get_or (map (region_words W) rs) k []) } in x) ≡ shown_region b (reg b numbers k)
+  marked_shown : (k : ℕ) → k < length rs → (s : Shown) (f : ℕ) → IsRight b numbers k (counted is_seen last.marks) s f →
+      (let x : StackReport = record { region = get_or rs k no_span; shown = s; words = drop f (get_or (map (region_words W) rs) k []) } in x) ≡ shown_region b (reg b numbers k)
   marked_shown k l s f r =
       let words : drop f (get_or (map (region_words W) rs) k []) ≡ words_of (tops b) (top (reg b numbers k)) (reg b numbers k).entries
       = ap (λ x. drop f x) (copy_at g k l) ∙ ap (λ n. drop n (region_words W (span_of (reg b numbers k)))) r.at ∙ list_is g k l in
-      made (get_or rs k no_span) (span_of (reg b numbers k)) s (shown_of (reg b numbers k).holder) (drop f (get_or (map (region_words W) rs) k [])) (words_of (tops b) (top (reg b numbers k)) (reg b numbers k).entries) (at g k l) r.shows words ∙
+      made (get_or rs k no_span) (span_of (reg b numbers k)) s (shown_of (reg b numbers k).holder) (drop f (get_or (map (region_words W) rs) k []))
+      (words_of (tops b) (top (reg b numbers k)) (reg b numbers k).entries) (at g k l) r.shows words ∙
       ap (shown_if b (reg b numbers k)) (sym (viewed k l r.view))
 
   report_if : (k : ℕ) → k < length rs → (m : Mark) → mark_at last k ≡ m → report_by (get_or rs k no_span) (get_or (map (region_words W) rs) k []) m ≡ shown_region b (reg b numbers k)

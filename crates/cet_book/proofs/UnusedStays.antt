@@ -77,5 +77,6 @@ edit_keeps t i c b next l f n (ends_region m o is) = subst (λ n. region n i ≡
 edit_keeps t i c b next l f n (busies k e inside free is) = subst (λ n. region n i ≡ region b i) is refl
 edit_keeps t i c b next l f n (frees k e held is) = subst (λ n. region n i ≡ region b i) is refl
 
-pub unused_stays : (t : ℕ) (c : Change) (b next : Book) → IsBook b → book_after t b c ≡ Some next → (i : ℕ) → i < length b.regions → IsUnused (region b i).holder → (UsesMade c → (region b i).holder ≢ Maker t) → region next i ≡ region b i
+pub unused_stays : (t : ℕ) (c : Change) (b next : Book) → IsBook b → book_after t b c ≡ Some next → (i : ℕ) → i < length b.regions → IsUnused (region b i).holder →
+    (UsesMade c → (region b i).holder ≢ Maker t) → region next i ≡ region b i
 unused_stays t c b next h e i l f n = edit_keeps t i c b next l f n (edited t c b next h e)

@@ -9,7 +9,8 @@ use Rattle.cet_book.specs.declared.entries.Entry.{Entry}
 use Rattle.cet_book.specs.declared.entries.Entry.TheVariants.{Call, Restorer, Frame, Previous, Blank}
 use Rattle.cet_book.specs.declared.entries.Holder.{Holder}
 use Rattle.cet_book.specs.declared.entries.Holder.TheVariants.{Maker, Current, Parked, Lost}
-use Rattle.cet_book.specs.Book.{Region, Book, nowhere, region, capacity, top, is_maker, has_token, current_of, called, pushed, ended, popped, returned, acquired, parked_at, starting_at, held_by, stack_of, put_stack, is_free, with_current, relist, unlink, acquire, raised, released, claim, book_after}
+use Rattle.cet_book.specs.Book.{Region, Book, nowhere, region, capacity, top, is_maker, has_token, current_of, called, pushed, ended, popped, returned, acquired, parked_at}
+use Rattle.cet_book.specs.Book.{starting_at, held_by, stack_of, put_stack, is_free, with_current, relist, unlink, acquire, raised, released, claim, book_after}
 use Rattle.cet_book.specs.Facts.{is_previous, IsParkedAt}
 use Rattle.cet_book.specs.Shape.{Shape}
 use Rattle.cet_book.proofs.Edits.{Owned, owned_there, is_there}
@@ -36,11 +37,13 @@ has_room r n l = let few : n < capacity r = omega arith in grind (arith, nat_tes
 if_true : (c : Bool) (next : Book) → c ≡ true → cond c (Some next) None ≡ Some next
 if_true c next e = rw e
 
-pub called_way : {t m : ℕ} {b : Book} → Owned t m b → (back : ℕ) → (region b m).start + 8 * length (region b m).entries + 8 ≤ (region b m).end → book_after t b (Called back) ≡ Some (relist m (Call back ∷ (region b m).entries) b)
+pub called_way : {t m : ℕ} {b : Book} → Owned t m b → (back : ℕ) → (region b m).start + 8 * length (region b m).entries + 8 ≤ (region b m).end →
+    book_after t b (Called back) ≡ Some (relist m (Call back ∷ (region b m).entries) b)
 called_way {m = m} {b = b} o back room =
     with_current_at o (λ m r. called back m r b) ∙ if_true _ _ (has_room (region b m) (length (region b m).entries) room)
 
-pub pushed_way : {t m : ℕ} {b : Book} → Owned t m b → (x : ℕ) → (region b m).start + 8 * length (region b m).entries + 16 ≤ (region b m).end → book_after t b (Pushed x) ≡ Some (relist m (Restorer x ∷ Frame ∷ (region b m).entries) b)
+pub pushed_way : {t m : ℕ} {b : Book} → Owned t m b → (x : ℕ) → (region b m).start + 8 * length (region b m).entries + 16 ≤ (region b m).end →
+    book_after t b (Pushed x) ≡ Some (relist m (Restorer x ∷ Frame ∷ (region b m).entries) b)
 pushed_way {m = m} {b = b} o x room =
     let few : length (region b m).entries + 2 ≤ capacity (region b m) = omega arith in
     let passed : nat_le (length (region b m).entries + 2) (capacity (region b m)) ≡ true = grind (arith, nat_tests) in
@@ -66,7 +69,8 @@ popped_way {m = m} {b = b} o es list = with_current_at o (λ m r. popped m r.ent
 pub returned_linked : {t m s : ℕ} {es : List Entry} {b : Book} → Linked t m s es b → book_after t b Returned ≡ Some (unlink m s es Lost b)
 returned_linked {m = m} {b = b} l = with_current_at l.owned (λ m r. returned m r.entries b) ∙ ap (λ es. returned m es b) l.entries
 
-pub returned_plain : {t m : ℕ} {b : Book} → Owned t m b → (e : Entry) (es : List Entry) → (region b m).entries ≡ e ∷ es → e ≢ Frame → ((s : ℕ) → is_previous s e ≡ false) → book_after t b Returned ≡ Some (relist m es b)
+pub returned_plain : {t m : ℕ} {b : Book} → Owned t m b → (e : Entry) (es : List Entry) → (region b m).entries ≡ e ∷ es → e ≢ Frame → ((s : ℕ) → is_previous s e ≡ false) →
+    book_after t b Returned ≡ Some (relist m es b)
 returned_plain {m = m} {b = b} o (Call x) es list n l = with_current_at o (λ m r. returned m r.entries b) ∙ ap (λ es. returned m es b) list
 returned_plain {m = m} {b = b} o (Restorer x) es list n l = with_current_at o (λ m r. returned m r.entries b) ∙ ap (λ es. returned m es b) list
 returned_plain {m = m} {b = b} o Frame es list n l = absurd (n refl)
@@ -118,12 +122,14 @@ claimed_way t start pages maker b c = if_true _ _ (grind (arith, nat_tests))
 maker-true : (t : ℕ) (h : Holder) → h ≡ Maker t → is_maker t h ≡ true
 maker-true t h e = ap (is_maker t) e ∙ grind (arith, nat_tests)
 
-pub seeded_way : {t s : ℕ} {b : Book} → Made t s b → (n start : ℕ) → (region b s).start ≡ start → (region b s).start + 8 * n + 8 ≤ (region b s).end → book_after t b (Seeded start n) ≡ Some (hand s (replicate n Blank) Parked b)
+pub seeded_way : {t s : ℕ} {b : Book} → Made t s b → (n start : ℕ) → (region b s).start ≡ start → (region b s).start + 8 * n + 8 ≤ (region b s).end →
+    book_after t b (Seeded start n) ≡ Some (hand s (replicate n Blank) Parked b)
 seeded_way {t = t} {s = s} {b = b} m n start at room =
     let found : starting_at start b ≡ s = starting_at_is start b s m.shape (made_there m) at in
     rw found (if_true _ _ (let a = maker-true t (region b s).holder m.maker in let c = has_room (region b s) n room in rw (a, c)))
 
-pub born_way : {t s : ℕ} {b : Book} → Made t s b → (child start : ℕ) → (region b s).start ≡ start → length b.regions ≤ current_of child b → book_after t b (Born child start) ≡ Some (hand s (region b s).entries (Current child) b)
+pub born_way : {t s : ℕ} {b : Book} → Made t s b → (child start : ℕ) → (region b s).start ≡ start → length b.regions ≤ current_of child b →
+    book_after t b (Born child start) ≡ Some (hand s (region b s).entries (Current child) b)
 born_way {t = t} {s = s} {b = b} m child start at none =
     let found : starting_at start b ≡ s = starting_at_is start b s m.shape (made_there m) at in
     let passed : nat_le (length b.regions) (current_of child b) ≡ true = grind (arith, nat_tests) in

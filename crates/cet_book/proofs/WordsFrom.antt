@@ -15,10 +15,12 @@ unfolding words_from
 words_none words from count at l = let e : count - at ≡ 0 = omega arith in rw e refl
 
 -- one word more was read
-pub read_more : (start list all : List ℕ) (from count at value : ℕ) → at < count → value ≡ slot_word start (from + 8 * at) → list ++ words_from start (from + 8 * at) (count - at) ≡ all → (list ++ value ∷ []) ++ words_from start (from + 8 * (at + 1)) (count - (at + 1)) ≡ all
+pub read_more : (start list all : List ℕ) (from count at value : ℕ) → at < count → value ≡ slot_word start (from + 8 * at) → list ++ words_from start (from + 8 * at) (count - at) ≡ all →
+    (list ++ value ∷ []) ++ words_from start (from + 8 * (at + 1)) (count - (at + 1)) ≡ all
 read_more start list all from count at value l v e =
     let more = words_more start from count at l in
-    let whole : list ++ (value ∷ words_from start (from + 8 * (at + 1)) (count - (at + 1))) ≡ all = ap (λ x. list ++ (x ∷ words_from start (from + 8 * (at + 1)) (count - (at + 1)))) v ∙ ap (λ rest. list ++ rest) (sym more) ∙ e in
+    let whole : list ++ (value ∷ words_from start (from + 8 * (at + 1)) (count - (at + 1))) ≡ all = ap (λ x. list ++ (x ∷ words_from start (from + 8 * (at + 1)) (count - (at + 1)))) v ∙
+    ap (λ rest. list ++ rest) (sym more) ∙ e in
     rw append_assoc whole
 
 pub read_all : (start list all : List ℕ) (from count at : ℕ) → count ≤ at → list ++ words_from start (from + 8 * at) (count - at) ≡ all → list ≡ all

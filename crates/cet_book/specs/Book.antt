@@ -1,7 +1,8 @@
 -- The book of shadow stacks: lists of entries with their holders, and what each change makes of them. Source: Intel SDM
 -- volume 1, chapter on CET, as lists (no words, token bits, page entries or exchanges); own for makers and blanks.
 use Rattle.std.proofs.Common.{zero, suc}
-use Rattle.std.specs.Prelude.{ℕ, ◌+◌, ◌-◌, ◌*◌, ◌/◌, ◌%◌, Bool, true, false, ◌&&◌, ◌==◌, nat_lt, nat_le, if◌then◌else◌, List, [], ◌∷◌, ◌++◌, length, replicate, slice_index_or, slice_set, Option, Some, None, option_and_then}
+use Rattle.std.specs.Prelude.{ℕ, ◌+◌, ◌-◌, ◌*◌, ◌/◌, ◌%◌, Bool, true, false, ◌&&◌, ◌==◌, nat_lt, nat_le, if◌then◌else◌, List, [], ◌∷◌}
+use Rattle.std.specs.Prelude.{◌++◌, length, replicate, slice_index_or, slice_set, Option, Some, None, option_and_then}
 use Rattle.std.specs.List.{position_or_len}
 use Rattle.cet_words.specs.Layout.{first_region_end, first_region_start, shadow_start, last_region_end, most_stack_pages}
 use Rattle.cet_book.specs.declared.entries.Entry.{Entry}

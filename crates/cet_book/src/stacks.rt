@@ -1,7 +1,8 @@
 //! A shadow stack of the book, and what is asked of one among several and done to it.
 
 ghost use Rattle.std.specs.List.{position_or_len};
-ghost use Rattle.std.specs.Prelude.{◌≡◌, ◌≢◌, ℕ, Option, ◌+◌, ◌*◌, ◌^◌, ◌≤◌, ◌<◌, ◌-◌, nat_le, nat_lt, reverse, replicate, [], ◌∷◌, ◌++◌, length, OnOk, OnErr, true, List, slice_get, slice_set, slice_index_or, drop};
+ghost use Rattle.std.specs.Prelude.{◌≡◌, ◌≢◌, ℕ, Option, ◌+◌, ◌*◌, ◌^◌, ◌≤◌, ◌<◌, ◌-◌, nat_le, nat_lt, reverse};
+ghost use Rattle.std.specs.Prelude.{replicate, [], ◌∷◌, ◌++◌, length, OnOk, OnErr, true, List, slice_get, slice_set, slice_index_or, drop};
 ghost use Rattle.cet_book.specs.Book.{top, capacity, with_entry, nowhere, is_current, is_maker, has_token, last_end};
 ghost use Rattle.cet_book.specs.Events.{book_of};
 ghost use Rattle.cet_book.specs.Latest.{IsListed};

@@ -97,7 +97,9 @@ fn take(stacks: &mut [Stack], thread: u8, at: usize, taken: usize) -> Result<(),
     requires few { length stacks.old < 2 ^ 32 }
     requires apart { at ≢ taken }
     requires room { nat_le (length (slice_index_or stacks.old taken nowhere).entries + 1) (capacity (slice_index_or stacks.old taken nowhere)) ≡ true }
-    ensures ok { OnOk result (stacks.new ≡ slice_set (slice_set stacks.old at (record (slice_index_or stacks.old at nowhere) { holder = Left taken })) taken (record (slice_index_or stacks.old taken nowhere) { entries = Previous at ∷ (slice_index_or stacks.old taken nowhere).entries; holder = Current thread })) }
+    ensures ok { let left = record (slice_index_or stacks.old at nowhere) { holder = Left taken } in
+        let found = slice_index_or stacks.old taken nowhere in
+        OnOk result (stacks.new ≡ slice_set (slice_set stacks.old at left) taken (record found { entries = Previous at ∷ found.entries; holder = Current thread })) }
     ensures err { OnErr result (stacks.new ≡ stacks.old) }
 {
     put_entry(stacks, taken, Entry::Previous(at as u32))?;

@@ -1,5 +1,6 @@
 -- The gate's accesses keep words and holders in step, whoever makes them. Source: own.
-use Rattle.std.proofs.Common.{◌≡◌, ◌≢◌, ℕ, ◌+◌, ◌-◌, ◌*◌, ◌<◌, inl, inr, Bool, true, false, List, [], ◌∷◌, length, Option, Some, None, refl, sym, ◌∙◌, ap, subst, arith, get_or-set_other, get_or-set_same, length-set}
+use Rattle.std.proofs.Common.{◌≡◌, ◌≢◌, ℕ, ◌+◌, ◌-◌, ◌*◌, ◌<◌, inl, inr, Bool, true, false, List, [], ◌∷◌, length, Option, Some, None}
+use Rattle.std.proofs.Common.{refl, sym, ◌∙◌, ap, subst, arith, get_or-set_other, get_or-set_same, length-set}
 use Rattle.std.specs.Prelude.{◌↔◌, ◌==◌, if◌then◌else◌, nat_lt, slice_index, slice_set}
 use Rattle.std.proofs.lemmas.Bool.Decides.{eqb_tells, nat_tests}
 use Rattle.cet_words.specs.Access.{answer, after}
@@ -38,7 +39,8 @@ below_kept : (words now : List ℕ) (k : ℕ) (h : Option Holding) → slice_ind
 below_kept words now k None e b = tt
 below_kept words now k (Some h) e b = λ s. e ∙ b s
 
-tells_kept : (words now : List ℕ) (k : ℕ) (h : Option Holding) → slice_index now (token_word k) ≡ slice_index words (token_word k) → slice_index now (token_word k - 1) ≡ slice_index words (token_word k - 1) → TellsOf words k h → TellsOf now k h
+tells_kept : (words now : List ℕ) (k : ℕ) (h : Option Holding) → slice_index now (token_word k) ≡ slice_index words (token_word k) →
+    slice_index now (token_word k - 1) ≡ slice_index words (token_word k - 1) → TellsOf words k h → TellsOf now k h
 tells_kept words now k h e f t = (e ∙ t.0, below_kept words now k h f t.1)
 
 -- one stack gets this holder, and the others keep theirs

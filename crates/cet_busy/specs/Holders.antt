@@ -113,7 +113,8 @@ pub record Did : Type 0 where
 abbrev pub Holds : List ℕ → Holders → List Did → Type 0
 Holds words holders [] = Told words holders
 Holds words holders (d ∷ ds) =
-    Told words holders × (d.stack < 8 → May d.thread d.stack words holders d.doing → Finds d.stack holders d.doing (answer words (access_of d.stack d.doing)) × Holds (after words (access_of d.stack d.doing)) (holders_after d.thread d.stack d.doing (answer words (access_of d.stack d.doing)) holders) ds)
+    Told words holders × (d.stack < 8 → May d.thread d.stack words holders d.doing → Finds d.stack holders d.doing (answer words (access_of d.stack d.doing)) ×
+    Holds (after words (access_of d.stack d.doing)) (holders_after d.thread d.stack d.doing (answer words (access_of d.stack d.doing)) holders) ds)
 
 pub record HeldStacks : Type 0 where
   -- from the words of a start, when no stack has a holder

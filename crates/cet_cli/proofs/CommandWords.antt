@@ -147,7 +147,8 @@ made_is row all at r choices l f m operands given line =
     ap (λ (x : Reader CommandName OptionName Choices). x.kept) same ∙ led.kept_are
 
 -- no line goes on where the reader stops
-pub made_stops : (row : Row) (all : List (List ℕ)) (at : ℕ) (word : List ℕ) (r : Reading) (choices other : Choices) → IsAmong row commands → slice_get all at ≡ Some word → Made row (take at all) r choices → None ≡ step forget r word
+pub made_stops : (row : Row) (all : List (List ℕ)) (at : ℕ) (word : List ℕ) (r : Reading) (choices other : Choices) → IsAmong row commands → slice_get all at ≡ Some word →
+    Made row (take at all) r choices → None ≡ step forget r word
     → (operands : List (List ℕ)) (given : List (Given OptionName)) → IsLine row operands given (row.word ∷ all) → other ≡ choices_of given
 made_stops row all at word r choices other m here f e operands given line =
     absurd ((so_far_stops row all at word r m here f.far e).refused (to_command (row.word ∷ all) (record { row = row; among = m; operands = operands; given = given; line = line })))

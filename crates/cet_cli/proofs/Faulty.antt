@@ -35,7 +35,8 @@ module _ (Accepted : List (List ℕ) → Type 0) where
   }
 
 -- the same by another name of the accepted lists
-pub faulty_same_lists : (A B : List (List ℕ) → Type 0) (words : List (List ℕ)) (number : ℕ) → ((l : List (List ℕ)) → A l → B l) → ((l : List (List ℕ)) → B l → A l) → FaultyWord A words number → FaultyWord B words number
+pub faulty_same_lists : (A B : List (List ℕ) → Type 0) (words : List (List ℕ)) (number : ℕ) → ((l : List (List ℕ)) → A l → B l) → ((l : List (List ℕ)) → B l → A l) → FaultyWord A words number →
+    FaultyWord B words number
 faulty_same_lists A B words number to from f = record {
   refused = λ is. f.refused (from words is);
   before = λ n l. (let b = f.before n l in (b.0, to _ b.1));

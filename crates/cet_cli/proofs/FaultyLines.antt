@@ -50,7 +50,8 @@ module _ {C O S : Type 0} (keep : S → Given O → S) (table : List (CommandRow
       steps_append keep (start row kept) ws g.words ∙ ap (option_and_then (λ x. steps keep x g.words)) e ∙ g.read in
       (g.words, read_accepted row (ws ++ g.words) g.last m all g.ends)
 
-  not_read : (row : CommandRow C O) (ws : List (List ℕ)) (w : List ℕ) (r : Reader C O S) → IsAmong row table → steps keep (start row kept) ws ≡ Some r → step keep r w ≡ None → Begins (IsIn table) (row.word ∷ (ws ++ w ∷ [])) → ⊥
+  not_read : (row : CommandRow C O) (ws : List (List ℕ)) (w : List ℕ) (r : Reader C O S) → IsAmong row table → steps keep (start row kept) ws ≡ Some r → step keep r w ≡ None →
+      Begins (IsIn table) (row.word ∷ (ws ++ w ∷ [])) → ⊥
   not_read row ws w r m e none (rest, is) =
       let a = accepted_read row ((ws ++ w ∷ []) ++ rest) m is in
       let split : steps keep (start row kept) (ws ++ w ∷ rest) ≡ option_and_then (λ x. steps keep x (w ∷ rest)) (steps keep (start row kept) ws) =

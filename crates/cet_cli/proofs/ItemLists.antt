@@ -1,5 +1,6 @@
 -- The items of a list, one after another, and the parts of an item.
-use Rattle.std.proofs.Common.{ℕ, ◌+◌, ◌-◌, ◌<◌, ◌≤◌, ◌≡◌, Bool, true, false, List, [], ◌∷◌, ◌++◌, length, drop, get_or, Option, Some, None, refl, sym, ap, ◌∙◌, subst, inl, inr, arith, append_assoc, suc, lit<}
+use Rattle.std.proofs.Common.{ℕ, ◌+◌, ◌-◌, ◌<◌, ◌≤◌, ◌≡◌, Bool, true, false, List, [], ◌∷◌, ◌++◌, length, drop, get_or, Option}
+use Rattle.std.proofs.Common.{Some, None, refl, sym, ap, ◌∙◌, subst, inl, inr, arith, append_assoc, suc, lit<}
 use Rattle.std.specs.Prelude.{◌==◌, ◌&&◌, nat_le, nat_lt, if◌then◌else◌, is_some, option_map, option_and_then, replicate}
 use Rattle.std.specs.List.{slice_split, onto_first}
 use Rattle.std.proofs.lemmas.Bool.Decides.{eqb_tells, nat_tests}
@@ -134,7 +135,8 @@ module _ {A : Type 0} (read : List ℕ → Option A) where
       ∙ one_more (nat_lt 0 room) (nat_le (length is) (room - 1)) (read i) (each_of read is)
       ∙ ap (λ (b : Bool). (nat_lt 0 room && is_some (read i)) && b) (listed_read (room - 1) is)
 
-  pub read_on : (all : List (List ℕ)) (n room : ℕ) (item : List ℕ) → (n < length all) × (item ≡ get_or all n item) → 0 < room → is_some (read item) ≡ true → all_read room (drop n all) ≡ all_read (room - 1) (drop (n + 1) all)
+  pub read_on : (all : List (List ℕ)) (n room : ℕ) (item : List ℕ) → (n < length all) × (item ≡ get_or all n item) → 0 < room → is_some (read item) ≡ true →
+      all_read room (drop n all) ≡ all_read (room - 1) (drop (n + 1) all)
   read_on all n room item t h e =
       let l : nat_lt 0 room ≡ true = grind (arith, nat_tests) in
       at_item (all_read room) all n item t ∙ (rw (l, e) refl)

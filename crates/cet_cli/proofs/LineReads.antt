@@ -41,7 +41,8 @@ module _ {C O S : Type 0} (keep : S → Given O → S) where
 
   -- ---- lines are read
 
-  spelled_read : (row : CommandRow C O) (good : GoodRow row) (o : OptionRow O) (v : Option Value) (value : List ℕ) (words : List (List ℕ)) (filled : List Bool) (kept : S) → IsAmong o row.options → is_open filled o.part ≡ true → o.value ≡ v → IsSpelled o.word v value words
+  spelled_read : (row : CommandRow C O) (good : GoodRow row) (o : OptionRow O) (v : Option Value) (value : List ℕ) (words : List (List ℕ)) (filled : List Bool) (kept : S) → IsAmong o row.options →
+      is_open filled o.part ≡ true → o.value ≡ v → IsSpelled o.word v value words
       → steps keep (at row [] filled kept) words ≡ Some (at row [] (slice_set filled o.part true) (keep kept (record { option = o; value = value })))
   spelled_read row good o None value words filled kept m free q (none, is) =
       let sign = (good.option o m).sign in
@@ -54,7 +55,8 @@ module _ {C O S : Type 0} (keep : S → Given O → S) where
       let word : o.word ++ codes "=" ++ value ≡ o.word ++ 61 ∷ value = append_assoc o.word (codes "=") value in
       rw (one, word, front_joined equals o.word value sign, back_joined equals o.word value sign, good.one o m, free, q, right) refl
 
-  option_read : (row : CommandRow C O) (good : GoodRow row) (g : Given O) (words : List (List ℕ)) (filled : List Bool) (kept : S) → IsAmong g.option row.options → is_open filled g.option.part ≡ true → IsSpelled g.option.word g.option.value g.value words
+  option_read : (row : CommandRow C O) (good : GoodRow row) (g : Given O) (words : List (List ℕ)) (filled : List Bool) (kept : S) → IsAmong g.option row.options → is_open filled g.option.part ≡ true →
+      IsSpelled g.option.word g.option.value g.value words
       → steps keep (at row [] filled kept) words ≡ Some (at row [] (slice_set filled g.option.part true) (keep kept g))
   option_read row good g words filled kept m free is = spelled_read row good g.option g.option.value g.value words filled kept m free refl is
 
@@ -122,7 +124,8 @@ module _ {C O S : Type 0} (keep : S → Given O → S) where
   RestOf row r ws = RestBy row r.wants r.operands r.filled ws
 
   -- with an option in front
-  rest_option : (row : CommandRow C O) (filled : List Bool) (o : OptionRow O) (value : List ℕ) (first ws : List (List ℕ)) → IsAmong o row.options → is_open filled o.part ≡ true → IsSpelled o.word o.value value first → Rest row [] (slice_set filled o.part true) ws → Rest row [] filled (first ++ ws)
+  rest_option : (row : CommandRow C O) (filled : List Bool) (o : OptionRow O) (value : List ℕ) (first ws : List (List ℕ)) → IsAmong o row.options → is_open filled o.part ≡ true →
+      IsSpelled o.word o.value value first → Rest row [] (slice_set filled o.part true) ws → Rest row [] filled (first ++ ws)
   rest_option row filled o value first ws m free is rest =
       let g : Given O = record { option = o; value = value } in
       let before = open_before filled o.part rest.given rest.free in
@@ -182,7 +185,8 @@ module _ {C O S : Type 0} (keep : S → Given O → S) where
   value_needed row r o h n = (subst (WantsRight keep row r.operands r.filled) n h.wants).0
 
   -- the rest after an option was filled
-  after_filled : (row : CommandRow C O) (r next : Reader C O S) (o : OptionRow O) (w : List ℕ) (ws : List (List ℕ)) → r.operands ≡ [] → next ≡ filled_by keep r o w → RestOf row next ws → Rest row [] (slice_set r.filled o.part true) ws
+  after_filled : (row : CommandRow C O) (r next : Reader C O S) (o : OptionRow O) (w : List ℕ) (ws : List (List ℕ)) → r.operands ≡ [] → next ≡ filled_by keep r o w → RestOf row next ws →
+      Rest row [] (slice_set r.filled o.part true) ws
   after_filled row r next o w ws p e rest =
       let here : RestOf row (filled_by keep r o w) ws = subst (λ x. RestOf row x ws) e rest in
       subst (λ vs. Rest row vs (slice_set r.filled o.part true) ws) p here
@@ -229,7 +233,8 @@ module _ {C O S : Type 0} (keep : S → Given O → S) where
     pub given : List (Given O)
     pub line : IsLine row operands given words
 
-  pub read_line : (row : CommandRow C O) (kept : S) (tail : List (List ℕ)) (last : Reader C O S) → Valid keep row (start row kept) → steps keep (start row kept) tail ≡ Some last → may_end last ≡ true → Line row (row.word ∷ tail)
+  pub read_line : (row : CommandRow C O) (kept : S) (tail : List (List ℕ)) (last : Reader C O S) → Valid keep row (start row kept) → steps keep (start row kept) tail ≡ Some last →
+      may_end last ≡ true → Line row (row.word ∷ tail)
   read_line row kept tail last h e m =
       let rest : Rest row row.operands none_filled tail = rest_read row tail (start row kept) last h e m in
       record {
@@ -263,7 +268,8 @@ module _ {C O S : Type 0} (keep : S → Given O → S) where
     has : list_all (is_filled now) parts ≡ true
     keeps : (q : ℕ) → is_filled filled q ≡ true → is_filled now q ≡ true
 
-  fill_needs : (row : CommandRow C O) (good : GoodRow row) (parts : List ℕ) (filled : List Bool) (kept : S) → Room filled → ((p : ℕ) → IsAmong p parts → (o : OptionRow O) × IsAmong o row.options × (o.part ≡ p)) → Filling row filled kept parts
+  fill_needs : (row : CommandRow C O) (good : GoodRow row) (parts : List ℕ) (filled : List Bool) (kept : S) → Room filled →
+      ((p : ℕ) → IsAmong p parts → (o : OptionRow O) × IsAmong o row.options × (o.part ≡ p)) → Filling row filled kept parts
   fill_needs row good [] filled kept room each = record { words = []; now = filled; kept_now = kept; read = refl; has = refl; keeps = λ q h. h }
   fill_needs row good (p ∷ ps) filled kept room each =
       let at_first = each p (inl refl) in
@@ -307,7 +313,8 @@ module _ {C O S : Type 0} (keep : S → Given O → S) where
       let f = fill_needs row good row.needs filled kept room good.needs in
       record { words = f.words; last = at row [] f.now f.kept_now; read = f.read; ends = f.has }
 
-  state_goes : (row : CommandRow C O) (good : GoodRow row) (wants : Option (OptionRow O)) (vs : List Value) (filled : List Bool) (kept : S) → WantsRight keep row vs filled wants → good_values vs ≡ true → Room filled → GoesOn (record { row = row; operands = vs; wants = wants; filled = filled; kept = kept })
+  state_goes : (row : CommandRow C O) (good : GoodRow row) (wants : Option (OptionRow O)) (vs : List Value) (filled : List Bool) (kept : S) → WantsRight keep row vs filled wants →
+      good_values vs ≡ true → Room filled → GoesOn (record { row = row; operands = vs; wants = wants; filled = filled; kept = kept })
   state_goes row good None vs filled kept w h room =
       then_goes (at row vs filled kept) (at row [] filled kept) (map example vs)
       (operands_read row vs (map example vs) filled kept (examples_fit vs h))

@@ -53,7 +53,8 @@ all_among p (r ∷ rs) o h m =
     elim m [ inl e ↦ ap p e ∙ q.0 | inr more ↦ all_among p rs o q.1 more ]
 
 -- a row with which a test comes out true
-this_or_more : {A : Type 0} (p : A → Bool) (r : A) (rs : List A) (b : Bool) → p r ≡ b → (b || list_any p rs) ≡ true → (list_any p rs ≡ true → (o : A) × IsAmong o rs × (p o ≡ true)) → (o : A) × IsAmong o (r ∷ rs) × (p o ≡ true)
+this_or_more : {A : Type 0} (p : A → Bool) (r : A) (rs : List A) (b : Bool) → p r ≡ b → (b || list_any p rs) ≡ true → (list_any p rs ≡ true → (o : A) × IsAmong o rs × (p o ≡ true)) →
+    (o : A) × IsAmong o (r ∷ rs) × (p o ≡ true)
 this_or_more p r rs true q e more = (r, inl refl, q)
 this_or_more p r rs false q e more = (let m = more e in (m.0, inr m.1, m.2))
 

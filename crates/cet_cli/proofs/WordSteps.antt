@@ -45,9 +45,11 @@ module _ {C O S : Type 0} (keep : S → Given O → S) where
     -- an option without a value
     alone : (o : OptionRow O) → r.wants ≡ None → r.operands ≡ [] → IsAmong o r.row.options → is_open r.filled o.part ≡ true → o.value ≡ None → w ≡ o.word → next ≡ filled_by keep r o [] → Stepped r w next
     -- an option whose value is to come
-    begins : (o : OptionRow O) (v : Value) → r.wants ≡ None → r.operands ≡ [] → IsAmong o r.row.options → is_open r.filled o.part ≡ true → o.value ≡ Some v → w ≡ o.word → next ≡ record r { wants = Some o } → Stepped r w next
+    begins : (o : OptionRow O) (v : Value) → r.wants ≡ None → r.operands ≡ [] → IsAmong o r.row.options → is_open r.filled o.part ≡ true → o.value ≡ Some v → w ≡ o.word →
+        next ≡ record r { wants = Some o } → Stepped r w next
     -- an option with its value behind `=`
-    joined : (o : OptionRow O) (v : Value) (text : List ℕ) → r.wants ≡ None → r.operands ≡ [] → IsAmong o r.row.options → is_open r.filled o.part ≡ true → o.value ≡ Some v → fits v text ≡ true → w ≡ o.word ++ codes "=" ++ text → next ≡ filled_by keep r o text → Stepped r w next
+    joined : (o : OptionRow O) (v : Value) (text : List ℕ) → r.wants ≡ None → r.operands ≡ [] → IsAmong o r.row.options → is_open r.filled o.part ≡ true → o.value ≡ Some v → fits v text ≡ true →
+        w ≡ o.word ++ codes "=" ++ text → next ≡ filled_by keep r o text → Stepped r w next
 
   value_taken : (r next : Reader C O S) (o : OptionRow O) (value : Option Value) (w : List ℕ) → value_step keep r o value w ≡ Some next → (v : Value) × (value ≡ Some v) × (fits v w ≡ true) × (next ≡ filled_by keep r o w)
   value_taken r next o None w e = cc
@@ -57,7 +59,8 @@ module _ {C O S : Type 0} (keep : S → Given O → S) where
   if_taken true x next e = (refl, e)
   if_taken false x next e = cc
 
-  option_taken : (r next : Reader C O S) (w : List ℕ) (o : OptionRow O) (value : Option Value) (text : Option (List ℕ)) → r.wants ≡ None → r.operands ≡ [] → IsAmong o r.row.options → is_open r.filled o.part ≡ true → o.word ≡ front equals w → o.value ≡ value → back equals w ≡ text → option_begins keep r o value text ≡ Some next → Stepped r w next
+  option_taken : (r next : Reader C O S) (w : List ℕ) (o : OptionRow O) (value : Option Value) (text : Option (List ℕ)) → r.wants ≡ None → r.operands ≡ [] → IsAmong o r.row.options →
+      is_open r.filled o.part ≡ true → o.word ≡ front equals w → o.value ≡ value → back equals w ≡ text → option_begins keep r o value text ≡ Some next → Stepped r w next
   option_taken r next w o None None n p m free word q b e = (let same : filled_by keep r o [] ≡ next = cc in alone o n p m free q (sym (word ∙ whole_word equals w b)) (sym same))
   option_taken r next w o None (Some text) n p m free word q b e = cc
   option_taken r next w o (Some v) None n p m free word q b e =
@@ -70,7 +73,8 @@ module _ {C O S : Type 0} (keep : S → Given O → S) where
       let whole : w ≡ o.word ++ codes "=" ++ text = parted_word equals w text b ∙ ap (λ (f : List ℕ). f ++ 61 ∷ text) (sym word) ∙ sym (append_assoc o.word (codes "=") text) in
       joined o v text n p m free q (subst (λ (x : Value). fits x text ≡ true) v_is t.2) whole t.3
 
-  option_word : (r next : Reader C O S) (w : List ℕ) (found : Option (OptionRow O)) → r.wants ≡ None → r.operands ≡ [] → find_option r.row.options (front equals w) ≡ found → option_by keep r found (back equals w) ≡ Some next → Stepped r w next
+  option_word : (r next : Reader C O S) (w : List ℕ) (found : Option (OptionRow O)) → r.wants ≡ None → r.operands ≡ [] → find_option r.row.options (front equals w) ≡ found →
+      option_by keep r found (back equals w) ≡ Some next → Stepped r w next
   option_word r next w None n p f e = cc
   option_word r next w (Some o) n p f e =
       let a = option_found r.row.options (front equals w) o f in

@@ -173,7 +173,8 @@ clear_or_set b l e = agree_below_at (λ b. has clear_rex b || has set_rex b) (λ
 
 -- ---- the rows of an opcode read what all rows read
 
-opcode_plain : (prefix : Option ℕ) (escaped : Bool) (b : ℕ) (bytes : List ℕ) → Known prefix → b < 256 → no_opcode_here prefix escaped b ≡ false → chosen_at FORMS (numbers_by prefix escaped b) 0 b bytes ≡ any_at forms (prefixed prefix (escaped_by escaped (b ∷ bytes)))
+opcode_plain : (prefix : Option ℕ) (escaped : Bool) (b : ℕ) (bytes : List ℕ) → Known prefix → b < 256 → no_opcode_here prefix escaped b ≡ false →
+    chosen_at FORMS (numbers_by prefix escaped b) 0 b bytes ≡ any_at forms (prefixed prefix (escaped_by escaped (b ∷ bytes)))
 opcode_plain prefix escaped b bytes known l n =
     let here = behind prefix (chain escaped b) in
     let numbers = numbers_by prefix escaped b in
@@ -185,7 +186,8 @@ opcode_plain prefix escaped b bytes known l n =
     ∙ sym (led_is here prefix NoRex escaped 0 b bytes bytes FORMS numbers (omega arith) refl runs fits.0)
     ∙ by_numbers here whole bytes FORMS 0 FORMS numbers refl (past_or (no_opcode_here prefix escaped b) _ p.plain n) runs
 
-opcode_rexed : (prefix : Option ℕ) (escaped : Bool) (rex b : ℕ) (bytes : List ℕ) → Known prefix → rex < 256 → rex / 16 ≡ 4 → b < 256 → no_opcode escaped b ≡ false → chosen_at FORMS (numbers_by prefix escaped b) rex b bytes ≡ any_at forms (prefixed prefix (rex ∷ escaped_by escaped (b ∷ bytes)))
+opcode_rexed : (prefix : Option ℕ) (escaped : Bool) (rex b : ℕ) (bytes : List ℕ) → Known prefix → rex < 256 → rex / 16 ≡ 4 → b < 256 → no_opcode escaped b ≡ false →
+    chosen_at FORMS (numbers_by prefix escaped b) rex b bytes ≡ any_at forms (prefixed prefix (rex ∷ escaped_by escaped (b ∷ bytes)))
 opcode_rexed prefix escaped rex b bytes known r q l n =
     sym (chosen_is FORMS (numbers_by prefix escaped b) rex b bytes p.alone)
     ∙ sym by_kind
@@ -230,24 +232,28 @@ past_rex prefix rex (b ∷ bytes) x known r q fits e = go (eqb b 0x0f) refl e
   where
     after : (rest : List ℕ) → IsBytes rest → b ≡ 0x0f → behind_escape prefix rex rest ≡ Some x → Leads x (prefixed prefix (rex ∷ b ∷ rest))
     after [] fits same e = absurd cc
-    after (c ∷ rest) fits same e = subst (λ (k : ℕ). Leads x (prefixed prefix (rex ∷ k ∷ c ∷ rest))) (sym same) (same_lead (lead prefix rex true c rest) x (prefixed prefix (rex ∷ 0x0f ∷ c ∷ rest)) (opcode_rexed prefix true rex c rest known r q fits.0 refl) e)
+    after (c ∷ rest) fits same e = subst (λ (k : ℕ). Leads x (prefixed prefix (rex ∷ k ∷ c ∷ rest))) (sym same)
+        (same_lead (lead prefix rex true c rest) x (prefixed prefix (rex ∷ 0x0f ∷ c ∷ rest)) (opcode_rexed prefix true rex c rest known r q fits.0 refl) e)
 
     go : (t : Bool) → eqb b 0x0f ≡ t → cond t (behind_escape prefix rex bytes) (Some (lead prefix rex false b bytes)) ≡ Some x → Leads x (prefixed prefix (rex ∷ b ∷ bytes))
     go true h e = after bytes fits.1 (eqb-true b 0x0f h) e
     go false h e = same_lead (lead prefix rex false b bytes) x (prefixed prefix (rex ∷ b ∷ bytes)) (opcode_rexed prefix false rex b bytes known r q fits.0 h) e
 
-past_none : (prefix : Option ℕ) (b : ℕ) (bytes : List ℕ) (x : LeadData) → Known prefix → b < 256 → stops prefix b ≡ false → eqb (b / 16) 4 ≡ false → IsBytes bytes → behind_rex prefix 0 (b ∷ bytes) ≡ Some x → Leads x (prefixed prefix (b ∷ bytes))
+past_none : (prefix : Option ℕ) (b : ℕ) (bytes : List ℕ) (x : LeadData) → Known prefix → b < 256 → stops prefix b ≡ false → eqb (b / 16) 4 ≡ false → IsBytes bytes →
+    behind_rex prefix 0 (b ∷ bytes) ≡ Some x → Leads x (prefixed prefix (b ∷ bytes))
 past_none prefix b bytes x known l n q fits e = go (eqb b 0x0f) refl e
   where
     after : (rest : List ℕ) → IsBytes rest → b ≡ 0x0f → behind_escape prefix 0 rest ≡ Some x → Leads x (prefixed prefix (b ∷ rest))
     after [] fits same e = absurd cc
-    after (c ∷ rest) fits same e = subst (λ (k : ℕ). Leads x (prefixed prefix (k ∷ c ∷ rest))) (sym same) (same_lead (lead prefix 0 true c rest) x (prefixed prefix (0x0f ∷ c ∷ rest)) (opcode_plain prefix true c rest known fits.0 refl) e)
+    after (c ∷ rest) fits same e = subst (λ (k : ℕ). Leads x (prefixed prefix (k ∷ c ∷ rest))) (sym same)
+        (same_lead (lead prefix 0 true c rest) x (prefixed prefix (0x0f ∷ c ∷ rest)) (opcode_plain prefix true c rest known fits.0 refl) e)
 
     go : (t : Bool) → eqb b 0x0f ≡ t → cond t (behind_escape prefix 0 bytes) (Some (lead prefix 0 false b bytes)) ≡ Some x → Leads x (prefixed prefix (b ∷ bytes))
     go true h e = after bytes fits (eqb-true b 0x0f h) e
     go false h e = same_lead (lead prefix 0 false b bytes) x (prefixed prefix (b ∷ bytes)) (opcode_plain prefix false b bytes known l (neither n (neither q h))) e
 
-past_prefix : (prefix : Option ℕ) (b : ℕ) (bytes : List ℕ) (x : LeadData) → Known prefix → stops prefix b ≡ false → IsBytes (b ∷ bytes) → behind_prefix prefix (b ∷ bytes) ≡ Some x → Leads x (prefixed prefix (b ∷ bytes))
+past_prefix : (prefix : Option ℕ) (b : ℕ) (bytes : List ℕ) (x : LeadData) → Known prefix → stops prefix b ≡ false → IsBytes (b ∷ bytes) → behind_prefix prefix (b ∷ bytes) ≡ Some x →
+    Leads x (prefixed prefix (b ∷ bytes))
 past_prefix prefix b bytes x known n fits e = go (eqb (b / 16) 4) refl e
   where
     go : (t : Bool) → eqb (b / 16) 4 ≡ t → cond t (behind_rex prefix b bytes) (behind_rex prefix 0 (b ∷ bytes)) ≡ Some x → Leads x (prefixed prefix (b ∷ bytes))

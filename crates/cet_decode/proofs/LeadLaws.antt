@@ -1,5 +1,6 @@
 -- A row whose first bytes stand there reads on behind its opcode, by the REX prefix that stands there alone.
-use Rattle.std.proofs.Common.{◌≡◌, ℕ, ◌/◌, ◌%◌, ◌<◌, Bool, true, false, not, ◌&&◌, ◌||◌, cond, eqb, List, [], ◌∷◌, Option, Some, None, Result, Ok, Err, refl, sym, ap, ◌∙◌, ◌⊎◌, inl, inr, pos, arith, take, drop, length}
+use Rattle.std.proofs.Common.{◌≡◌, ℕ, ◌/◌, ◌%◌, ◌<◌, Bool, true, false, not, ◌&&◌, ◌||◌, cond, eqb, List, [], ◌∷◌, Option, Some, None}
+use Rattle.std.proofs.Common.{Result, Ok, Err, refl, sym, ap, ◌∙◌, ◌⊎◌, inl, inr, pos, arith, take, drop, length}
 use Rattle.std.specs.Prelude.{slice_get, slice_index}
 use Rattle.std.proofs.lemmas.Bool.{agree_below_at, and_parts, and_cases, or_cases, not-true, le-ltb}
 use Rattle.cet_isa.specs.declared.instructions.Instr.{Instr}
@@ -174,7 +175,8 @@ abbrev second_cell : Option Pattern → ℕ → ℕ
 second_cell None found = 0
 second_cell (Some p) found = found
 
-cells_found : (g : Option Pattern) (op : Pattern) (m : Option Pattern) (found : ℕ) (bytes : List ℕ) → opens g op found ≡ true → cells_at (g ∷ Some op ∷ m ∷ []) (found ∷ bytes) ≡ after_cell (second_cell g found) (last_cells m (opcode_from g op found bytes))
+cells_found : (g : Option Pattern) (op : Pattern) (m : Option Pattern) (found : ℕ) (bytes : List ℕ) → opens g op found ≡ true →
+    cells_at (g ∷ Some op ∷ m ∷ []) (found ∷ bytes) ≡ after_cell (second_cell g found) (last_cells m (opcode_from g op found bytes))
 cells_found None op m found bytes h =
     cells_step None (Some op ∷ m ∷ []) 0 (found ∷ bytes) (found ∷ bytes) (empty_byte None (found ∷ bytes) refl)
     ∙ ap (after_cell 0) (last_places op m (found ∷ bytes) ∙ ap (last_cells m) (full_byte op found bytes h))
@@ -185,7 +187,9 @@ cells_found (Some p) op m found bytes h =
 abbrev all_cells : (first rex escape second : ℕ) → Option Pattern → Result (ℕ × List ℕ) Miss → Result (List ℕ × List ℕ) Miss
 all_cells first rex escape second m opcode = after_cell first (after_cell 0 (after_cell 0 (after_cell rex (after_cell escape (after_cell second (last_cells m opcode))))))
 
-cells_behind : (a b d rx e g : Option Pattern) (op : Pattern) (m : Option Pattern) (first rex cell found : ℕ) (whole behind escape bytes : List ℕ) → byte_at a whole ≡ pair first behind → is_empty b ≡ true → is_empty d ≡ true → byte_at rx behind ≡ pair rex escape → byte_at e escape ≡ pair cell (found ∷ bytes) → opens g op found ≡ true → cells_at (a ∷ b ∷ d ∷ rx ∷ e ∷ g ∷ Some op ∷ m ∷ []) whole ≡ all_cells first rex cell (second_cell g found) m (opcode_from g op found bytes)
+cells_behind : (a b d rx e g : Option Pattern) (op : Pattern) (m : Option Pattern) (first rex cell found : ℕ) (whole behind escape bytes : List ℕ) → byte_at a whole ≡ pair first behind →
+    is_empty b ≡ true → is_empty d ≡ true → byte_at rx behind ≡ pair rex escape → byte_at e escape ≡ pair cell (found ∷ bytes) → opens g op found ≡ true →
+    cells_at (a ∷ b ∷ d ∷ rx ∷ e ∷ g ∷ Some op ∷ m ∷ []) whole ≡ all_cells first rex cell (second_cell g found) m (opcode_from g op found bytes)
 cells_behind a b d rx e g op m first rex cell found whole behind escape bytes ha hb hd hr he ho =
     let at_escape = cells_step e (g ∷ Some op ∷ m ∷ []) cell escape (found ∷ bytes) he ∙ ap (after_cell cell) (cells_found g op m found bytes ho) in
     let at_rex = cells_step rx (e ∷ g ∷ Some op ∷ m ∷ []) rex behind escape hr ∙ ap (after_cell rex) at_escape in
@@ -219,7 +223,8 @@ unfolding operand_at
 same_fields f first rex cell second (Err m) = refl
 same_fields f first rex cell second (Ok x) = at_modrm (byte_at f.modrm x.1)
   where
-    at_modrm : (modrm : Result (ℕ × List ℕ) Miss) → (after_cell first (after_cell 0 (after_cell 0 (after_cell rex (after_cell cell (after_cell second (after_cell x.0 (modrm >>= (λ y. pair (y.0 ∷ []) y.1)))))))) >>= from_cells f) ≡ (modrm >>= from_modrm f rex x.0)
+    at_modrm : (modrm : Result (ℕ × List ℕ) Miss) → (after_cell first (after_cell 0 (after_cell 0
+        (after_cell rex (after_cell cell (after_cell second (after_cell x.0 (modrm >>= (λ y. pair (y.0 ∷ []) y.1)))))))) >>= from_cells f) ≡ (modrm >>= from_modrm f rex x.0)
     at_modrm (Ok y) = refl
     at_modrm (Err m) = refl
 
@@ -231,7 +236,8 @@ behind_as_opcode : (f : table.Form) (rex found : ℕ) (bytes : List ℕ) → row
 unfolding row_behind
 behind_as_opcode f rex found bytes = refl
 
-read_behind : (f : table.Form) (prefix : Option ℕ) (kind : Rex) (escaped : Bool) (rex found : ℕ) (bytes : List ℕ) → RexIs kind rex → begins_so prefix escaped found f ≡ true → read_at f kind (opened prefix kind escaped rex found bytes) ≡ row_behind f rex found bytes
+read_behind : (f : table.Form) (prefix : Option ℕ) (kind : Rex) (escaped : Bool) (rex found : ℕ) (bytes : List ℕ) → RexIs kind rex → begins_so prefix escaped found f ≡ true →
+    read_at f kind (opened prefix kind escaped rex found bytes) ≡ row_behind f rex found bytes
 read_behind f prefix kind escaped rex found bytes h t =
     let a = and_parts (is_first prefix f.first) _ t in
     let b = and_parts (is_empty f.second) _ a.1 in
@@ -243,7 +249,8 @@ read_behind f prefix kind escaped rex found bytes h t =
     let r = first_byte prefix f.first behind a.0 in
     let s = escape_byte escaped f.escape (found ∷ bytes) e.0 in
     let cells = cells_behind f.first f.second f.third (rex_pattern kind) f.escape f.escape2 f.opcode f.modrm r.0 rex s.0 found whole behind escape bytes r.1 b.0 d.0 (rex_byte kind rex escape h) s.1 e.1 in
-    read_as_cells f kind whole ∙ ap (λ (r : Result (List ℕ × List ℕ) Miss). r >>= from_cells f) cells ∙ same_fields f r.0 rex s.0 (second_cell f.escape2 found) (opcode_from f.escape2 f.opcode found bytes) ∙ sym (behind_as_opcode f rex found bytes)
+    read_as_cells f kind whole ∙ ap (λ (r : Result (List ℕ × List ℕ) Miss). r >>= from_cells f) cells ∙
+    same_fields f r.0 rex s.0 (second_cell f.escape2 found) (opcode_from f.escape2 f.opcode found bytes) ∙ sym (behind_as_opcode f rex found bytes)
 
 -- ---- one REX alone
 
@@ -274,7 +281,8 @@ row_one chain SetRex f bytes rest t e =
     let a = and_parts (blocked_by chain f NoRex) (blocked_by chain f ClearRex) t in
     rw (form_blocked chain f NoRex bytes rest a.0 e, form_blocked chain f ClearRex bytes rest a.1 e) (or_differs (form_at f SetRex bytes))
 
-form_led : (f : table.Form) (prefix : Option ℕ) (kind : Rex) (escaped : Bool) (rex opcode : ℕ) (bytes : List ℕ) → rex < 256 → RexIs kind rex → begins_so prefix escaped opcode f ≡ true → form_at f kind (opened prefix kind escaped rex opcode bytes) ≡ row_led f rex opcode bytes
+form_led : (f : table.Form) (prefix : Option ℕ) (kind : Rex) (escaped : Bool) (rex opcode : ℕ) (bytes : List ℕ) → rex < 256 → RexIs kind rex → begins_so prefix escaped opcode f ≡ true →
+    form_at f kind (opened prefix kind escaped rex opcode bytes) ≡ row_led f rex opcode bytes
 unfolding form_at
 form_led f prefix kind escaped rex opcode bytes l h t =
     ap (λ (r : Result (Instr × List ℕ) Miss). cond (allows f.wide kind) r (Err Differs)) (read_behind f prefix kind escaped rex opcode bytes h t)
@@ -292,7 +300,9 @@ fits_all chain prefix kind escaped opcode rows [] = true
 fits_all chain prefix kind escaped opcode rows (k ∷ ks) = fits_one chain prefix kind escaped opcode (slice_get rows k) && fits_all chain prefix kind escaped opcode rows ks
 
 -- so they read what they read behind the opcode
-pub led_is : (chain : List Pattern) (prefix : Option ℕ) (kind : Rex) (escaped : Bool) (rex opcode : ℕ) (bytes rest : List ℕ) (rows : List Form) (ks : List ℕ) → rex < 256 → RexIs kind rex → run chain (opened prefix kind escaped rex opcode bytes) ≡ Ok rest → fits_all chain prefix kind escaped opcode rows ks ≡ true → some_at rows ks (opened prefix kind escaped rex opcode bytes) ≡ led_at rows ks rex opcode bytes
+pub led_is : (chain : List Pattern) (prefix : Option ℕ) (kind : Rex) (escaped : Bool) (rex opcode : ℕ) (bytes rest : List ℕ) (rows : List Form) (ks : List ℕ) → rex < 256 → RexIs kind rex →
+    run chain (opened prefix kind escaped rex opcode bytes) ≡ Ok rest → fits_all chain prefix kind escaped opcode rows ks ≡ true →
+    some_at rows ks (opened prefix kind escaped rex opcode bytes) ≡ led_at rows ks rex opcode bytes
 unfolding some_at led_at
 led_is chain prefix kind escaped rex opcode bytes rest rows [] l h e t = refl
 led_is chain prefix kind escaped rex opcode bytes rest rows (k ∷ ks) l h e t =
@@ -355,7 +365,8 @@ other_byte (Some p) [] e = absurd cc
 other_byte (Some p) (b ∷ bytes) e = ap (λ (t : Bool). cond t (pair b bytes) (Err Differs)) e
 
 -- where the next byte isn't read, nothing is
-missed_next : (g : Option Pattern) (op : Pattern) (m : Option Pattern) (found : ℕ) (bytes : List ℕ) (k : ℕ → ℕ × List ℕ → Result (Instr × List ℕ) Miss) (miss : Miss) → byte_at (next_of g op m) bytes ≡ Err miss → (opcode_from g op found bytes >>= (λ x. byte_at m x.1 >>= k x.0)) ≡ Err miss
+missed_next : (g : Option Pattern) (op : Pattern) (m : Option Pattern) (found : ℕ) (bytes : List ℕ) (k : ℕ → ℕ × List ℕ → Result (Instr × List ℕ) Miss) (miss : Miss) →
+    byte_at (next_of g op m) bytes ≡ Err miss → (opcode_from g op found bytes >>= (λ x. byte_at m x.1 >>= k x.0)) ≡ Err miss
 missed_next None op m found bytes k miss e = ap (λ (r : Result (ℕ × List ℕ) Miss). r >>= k found) e
 missed_next (Some p) op m found bytes k miss e = ap (λ (r : Result (ℕ × List ℕ) Miss). r >>= (λ x. byte_at m x.1 >>= k x.0)) e
 
@@ -420,7 +431,8 @@ both_end f g rex opcode bytes h =
     same false = refl
 
 -- beside a row that takes the bytes, one that is apart from it reads nothing more
-beside : (f : table.Form) (o : Option Form) (rex opcode : ℕ) (bytes : List ℕ) → takes f rex bytes ≡ true → rows_apart f o ≡ true → or_else (row_behind f rex opcode bytes) (maybe_led o rex opcode bytes) ≡ row_behind f rex opcode bytes
+beside : (f : table.Form) (o : Option Form) (rex opcode : ℕ) (bytes : List ℕ) → takes f rex bytes ≡ true → rows_apart f o ≡ true →
+    or_else (row_behind f rex opcode bytes) (maybe_led o rex opcode bytes) ≡ row_behind f rex opcode bytes
 beside f None rex opcode bytes e t = differs_last (row_behind f rex opcode bytes)
 beside f (Some x) rex opcode bytes e t =
     elim (or_cases (wides_apart f (form_view x)) (next_apart (next_in f) (next_in (form_view x))) t) [
@@ -441,7 +453,8 @@ beside f (Some x) rex opcode bytes e t =
     lost true other = other
     lost false other = refl
 
-beside_all : (f : table.Form) (rows : List Form) (ks : List ℕ) (rex opcode : ℕ) (bytes : List ℕ) → takes f rex bytes ≡ true → apart_from_all f rows ks ≡ true → or_else (row_behind f rex opcode bytes) (led_at rows ks rex opcode bytes) ≡ row_behind f rex opcode bytes
+beside_all : (f : table.Form) (rows : List Form) (ks : List ℕ) (rex opcode : ℕ) (bytes : List ℕ) → takes f rex bytes ≡ true → apart_from_all f rows ks ≡ true →
+    or_else (row_behind f rex opcode bytes) (led_at rows ks rex opcode bytes) ≡ row_behind f rex opcode bytes
 unfolding led_at
 beside_all f rows [] rex opcode bytes e t = differs_last (row_behind f rex opcode bytes)
 beside_all f rows (k ∷ ks) rex opcode bytes e t =
@@ -458,7 +471,8 @@ chosen_is rows (k ∷ ks) rex opcode bytes t =
     let a = and_parts (first_apart (slice_get rows k) rows ks) (all_apart rows ks) t in
     go (slice_get rows k) (chosen_is rows ks rex opcode bytes a.1) a.0
   where
-    go : (o : Option Form) → led_at rows ks rex opcode bytes ≡ chosen_at rows ks rex opcode bytes → first_apart o rows ks ≡ true → or_else (maybe_led o rex opcode bytes) (led_at rows ks rex opcode bytes) ≡ read_chosen (or_later (taker o rex bytes) (chosen rows ks rex bytes)) rex opcode bytes
+    go : (o : Option Form) → led_at rows ks rex opcode bytes ≡ chosen_at rows ks rex opcode bytes → first_apart o rows ks ≡ true →
+        or_else (maybe_led o rex opcode bytes) (led_at rows ks rex opcode bytes) ≡ read_chosen (or_later (taker o rex bytes) (chosen rows ks rex bytes)) rex opcode bytes
     go None ih t = or_differs (led_at rows ks rex opcode bytes) ∙ ih
     go (Some x) ih t = step (takes (form_view x) rex bytes) refl
       where

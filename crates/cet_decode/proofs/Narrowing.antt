@@ -1,5 +1,6 @@
 -- Once the first bytes are known, only the rows that may begin so have to be tried.
-use Rattle.std.proofs.Common.{◌≡◌, ℕ, suc, ◌<◌, ◌≤◌, Bool, true, false, not, ◌&&◌, ◌||◌, cond, eqb, List, [], ◌∷◌, length, drop, map, get_or, Option, Some, None, Result, Ok, Err, refl, sym, ap, ◌∙◌, arith}
+use Rattle.std.proofs.Common.{◌≡◌, ℕ, suc, ◌<◌, ◌≤◌, Bool, true, false, not, ◌&&◌, ◌||◌, cond, eqb, List, [], ◌∷◌, length, drop}
+use Rattle.std.proofs.Common.{map, get_or, Option, Some, None, Result, Ok, Err, refl, sym, ap, ◌∙◌, arith}
 use Rattle.std.specs.Prelude.{slice_get, nat_lt, nat_le}
 use Rattle.std.proofs.Math.Seq.{drop-cons}
 use Rattle.std.proofs.lemmas.List.{length-drop}
@@ -78,7 +79,8 @@ past all n k e l = go (slice_get all k) refl
     go (Some f) h = absurd (omega (arith, slice_get_within all k f h, ap length e, length-drop n all))
 
 -- the rows by their numbers read what all rows read
-pub by_numbers : (chain : List Pattern) (bytes rest : List ℕ) (all : List Form) (n : ℕ) (fs : List Form) (ks : List ℕ) → drop n all ≡ fs → names_all chain n fs ks ≡ true → run chain bytes ≡ Ok rest → some_at all ks bytes ≡ any_at (map form_view fs) bytes
+pub by_numbers : (chain : List Pattern) (bytes rest : List ℕ) (all : List Form) (n : ℕ) (fs : List Form) (ks : List ℕ) → drop n all ≡ fs → names_all chain n fs ks ≡ true → run chain bytes ≡ Ok rest →
+    some_at all ks bytes ≡ any_at (map form_view fs) bytes
 unfolding any_at some_at
 by_numbers chain bytes rest all n [] [] d t e = refl
 by_numbers chain bytes rest all n [] (k ∷ ks) d t e =
@@ -92,7 +94,10 @@ by_numbers chain bytes rest all n (f ∷ fs) (k ∷ ks) d t e = go (eqb n k) ref
     w : At all n f fs
     w = at_of all n f fs d
 
-    go : (b : Bool) → eqb n k ≡ b → (names_all chain (suc n) fs ks ≡ true → some_at all ks bytes ≡ any_at (map form_view fs) bytes) → (names_all chain (suc n) fs (k ∷ ks) ≡ true → some_at all (k ∷ ks) bytes ≡ any_at (map form_view fs) bytes) → cond b (names_all chain (suc n) fs ks) (nat_lt n k && (blocked chain f && names_all chain (suc n) fs (k ∷ ks))) ≡ true → or_else (maybe_row_at (slice_get all k) bytes) (some_at all ks bytes) ≡ or_else (row_at (form_view f) bytes) (any_at (map form_view fs) bytes)
+    go : (b : Bool) → eqb n k ≡ b → (names_all chain (suc n) fs ks ≡ true → some_at all ks bytes ≡ any_at (map form_view fs) bytes) →
+        (names_all chain (suc n) fs (k ∷ ks) ≡ true → some_at all (k ∷ ks) bytes ≡ any_at (map form_view fs) bytes) →
+        cond b (names_all chain (suc n) fs ks) (nat_lt n k && (blocked chain f && names_all chain (suc n) fs (k ∷ ks))) ≡ true →
+        or_else (maybe_row_at (slice_get all k) bytes) (some_at all ks bytes) ≡ or_else (row_at (form_view f) bytes) (any_at (map form_view fs) bytes)
     go true q ih jh t =
         let here : slice_get all k ≡ Some f = ap (slice_get all) (sym (eqb-true n k q)) ∙ w.here in
         ap (λ (o : Option Form). or_else (maybe_row_at o bytes) (some_at all ks bytes)) here ∙ ap (or_else (row_at (form_view f) bytes)) (ih t)

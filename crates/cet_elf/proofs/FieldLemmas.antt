@@ -50,7 +50,16 @@ unfolding program_header
 header_size kind flags offset address size align = refl
 
 -- a program header reads as it was put
-pub header_behind : (front back : List ℕ) (at kind flags offset address size align : ℕ) → length front ≡ at → kind < 2 ^ 32 → flags < 2 ^ 32 → offset < 2 ^ 64 → address < 2 ^ 64 → size < 2 ^ 64 → header_at (front ++ (program_header kind flags offset address size align ++ back)) at ≡ record { place = at; kind = kind; flags = flags; offset = offset; address = address; file_size = size; memory_size = size }
+pub header_behind : (front back : List ℕ) (at kind flags offset address size align : ℕ) → length front ≡ at → kind < 2 ^ 32 → flags < 2 ^ 32 → offset < 2 ^ 64 → address < 2 ^ 64 → size < 2 ^ 64 →
+    header_at (front ++ (program_header kind flags offset address size align ++ back)) at ≡ record {
+      place = at;
+      kind = kind;
+      flags = flags;
+      offset = offset;
+      address = address;
+      file_size = size;
+      memory_size = size;
+    }
 unfolding header_at program_header
 header_behind front back at kind flags offset address size align place a b c d e =
     let header = program_header kind flags offset address size align in

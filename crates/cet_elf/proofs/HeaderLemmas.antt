@@ -8,7 +8,8 @@ pub no_headers : (bytes : List ℕ) (table : ℕ) → [] ≡ headers_from bytes 
 unfolding headers_from
 no_headers bytes table = refl
 
-pub one_more : (bytes : List ℕ) (table index : ℕ) (old new : List ProgramHeader) (h : ProgramHeader) → old ≡ headers_from bytes table index → new ≡ old ++ h ∷ [] → h ≡ header_at bytes (table + 56 * index) → new ≡ headers_from bytes table (index + 1)
+pub one_more : (bytes : List ℕ) (table index : ℕ) (old new : List ProgramHeader) (h : ProgramHeader) → old ≡ headers_from bytes table index → new ≡ old ++ h ∷ [] →
+    h ≡ header_at bytes (table + 56 * index) → new ≡ headers_from bytes table (index + 1)
 unfolding headers_from
 one_more bytes table index old new h before now is =
     now ∙ ap (λ hs. hs ++ h ∷ []) before ∙ ap (λ g. headers_from bytes table index ++ g ∷ []) is

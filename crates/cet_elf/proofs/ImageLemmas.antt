@@ -1,5 +1,6 @@
 -- The segments of a file whose rules hold are those of an image.
-use Rattle.std.proofs.Common.{◌≡◌, ℕ, suc, ◌+◌, ◌-◌, ◌*◌, ◌/◌, ◌<◌, ◌≤◌, Bool, true, false, not, ◌&&◌, ◌||◌, cond, ltb, leb, List, [], ◌∷◌, length, get_or, take, drop, map, filter, Option, Some, None, refl, ap, sym, subst, ◌⊎◌, inl, inr, arith}
+use Rattle.std.proofs.Common.{◌≡◌, ℕ, suc, ◌+◌, ◌-◌, ◌*◌, ◌/◌, ◌<◌, ◌≤◌, Bool, true, false, not, ◌&&◌, ◌||◌, cond, ltb, leb, List, [], ◌∷◌, length}
+use Rattle.std.proofs.Common.{get_or, take, drop, map, filter, Option, Some, None, refl, ap, sym, subst, ◌⊎◌, inl, inr, arith}
 use Rattle.std.specs.Prelude.{All, AllPairs, find, option_map}
 use Rattle.std.specs.List.{list_any, range_with_len}
 use Rattle.std.proofs.lemmas.Bool.{ltb-true, ltb-false, lt-ltb}
@@ -166,7 +167,9 @@ entered_other : (l x a b r s : Bool) → l ≡ false → (r ≡ true → s ≡ t
 entered_other true x a b r s is more e = cc
 entered_other false x a b r s is more e = more e
 
-any_here : (bytes : List ℕ) (addr : ℕ) (h : ProgramHeader) (hs : List ProgramHeader) (b : Bool) → is_load h ≡ b → (list_any (has_entry addr) hs ≡ true → list_any (is_inside addr) (segments_of bytes hs) ≡ true) → (has_entry addr h || list_any (has_entry addr) hs) ≡ true → list_any (is_inside addr) (map (segment_of bytes) (cond b (h ∷ filter is_load hs) (filter is_load hs))) ≡ true
+any_here : (bytes : List ℕ) (addr : ℕ) (h : ProgramHeader) (hs : List ProgramHeader) (b : Bool) → is_load h ≡ b →
+    (list_any (has_entry addr) hs ≡ true → list_any (is_inside addr) (segments_of bytes hs) ≡ true) → (has_entry addr h || list_any (has_entry addr) hs) ≡ true →
+    list_any (is_inside addr) (map (segment_of bytes) (cond b (h ∷ filter is_load hs) (filter is_load hs))) ≡ true
 unfolding is_inside
 any_here bytes addr h hs true is more e =
     entered_load (is_load h) (is_executable h) (leb h.address addr) (ltb addr (h.address + h.memory_size))
@@ -179,7 +182,8 @@ any_kept : (bytes : List ℕ) (addr : ℕ) (hs : List ProgramHeader) → list_an
 any_kept bytes addr [] e = cc
 any_kept bytes addr (h ∷ hs) e = any_here bytes addr h hs (is_load h) refl (any_kept bytes addr hs) e
 
-pub is_image : (bytes : List ℕ) (entry : ℕ) (hs : List ProgramHeader) → hs ≡ headers bytes → load_breach (is_filled (length bytes)) hs ≡ None → load_breach is_placed hs ≡ None → load_breach is_guarded hs ≡ None → load_breach (is_apart hs) hs ≡ None → list_any (has_entry entry) hs ≡ true → IsImage entry (segments_of bytes hs)
+pub is_image : (bytes : List ℕ) (entry : ℕ) (hs : List ProgramHeader) → hs ≡ headers bytes → load_breach (is_filled (length bytes)) hs ≡ None → load_breach is_placed hs ≡ None →
+    load_breach is_guarded hs ≡ None → load_breach (is_apart hs) hs ≡ None → list_any (has_entry entry) hs ≡ true → IsImage entry (segments_of bytes hs)
 unfolding headers
 is_image bytes entry hs table fill place guard alone enter =
     let order : AllPairs (λ g h. g.place < h.place) hs

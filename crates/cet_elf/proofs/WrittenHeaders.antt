@@ -84,7 +84,8 @@ pub two_headers : (bytes : List ℕ) (g h : ProgramHeader) → xword bytes 32 �
 unfolding headers headers_from
 two_headers bytes g h table number one two = rw (table, number, one, two) refl
 
-pub three_headers : (bytes : List ℕ) (g h i : ProgramHeader) → xword bytes 32 ≡ 64 → half bytes 56 ≡ 3 → header_at bytes 64 ≡ g → header_at bytes 120 ≡ h → header_at bytes 176 ≡ i → headers bytes ≡ g ∷ h ∷ i ∷ []
+pub three_headers : (bytes : List ℕ) (g h i : ProgramHeader) → xword bytes 32 ≡ 64 → half bytes 56 ≡ 3 → header_at bytes 64 ≡ g → header_at bytes 120 ≡ h → header_at bytes 176 ≡ i →
+    headers bytes ≡ g ∷ h ∷ i ∷ []
 unfolding headers headers_from
 three_headers bytes g h i table number one two three = rw (table, number, one, two, three) refl
 

@@ -21,7 +21,8 @@ part_between front part back at place =
     behind front (part ++ back) at 0 (length part) (omega arith) ∙ ap (λ n. take n (part ++ back)) (omega arith) ∙ take-append_seam part back
 
 -- the image by what is read of a file
-pub image_read : (bytes : List ℕ) (hs : List ProgramHeader) (entry mark : ℕ) (segments : List Segment) → xword bytes 24 ≡ entry → features bytes ≡ mark → headers bytes ≡ hs → segments_of bytes hs ≡ segments → image_of bytes ≡ record { entry = entry; marked = has_stacks mark; tracked = has_tracking mark; segments = segments }
+pub image_read : (bytes : List ℕ) (hs : List ProgramHeader) (entry mark : ℕ) (segments : List Segment) → xword bytes 24 ≡ entry → features bytes ≡ mark → headers bytes ≡ hs →
+    segments_of bytes hs ≡ segments → image_of bytes ≡ record { entry = entry; marked = has_stacks mark; tracked = has_tracking mark; segments = segments }
 unfolding image_from
 image_read bytes hs entry mark segments enter marked table is =
     let loaded : segments_of bytes (headers bytes) ≡ segments = ap (segments_of bytes) table ∙ is in
@@ -30,7 +31,14 @@ image_read bytes hs entry mark segments enter marked table is =
 pub one_segment : (bytes text : List ℕ) (place : ℕ) → slice_range bytes 4096 (4096 + length text) ≡ text → segments_of bytes (text_read (length text) ∷ note_read place ∷ []) ≡ text_segment text ∷ []
 one_segment bytes text place is = rw is refl
 
-pub two_segments : (bytes text static_data : List ℕ) (r place : ℕ) → slice_range bytes 4096 (4096 + length text) ≡ text → slice_range bytes (4096 + r) (4096 + r + length static_data) ≡ static_data → segments_of bytes (text_read (length text) ∷ data_read r (length static_data) ∷ note_read place ∷ []) ≡ text_segment text ∷ record { start = text_start + r; bytes = static_data; size = length static_data; write = true; exec = false } ∷ []
+pub two_segments : (bytes text static_data : List ℕ) (r place : ℕ) → slice_range bytes 4096 (4096 + length text) ≡ text → slice_range bytes (4096 + r) (4096 + r + length static_data) ≡ static_data →
+    segments_of bytes (text_read (length text) ∷ data_read r (length static_data) ∷ note_read place ∷ []) ≡ text_segment text ∷ record {
+      start = text_start + r;
+      bytes = static_data;
+      size = length static_data;
+      write = true;
+      exec = false;
+    } ∷ []
 two_segments bytes text static_data r place is other = rw (is, other) refl
 
 -- the parts of a file by what stands before them
@@ -41,18 +49,35 @@ seventh a b c d e f text rest at place =
     ap (λ l. slice_range l at (at + length text)) whole
     ∙ part_between front text rest at (omega (arith, length-append a (b ++ (c ++ (d ++ (e ++ f)))), length-append b (c ++ (d ++ (e ++ f))), length-append c (d ++ (e ++ f)), length-append d (e ++ f), length-append e f))
 
-pub ninth : (a b c d e f g h static_data : List ℕ) (at : ℕ) → length a + length b + length c + length d + length e + length f + length g + length h ≡ at → slice_range (a ++ (b ++ (c ++ (d ++ (e ++ (f ++ (g ++ (h ++ static_data)))))))) at (at + length static_data) ≡ static_data
+pub ninth : (a b c d e f g h static_data : List ℕ) (at : ℕ) → length a + length b + length c + length d + length e + length f + length g + length h ≡ at →
+    slice_range (a ++ (b ++ (c ++ (d ++ (e ++ (f ++ (g ++ (h ++ static_data)))))))) at (at + length static_data) ≡ static_data
 ninth a b c d e f g h static_data at place =
     let front = a ++ b in
-    let whole : a ++ (b ++ (c ++ (d ++ (e ++ (f ++ (g ++ (h ++ static_data))))))) ≡ front ++ (c ++ (d ++ (e ++ (f ++ (g ++ (h ++ (static_data ++ []))))))) = ap (λ l. a ++ (b ++ (c ++ (d ++ (e ++ (f ++ (g ++ (h ++ l)))))))) (sym (append-nil static_data)) ∙ sym (append_assoc a b (c ++ (d ++ (e ++ (f ++ (g ++ (h ++ (static_data ++ [])))))))) in
-    let regroup : front ++ (c ++ (d ++ (e ++ (f ++ (g ++ (h ++ (static_data ++ []))))))) ≡ front ++ (c ++ (d ++ (e ++ (f ++ ((g ++ h) ++ (static_data ++ [])))))) = ap (λ l. front ++ (c ++ (d ++ (e ++ (f ++ l))))) (sym (append_assoc g h (static_data ++ []))) in
+    let whole : a ++ (b ++ (c ++ (d ++ (e ++ (f ++ (g ++ (h ++ static_data))))))) ≡ front ++ (c ++ (d ++ (e ++ (f ++ (g ++ (h ++ (static_data ++ []))))))) =
+    ap (λ l. a ++ (b ++ (c ++ (d ++ (e ++ (f ++ (g ++ (h ++ l)))))))) (sym (append-nil static_data)) ∙ sym (append_assoc a b (c ++ (d ++ (e ++ (f ++ (g ++ (h ++ (static_data ++ [])))))))) in
+    let regroup : front ++ (c ++ (d ++ (e ++ (f ++ (g ++ (h ++ (static_data ++ []))))))) ≡ front ++ (c ++ (d ++ (e ++ (f ++ ((g ++ h) ++ (static_data ++ [])))))) =
+    ap (λ l. front ++ (c ++ (d ++ (e ++ (f ++ l))))) (sym (append_assoc g h (static_data ++ []))) in
     ap (λ l. slice_range l at (at + length static_data)) (whole ∙ regroup)
     ∙ seventh front c d e f (g ++ h) static_data [] at (omega (arith, length-append a b, length-append g h))
 
-pub program_none : (text static_data : List ℕ) (entry mark : ℕ) → eqb (length static_data) 0 ≡ true → record { entry = entry; marked = has_stacks mark; tracked = has_tracking mark; segments = text_segment text ∷ [] } ≡ program_image text static_data entry mark
+pub program_none : (text static_data : List ℕ) (entry mark : ℕ) → eqb (length static_data) 0 ≡ true →
+    record { entry = entry; marked = has_stacks mark; tracked = has_tracking mark; segments = text_segment text ∷ [] } ≡ program_image text static_data entry mark
 unfolding program_image
 program_none text static_data entry mark e = rw e refl
 
-pub program_some : (text static_data : List ℕ) (entry mark : ℕ) → eqb (length static_data) 0 ≡ false → record { entry = entry; marked = has_stacks mark; tracked = has_tracking mark; segments = text_segment text ∷ record { start = text_start + page_up (length text); bytes = static_data; size = length static_data; write = true; exec = false } ∷ [] } ≡ program_image text static_data entry mark
+pub program_some : (text static_data : List ℕ) (entry mark : ℕ) → eqb (length static_data) 0 ≡ false →
+    record {
+      entry = entry;
+      marked = has_stacks mark;
+      tracked = has_tracking mark;
+      segments =
+          text_segment text ∷ record {
+            start = text_start + page_up (length text);
+            bytes = static_data;
+            size = length static_data;
+            write = true;
+            exec = false;
+          } ∷ [];
+    } ≡ program_image text static_data entry mark
 unfolding program_image
 program_some text static_data entry mark e = rw e refl

@@ -1,5 +1,6 @@
 -- The file of a program that fits the image range is accepted.
-use Rattle.std.proofs.Common.{◌≡◌, ℕ, ◌+◌, ◌-◌, ◌/◌, ◌<◌, ◌≤◌, ◌^◌, Bool, true, false, eqb, List, [], ◌∷◌, ◌++◌, length, Some, refl, ap, sym, ◌∙◌, subst, arith, length-append, append_assoc, lit<, replicate}
+use Rattle.std.proofs.Common.{◌≡◌, ℕ, ◌+◌, ◌-◌, ◌/◌, ◌<◌, ◌≤◌, ◌^◌, Bool, true, false, eqb, List, [], ◌∷◌, ◌++◌, length, Some}
+use Rattle.std.proofs.Common.{refl, ap, sym, ◌∙◌, subst, arith, length-append, append_assoc, lit<, replicate}
 use Rattle.std.proofs.lemmas.List.{length-replicate}
 use Rattle.std.specs.Prelude.{Result, IfOk}
 use Rattle.std.proofs.lemmas.Result.{IfOk-weaker}
@@ -36,7 +37,8 @@ record Reads (count entry mark : ℕ) (hs : List ProgramHeader) (bytes : List �
   pub features : features bytes ≡ mark
 
 -- without data: file header, text header, note header, 56 bytes, note, tail
-one_file : (entry s mark : ℕ) (pad tail : List ℕ) → length pad ≡ 56 → mark < 2 ^ 32 → 3832 + s ≤ length tail → text_start + s ≤ image_end → text_start ≤ entry → entry < text_start + s → has_stacks mark ≡ true → Reads 2 entry mark (text_read s ∷ note_read 120 ∷ []) (file_header entry 2 ++ (text_header s ++ (note_header ++ (pad ++ (property_note mark ++ tail)))))
+one_file : (entry s mark : ℕ) (pad tail : List ℕ) → length pad ≡ 56 → mark < 2 ^ 32 → 3832 + s ≤ length tail → text_start + s ≤ image_end → text_start ≤ entry → entry < text_start + s →
+    has_stacks mark ≡ true → Reads 2 entry mark (text_read s ∷ note_read 120 ∷ []) (file_header entry 2 ++ (text_header s ++ (note_header ++ (pad ++ (property_note mark ++ tail)))))
 one_file entry s mark pad tail size small room fits low high marked =
     let file = file_header entry 2 in
     let noted = property_note mark ++ tail in
@@ -70,7 +72,9 @@ one_file entry s mark pad tail size small room fits low high marked =
     }
 
 -- with data: file header, text header, data header, note header, note, tail
-two_file : (entry s d mark : ℕ) (tail : List ℕ) → mark < 2 ^ 32 → 1 ≤ s → 3832 + page_up s + d ≤ length tail → text_start + page_up s + d ≤ image_end → text_start ≤ entry → entry < text_start + s → has_stacks mark ≡ true → Reads 3 entry mark (text_read s ∷ data_read (page_up s) d ∷ note_read 176 ∷ []) (file_header entry 3 ++ (text_header s ++ (data_header s d ++ (note_header ++ (property_note mark ++ tail)))))
+two_file : (entry s d mark : ℕ) (tail : List ℕ) → mark < 2 ^ 32 → 1 ≤ s → 3832 + page_up s + d ≤ length tail → text_start + page_up s + d ≤ image_end → text_start ≤ entry → entry < text_start + s →
+    has_stacks mark ≡ true → Reads 3 entry mark (text_read s ∷ data_read (page_up s) d ∷ note_read 176 ∷ [])
+    (file_header entry 3 ++ (text_header s ++ (data_header s d ++ (note_header ++ (property_note mark ++ tail)))))
 two_file entry s d mark tail small some room fits low high marked =
     let file = file_header entry 3 in
     let noted = property_note mark ++ tail in
@@ -128,14 +132,17 @@ part_some s static_data e = rw e refl
 regrouped : (a b c d e f g h : List ℕ) → ((((((a ++ b) ++ c) ++ d) ++ e) ++ f) ++ g) ++ h ≡ a ++ (b ++ (c ++ (d ++ (e ++ (f ++ (g ++ h))))))
 regrouped a b c d e f g h = simp append_assoc
 
-written_none : (text static_data : List ℕ) (entry mark : ℕ) → eqb (length static_data) 0 ≡ true → written_of text static_data entry mark ≡ file_header entry 2 ++ (text_header (length text) ++ (note_header ++ (replicate 56 0 ++ (property_note mark ++ (replicate 3832 0 ++ (text ++ []))))))
+written_none : (text static_data : List ℕ) (entry mark : ℕ) → eqb (length static_data) 0 ≡ true →
+    written_of text static_data entry mark ≡ file_header entry 2 ++ (text_header (length text) ++ (note_header ++ (replicate 56 0 ++ (property_note mark ++ (replicate 3832 0 ++ (text ++ []))))))
 unfolding written_of
 written_none text static_data entry mark e =
     ap (λ l. l ++ property_note mark ++ replicate 3832 0 ++ text ++ data_part (length text) static_data) (front_none (length text) (length static_data) entry e)
     ∙ ap (λ l. (file_header entry 2 ++ text_header (length text) ++ note_header ++ replicate 56 0) ++ property_note mark ++ replicate 3832 0 ++ text ++ l) (part_none (length text) static_data e)
     ∙ regrouped (file_header entry 2) (text_header (length text)) note_header (replicate 56 0) (property_note mark) (replicate 3832 0) text []
 
-written_some : (text static_data : List ℕ) (entry mark : ℕ) → eqb (length static_data) 0 ≡ false → written_of text static_data entry mark ≡ file_header entry 3 ++ (text_header (length text) ++ (data_header (length text) (length static_data) ++ (note_header ++ (property_note mark ++ (replicate 3832 0 ++ (text ++ (replicate (page_up (length text) - length text) 0 ++ static_data)))))))
+written_some : (text static_data : List ℕ) (entry mark : ℕ) → eqb (length static_data) 0 ≡ false →
+    written_of text static_data entry mark ≡ file_header entry 3 ++ (text_header (length text) ++
+    (data_header (length text) (length static_data) ++ (note_header ++ (property_note mark ++ (replicate 3832 0 ++ (text ++ (replicate (page_up (length text) - length text) 0 ++ static_data)))))))
 unfolding written_of
 written_some text static_data entry mark e =
     let s = length text in
@@ -145,7 +152,8 @@ written_some text static_data entry mark e =
     ∙ regrouped (file_header entry 3) (text_header s) (data_header s d) note_header (property_note mark) (replicate 3832 0) text (replicate (page_up s - s) 0 ++ static_data)
 
 -- by whether there is data
-loaded_none : (text static_data : List ℕ) (entry mark : ℕ) → eqb (length static_data) 0 ≡ true → mark < 2 ^ 32 → IsLoadable text static_data entry mark → LoadsAs text static_data entry mark (file_header entry 2 ++ (text_header (length text) ++ (note_header ++ (replicate 56 0 ++ (property_note mark ++ (replicate 3832 0 ++ (text ++ [])))))))
+loaded_none : (text static_data : List ℕ) (entry mark : ℕ) → eqb (length static_data) 0 ≡ true → mark < 2 ^ 32 → IsLoadable text static_data entry mark →
+    LoadsAs text static_data entry mark (file_header entry 2 ++ (text_header (length text) ++ (note_header ++ (replicate 56 0 ++ (property_note mark ++ (replicate 3832 0 ++ (text ++ [])))))))
 loaded_none text static_data entry mark e small h =
     let s = length text in
     let tail = replicate 3832 0 ++ (text ++ []) in
@@ -167,7 +175,9 @@ loaded_none text static_data entry mark e small h =
           ∙ program_none text static_data entry mark e;
     }
 
-loaded_some : (text static_data : List ℕ) (entry mark : ℕ) → eqb (length static_data) 0 ≡ false → mark < 2 ^ 32 → IsLoadable text static_data entry mark → LoadsAs text static_data entry mark (file_header entry 3 ++ (text_header (length text) ++ (data_header (length text) (length static_data) ++ (note_header ++ (property_note mark ++ (replicate 3832 0 ++ (text ++ (replicate (page_up (length text) - length text) 0 ++ static_data))))))))
+loaded_some : (text static_data : List ℕ) (entry mark : ℕ) → eqb (length static_data) 0 ≡ false → mark < 2 ^ 32 → IsLoadable text static_data entry mark →
+    LoadsAs text static_data entry mark (file_header entry 3 ++ (text_header (length text) ++
+    (data_header (length text) (length static_data) ++ (note_header ++ (property_note mark ++ (replicate 3832 0 ++ (text ++ (replicate (page_up (length text) - length text) 0 ++ static_data))))))))
 loaded_some text static_data entry mark e small h =
     let s = length text in
     let d = length static_data in
@@ -197,13 +207,15 @@ loaded_some text static_data entry mark e small h =
           ∙ program_some text static_data entry mark e;
     }
 
-by_data : (text static_data : List ℕ) (entry mark : ℕ) (b : Bool) → eqb (length static_data) 0 ≡ b → mark < 2 ^ 32 → IsLoadable text static_data entry mark → LoadsAs text static_data entry mark (written_of text static_data entry mark)
+by_data : (text static_data : List ℕ) (entry mark : ℕ) (b : Bool) → eqb (length static_data) 0 ≡ b → mark < 2 ^ 32 → IsLoadable text static_data entry mark →
+    LoadsAs text static_data entry mark (written_of text static_data entry mark)
 by_data text static_data entry mark true e small h =
     subst (λ (l : List ℕ). LoadsAs text static_data entry mark l) (sym (written_none text static_data entry mark e)) (loaded_none text static_data entry mark e small h)
 by_data text static_data entry mark false e small h =
     subst (λ (l : List ℕ). LoadsAs text static_data entry mark l) (sym (written_some text static_data entry mark e)) (loaded_some text static_data entry mark e small h)
 
-pub all_loaded : (text static_data x y : List ℕ) (entry mark : ℕ) (r : Result (List ℕ) NoMemory) → x ≡ text → y ≡ static_data → IfOk r (λ bytes. bytes ≡ written_of x y entry mark) → mark < 2 ^ 32 → IsLoadable text static_data entry mark → IfOk r (LoadsAs text static_data entry mark)
+pub all_loaded : (text static_data x y : List ℕ) (entry mark : ℕ) (r : Result (List ℕ) NoMemory) → x ≡ text → y ≡ static_data → IfOk r (λ bytes. bytes ≡ written_of x y entry mark) → mark < 2 ^ 32 →
+    IsLoadable text static_data entry mark → IfOk r (LoadsAs text static_data entry mark)
 all_loaded text static_data x y entry mark r text_is data_is is small h =
     let same : written_of x y entry mark ≡ written_of text static_data entry mark
     = ap (λ l. written_of l y entry mark) text_is ∙ ap (λ l. written_of text l entry mark) data_is in

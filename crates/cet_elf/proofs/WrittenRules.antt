@@ -1,5 +1,6 @@
 -- A written file breaks no rule.
-use Rattle.std.proofs.Common.{◌≡◌, ℕ, zero, suc, ◌+◌, ◌-◌, ◌*◌, ◌/◌, ◌%◌, ◌<◌, ◌≤◌, Bool, true, false, not, ◌&&◌, eqb, ltb, leb, List, [], ◌∷◌, length, get_or, Option, Some, None, refl, ap, ◌∙◌, arith}
+use Rattle.std.proofs.Common.{◌≡◌, ℕ, zero, suc, ◌+◌, ◌-◌, ◌*◌, ◌/◌, ◌%◌, ◌<◌, ◌≤◌, Bool, true, false, not, ◌&&◌, eqb, ltb}
+use Rattle.std.proofs.Common.{leb, List, [], ◌∷◌, length, get_or, Option, Some, None, refl, ap, ◌∙◌, arith}
 use Rattle.std.specs.List.{list_any, AllByRecursion}
 use Rattle.std.proofs.lemmas.Bool.{le-leb, lt-ltb, eq-eqb, and_from}
 use Rattle.cet_words.specs.Layout.{image_end, image_start}
@@ -103,7 +104,8 @@ two_entered s r d place entry low high = rw (low, high) refl
 holds_at : (b : Bool) (at : ℕ) → b ≡ true → unless b at ≡ None
 holds_at b at e = rw e refl
 
-one_later : (bytes : List ℕ) (s place entry mark : ℕ) → xword bytes 24 ≡ entry → 4096 + s ≤ length bytes → text_start + s ≤ image_end → text_start ≤ entry → entry < text_start + s → has_stacks mark ≡ true → AllByRecursion (λ (o : Option ℕ). o ≡ None) (header_breaches bytes mark (text_read s ∷ note_read place ∷ []))
+one_later : (bytes : List ℕ) (s place entry mark : ℕ) → xword bytes 24 ≡ entry → 4096 + s ≤ length bytes → text_start + s ≤ image_end → text_start ≤ entry → entry < text_start + s →
+    has_stacks mark ≡ true → AllByRecursion (λ (o : Option ℕ). o ≡ None) (header_breaches bytes mark (text_read s ∷ note_read place ∷ []))
 unfolding header_breaches
 one_later bytes s place entry mark enter inside fits low high marked =
     let hs = text_read s ∷ note_read place ∷ [] in
@@ -131,7 +133,8 @@ one_later bytes s place entry mark enter inside fits low high marked =
       ),
     )
 
-two_later : (bytes : List ℕ) (s r d q place entry mark : ℕ) → xword bytes 24 ≡ entry → r ≡ 4096 * q → 1 ≤ s → s ≤ r → 4096 + r + d ≤ length bytes → text_start + r + d ≤ image_end → text_start ≤ entry → entry < text_start + s → has_stacks mark ≡ true → AllByRecursion (λ (o : Option ℕ). o ≡ None) (header_breaches bytes mark (text_read s ∷ data_read r d ∷ note_read place ∷ []))
+two_later : (bytes : List ℕ) (s r d q place entry mark : ℕ) → xword bytes 24 ≡ entry → r ≡ 4096 * q → 1 ≤ s → s ≤ r → 4096 + r + d ≤ length bytes → text_start + r + d ≤ image_end →
+    text_start ≤ entry → entry < text_start + s → has_stacks mark ≡ true → AllByRecursion (λ (o : Option ℕ). o ≡ None) (header_breaches bytes mark (text_read s ∷ data_read r d ∷ note_read place ∷ []))
 unfolding header_breaches
 two_later bytes s r d q place entry mark enter multiple some behind inside fits low high marked =
     let hs = text_read s ∷ data_read r d ∷ note_read place ∷ [] in
@@ -171,19 +174,22 @@ pub two_features : (bytes : List ℕ) (s r d place mark : ℕ) → note_feature 
 unfolding features_of
 two_features bytes s r d place mark e = rw e refl
 
-later_holds : (bytes : List ℕ) (hs : List ProgramHeader) (mark : ℕ) → headers bytes ≡ hs → features_of bytes hs ≡ mark → AllByRecursion (λ (o : Option ℕ). o ≡ None) (header_breaches bytes mark hs) → HoldBelow (length (later_breaches bytes)) (later_breaches bytes)
+later_holds : (bytes : List ℕ) (hs : List ProgramHeader) (mark : ℕ) → headers bytes ≡ hs → features_of bytes hs ≡ mark → AllByRecursion (λ (o : Option ℕ). o ≡ None) (header_breaches bytes mark hs) →
+    HoldBelow (length (later_breaches bytes)) (later_breaches bytes)
 later_holds bytes hs mark table marked none k small =
     let same : later_breaches bytes ≡ header_breaches bytes mark hs
     = ap (λ m. header_breaches bytes m (headers bytes)) (features_read bytes hs mark table marked) ∙ ap (header_breaches bytes mark) table in
     ap (λ (l : List (Option ℕ)). get_or l k None) same ∙ none_at (header_breaches bytes mark hs) none k
 
-pub one_accepted : (bytes : List ℕ) (s entry mark : ℕ) → Heads entry 2 bytes → headers bytes ≡ text_read s ∷ note_read 120 ∷ [] → note_feature bytes (note_read 120) ≡ Some mark → 4096 + s ≤ length bytes → text_start + s ≤ image_end → text_start ≤ entry → entry < text_start + s → has_stacks mark ≡ true → Accepts bytes
+pub one_accepted : (bytes : List ℕ) (s entry mark : ℕ) → Heads entry 2 bytes → headers bytes ≡ text_read s ∷ note_read 120 ∷ [] → note_feature bytes (note_read 120) ≡ Some mark →
+    4096 + s ≤ length bytes → text_start + s ≤ image_end → text_start ≤ entry → entry < text_start + s → has_stacks mark ≡ true → Accepts bytes
 one_accepted bytes s entry mark h table note inside fits low high marked =
     all_hold bytes (file_holds bytes entry 2 h refl (omega arith))
     (later_holds bytes (text_read s ∷ note_read 120 ∷ []) mark table (one_features bytes s 120 mark note)
     (one_later bytes s 120 entry mark h.entered inside fits low high marked))
 
-pub two_accepted : (bytes : List ℕ) (s r d q entry mark : ℕ) → Heads entry 3 bytes → headers bytes ≡ text_read s ∷ data_read r d ∷ note_read 176 ∷ [] → note_feature bytes (note_read 176) ≡ Some mark → r ≡ 4096 * q → 1 ≤ s → s ≤ r → 4096 + r + d ≤ length bytes → text_start + r + d ≤ image_end → text_start ≤ entry → entry < text_start + s → has_stacks mark ≡ true → Accepts bytes
+pub two_accepted : (bytes : List ℕ) (s r d q entry mark : ℕ) → Heads entry 3 bytes → headers bytes ≡ text_read s ∷ data_read r d ∷ note_read 176 ∷ [] → note_feature bytes (note_read 176) ≡ Some mark →
+    r ≡ 4096 * q → 1 ≤ s → s ≤ r → 4096 + r + d ≤ length bytes → text_start + r + d ≤ image_end → text_start ≤ entry → entry < text_start + s → has_stacks mark ≡ true → Accepts bytes
 two_accepted bytes s r d q entry mark h table note multiple some behind inside fits low high marked =
     all_hold bytes (file_holds bytes entry 3 h refl (omega arith))
     (later_holds bytes (text_read s ∷ data_read r d ∷ note_read 176 ∷ []) mark table (two_features bytes s r d 176 mark note)

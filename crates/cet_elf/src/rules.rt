@@ -2,7 +2,8 @@
 
 ghost use Rattle.std.specs.Prelude.{◌≡◌, ◌≤◌, ◌+◌, ◌*◌, Bool, not, nat_le};
 ghost use Rattle.std.specs.List.{list_any};
-ghost use Rattle.cet_elf.specs.Rules.{unless, wrong_byte, magic_breach, class_breach, table_breach, file_breaches, header_breach, is_interpreter, load_breach, is_filled, is_placed, is_aligned, is_guarded, ends_before, shares_page, precedes, is_apart, has_entry, header_breaches};
+ghost use Rattle.cet_elf.specs.Rules.{unless, wrong_byte, magic_breach, class_breach, table_breach, file_breaches, header_breach, is_interpreter, load_breach};
+ghost use Rattle.cet_elf.specs.Rules.{is_filled, is_placed, is_aligned, is_guarded, ends_before, shares_page, precedes, is_apart, has_entry, header_breaches};
 
 use crate::headers::{ProgramHeader, byte, half, is_executable, is_load, is_writable, word, xword};
 use crate::notes::has_stacks;

@@ -1,5 +1,6 @@
 -- One row after another: at most one row reads the bytes, since any two rows differ at some byte. Source: own.
-use Rattle.std.proofs.Common.{◌≡◌, ◌≢◌, ℕ, ◌<◌, ◌≤◌, Bool, true, false, not, ◌&&◌, ◌||◌, cond, eqb, ltb, List, [], ◌∷◌, Option, Some, None, Result, Ok, Err, refl, sym, ap, subst, ◌∙◌, ◌⊎◌, inl, inr, arith}
+use Rattle.std.proofs.Common.{◌≡◌, ◌≢◌, ℕ, ◌<◌, ◌≤◌, Bool, true, false, not, ◌&&◌, ◌||◌, cond, eqb, ltb, List, [], ◌∷◌, Option}
+use Rattle.std.proofs.Common.{Some, None, Result, Ok, Err, refl, sym, ap, subst, ◌∙◌, ◌⊎◌, inl, inr, arith}
 use Rattle.std.specs.Prelude.{bit_and, nat_le}
 use Rattle.std.proofs.lemmas.Bool.{or_cases, and_parts, leb-true, eqb-true, ltb-true, not-true, false≢true, eq-eqb}
 use Rattle.std.proofs.lemmas.Nat.{and_assoc, and_comm, and_le_l}
@@ -68,7 +69,8 @@ run_is (Some p ∷ os) (b ∷ bytes) = go (has p b) (run_is os bytes)
     kept (Ok x) = refl
     kept (Err m) = refl
 
-    go : (t : Bool) → run (filled_places os) bytes ≡ rest_of (cells_at os bytes) → cond t (run (filled_places os) bytes) (Err Differs) ≡ rest_of ((let r : Result (ℕ × List ℕ) Miss = cond t (Ok (b, bytes)) (Err Differs) in r) >>= (λ x. cells_at os x.1 >>= (λ y. Ok (x.0 ∷ y.0, y.1))))
+    go : (t : Bool) → run (filled_places os) bytes ≡ rest_of (cells_at os bytes) → cond t (run (filled_places os) bytes) (Err Differs) ≡ rest_of
+        ((let r : Result (ℕ × List ℕ) Miss = cond t (Ok (b, bytes)) (Err Differs) in r) >>= (λ x. cells_at os x.1 >>= (λ y. Ok (x.0 ∷ y.0, y.1))))
     go true ih = ih ∙ kept (cells_at os bytes)
     go false ih = refl
 
@@ -79,7 +81,8 @@ run_apart (p ∷ ps) [] bytes rest c e = absurd cc
 run_apart (p ∷ ps) (q ∷ qs) [] rest c e = absurd cc
 run_apart (p ∷ ps) (q ∷ qs) (b ∷ bytes) rest c e = go (λ d f. run_apart ps qs bytes rest d f) (has p b) (has q b) refl refl e
   where
-    go : (conflict ps qs ≡ true → run ps bytes ≡ Ok rest → run qs bytes ≡ Err Differs) → (t u : Bool) → has p b ≡ t → has q b ≡ u → cond t (run ps bytes) (Err Differs) ≡ Ok rest → cond u (run qs bytes) (Err Differs) ≡ Err Differs
+    go : (conflict ps qs ≡ true → run ps bytes ≡ Ok rest → run qs bytes ≡ Err Differs) → (t u : Bool) → has p b ≡ t → has q b ≡ u → cond t (run ps bytes) (Err Differs) ≡ Ok rest →
+        cond u (run qs bytes) (Err Differs) ≡ Err Differs
     go ih false u hp hq e = absurd cc
     go ih true false hp hq e = refl
     go ih true true hp hq e =
@@ -216,7 +219,8 @@ pub attempt_apart : (g h : Try) (bytes : List ℕ) (x : Instr × List ℕ) → a
 unfolding form_at
 attempt_apart g h bytes x c e = go (allows g.form.wide g.rex) (allows h.form.wide h.rex) c e
   where
-    go : (t u : Bool) → (not t || (not u || conflict (filled_places (places g.form g.rex)) (filled_places (places h.form h.rex)))) ≡ true → cond t (read_at g.form g.rex bytes) (Err Differs) ≡ Ok x → cond u (read_at h.form h.rex bytes) (Err Differs) ≡ Err Differs
+    go : (t u : Bool) → (not t || (not u || conflict (filled_places (places g.form g.rex)) (filled_places (places h.form h.rex)))) ≡ true → cond t (read_at g.form g.rex bytes) (Err Differs) ≡ Ok x →
+        cond u (read_at h.form h.rex bytes) (Err Differs) ≡ Err Differs
     go false u c e = absurd cc
     go true false c e = refl
     go true true c e = read_apart g.form h.form g.rex h.rex bytes x c e

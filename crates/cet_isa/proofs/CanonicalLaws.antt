@@ -179,7 +179,8 @@ pub record Said (size : Size) (op reg : ℕ) (o : Operand) (imm : List ℕ) (x :
   pub digit : x.modrm / 8 % 8 ≡ reg % 8
   pub imm_is : x.imm ≡ imm
 
-pub by_rm : (f : Form) (size : Size) (op reg : ℕ) (o : Operand) (imm : List ℕ) (digit : Option ℕ) (i : Instr) → Contains forms f → Plan f size op reg o imm digit → ((x : Fields) → Said size op reg o imm x → instr_of f.kind x ≡ i) → Spells (with_rm f size op reg o imm) i
+pub by_rm : (f : Form) (size : Size) (op reg : ℕ) (o : Operand) (imm : List ℕ) (digit : Option ℕ) (i : Instr) → Contains forms f → Plan f size op reg o imm digit →
+    ((x : Fields) → Said size op reg o imm x → instr_of f.kind x ≡ i) → Spells (with_rm f size op reg o imm) i
 by_rm f size op reg o imm digit i listed p same =
     let c = coded o in
     let sh = shape o in
@@ -241,7 +242,8 @@ bare_row f imm = is_fixed f && (is_none f.modrm && (length imm == imm_len f.imm)
 abbrev pub bare_fields : ℕ → ℕ → List ℕ → Fields
 bare_fields x op imm = record { rex = rex_byte x; opcode = op; modrm = 0; rm = operand_of (rex_byte x) 0 0 (signed_of []); imm = imm }
 
-by_row : (f : Form) (x op : ℕ) (imm : List ℕ) (i : Instr) → Contains forms f → bare_row f imm ≡ true → x < 16 → allows f.wide (rex_with x) ≡ true → has f.opcode op ≡ true → IsBytes imm → instr_of f.kind (bare_fields x op imm) ≡ i → Spells (spelling f x op 0 imm) i
+by_row : (f : Form) (x op : ℕ) (imm : List ℕ) (i : Instr) → Contains forms f → bare_row f imm ≡ true → x < 16 → allows f.wide (rex_with x) ≡ true → has f.opcode op ≡ true → IsBytes imm →
+    instr_of f.kind (bare_fields x op imm) ≡ i → Spells (spelling f x op 0 imm) i
 by_row f x op imm i listed h small allowed opcode bytes same =
     let row = and_parts _ _ h in
     let row' = and_parts _ _ row.1 in
@@ -267,14 +269,16 @@ by_row f x op imm i listed h small allowed opcode bytes same =
     }
 
 -- with neither register nor ModRM
-pub by_alone : (f : Form) (op : ℕ) (imm : List ℕ) (i : Instr) → Contains forms f → (bare_row f imm && allows f.wide NoRex) ≡ true → has f.opcode op ≡ true → IsBytes imm → instr_of f.kind (bare_fields 0 op imm) ≡ i → Spells (alone f op imm) i
+pub by_alone : (f : Form) (op : ℕ) (imm : List ℕ) (i : Instr) → Contains forms f → (bare_row f imm && allows f.wide NoRex) ≡ true → has f.opcode op ≡ true → IsBytes imm →
+    instr_of f.kind (bare_fields 0 op imm) ≡ i → Spells (alone f op imm) i
 by_alone f op imm i listed h opcode bytes same = let a = and_parts _ _ h in by_row f 0 op imm i listed a.0 (omega arith) a.1 opcode bytes same
 
 -- with a register in the opcode
 abbrev pub reg_row : Form → Size → ℕ → List ℕ → Bool
 reg_row f size base imm = bare_row f imm && (takes_w f.wide size && ((base % 8 == 0) && agree_below (λ k. has f.opcode (base + k)) (λ _. true) 8))
 
-pub by_reg : (f : Form) (size : Size) (base : ℕ) (r : Reg) (imm : List ℕ) (i : Instr) → Contains forms f → reg_row f size base imm ≡ true → IsBytes imm → ((x : Fields) → opcode_reg x ≡ r → x.imm ≡ imm → instr_of f.kind x ≡ i) → Spells (with_reg f size base r imm) i
+pub by_reg : (f : Form) (size : Size) (base : ℕ) (r : Reg) (imm : List ℕ) (i : Instr) → Contains forms f → reg_row f size base imm ≡ true → IsBytes imm →
+    ((x : Fields) → opcode_reg x ≡ r → x.imm ≡ imm → instr_of f.kind x ≡ i) → Spells (with_reg f size base r imm) i
 by_reg f size base r imm i listed h bytes same =
     let n = reg_small r in
     let w = w_small size in

@@ -83,32 +83,38 @@ alu_rm_reg_spells op size d r = by_rm row.alu_rm_reg size (0x01 + 8 * op_number 
     (record { row = refl; modrm = refl; opcode = agree_below_at (λ k. has row.alu_rm_reg.opcode (1 + 8 * k)) (λ _. true) 8 (op_number op) refl (op_small op); small = reg_small r; number = refl; place = refl; fits = tt; bytes = tt })
     (λ x s. rw (op_in_opcode op 1 x.opcode (omega arith) s.op_is, s.size_is, s.rm_is, s.reg_is r refl) refl)
 
-cmp_mem_reg_spells : (size : Size) (m : Mem) (r : Reg) → FitsSigned w32 m.disp → mem_ok m ≡ true → Spells (with_rm row.cmp_mem_reg size 0x39 (reg_number r) (operands.Mem m) []) (instrs.Alu ops.Cmp size (operands.Mem m) (operands.Reg r))
+cmp_mem_reg_spells : (size : Size) (m : Mem) (r : Reg) → FitsSigned w32 m.disp → mem_ok m ≡ true →
+    Spells (with_rm row.cmp_mem_reg size 0x39 (reg_number r) (operands.Mem m) []) (instrs.Alu ops.Cmp size (operands.Mem m) (operands.Reg r))
 cmp_mem_reg_spells size m r f ok = by_rm row.cmp_mem_reg size 0x39 (reg_number r) (operands.Mem m) [] (None) (instrs.Alu ops.Cmp size (operands.Mem m) (operands.Reg r)) (1, omega arith, refl)
     (record { row = refl; modrm = refl; opcode = refl; small = reg_small r; number = refl; place = ok; fits = f; bytes = tt })
     (λ x s. rw (s.op_is, s.size_is, s.rm_is, s.reg_is r refl) refl)
 
-alu_reg_mem_spells : (op : AluOp) (size : Size) (d : Reg) (m : Mem) → FitsSigned w32 m.disp → mem_ok m ≡ true → Spells (with_rm row.alu_reg_rm size (0x03 + 8 * op_number op) (reg_number d) (operands.Mem m) []) (instrs.Alu op size (operands.Reg d) (operands.Mem m))
+alu_reg_mem_spells : (op : AluOp) (size : Size) (d : Reg) (m : Mem) → FitsSigned w32 m.disp → mem_ok m ≡ true →
+    Spells (with_rm row.alu_reg_rm size (0x03 + 8 * op_number op) (reg_number d) (operands.Mem m) []) (instrs.Alu op size (operands.Reg d) (operands.Mem m))
 alu_reg_mem_spells op size d m f ok = by_rm row.alu_reg_rm size (0x03 + 8 * op_number op) (reg_number d) (operands.Mem m) [] (None) (instrs.Alu op size (operands.Reg d) (operands.Mem m)) (2, omega arith, refl)
     (record { row = refl; modrm = refl; opcode = agree_below_at (λ k. has row.alu_reg_rm.opcode (3 + 8 * k)) (λ _. true) 8 (op_number op) refl (op_small op); small = reg_small d; number = refl; place = ok; fits = f; bytes = tt })
     (λ x s. rw (op_in_opcode op 3 x.opcode (omega arith) s.op_is, s.size_is, s.rm_is, s.reg_is d refl) refl)
 
-alu_reg_imm8_spells : (op : AluOp) (size : Size) (d : Reg) (n : ℤ) → fits_byte n ≡ true → Spells (with_rm row.alu_reg_imm8 size 0x83 (op_number op) (operands.Reg d) (one_byte n)) (instrs.Alu op size (operands.Reg d) (operands.Imm n))
+alu_reg_imm8_spells : (op : AluOp) (size : Size) (d : Reg) (n : ℤ) → fits_byte n ≡ true → Spells (with_rm row.alu_reg_imm8 size 0x83 (op_number op) (operands.Reg d) (one_byte n))
+    (instrs.Alu op size (operands.Reg d) (operands.Imm n))
 alu_reg_imm8_spells op size d n h = by_rm row.alu_reg_imm8 size 0x83 (op_number op) (operands.Reg d) (one_byte n) (None) (instrs.Alu op size (operands.Reg d) (operands.Imm n)) (3, omega arith, refl)
     (record { row = refl; modrm = refl; opcode = refl; small = omega (arith, op_small op); number = refl; place = refl; fits = tt; bytes = one_fits n })
     (λ x s. rw (op_in_digit op x.modrm s.digit, s.size_is, s.rm_is, ap signed_of s.imm_is, one_back n h) refl)
 
-alu_reg_imm32_spells : (op : AluOp) (size : Size) (d : Reg) (n : ℤ) → FitsSigned w32 n → Spells (with_rm row.alu_reg_imm32 size 0x81 (op_number op) (operands.Reg d) (four_bytes n)) (instrs.Alu op size (operands.Reg d) (operands.Imm n))
+alu_reg_imm32_spells : (op : AluOp) (size : Size) (d : Reg) (n : ℤ) → FitsSigned w32 n → Spells (with_rm row.alu_reg_imm32 size 0x81 (op_number op) (operands.Reg d) (four_bytes n))
+    (instrs.Alu op size (operands.Reg d) (operands.Imm n))
 alu_reg_imm32_spells op size d n h = by_rm row.alu_reg_imm32 size 0x81 (op_number op) (operands.Reg d) (four_bytes n) (None) (instrs.Alu op size (operands.Reg d) (operands.Imm n)) (4, omega arith, refl)
     (record { row = refl; modrm = refl; opcode = refl; small = omega (arith, op_small op); number = refl; place = refl; fits = tt; bytes = four_fit n })
     (λ x s. rw (op_in_digit op x.modrm s.digit, s.size_is, s.rm_is, ap signed_of s.imm_is, four_back n h) refl)
 
-cmp_mem_imm8_spells : (size : Size) (m : Mem) (n : ℤ) → FitsSigned w32 m.disp → mem_ok m ≡ true → fits_byte n ≡ true → Spells (with_rm row.cmp_mem_imm8 size 0x83 7 (operands.Mem m) (one_byte n)) (instrs.Alu ops.Cmp size (operands.Mem m) (operands.Imm n))
+cmp_mem_imm8_spells : (size : Size) (m : Mem) (n : ℤ) → FitsSigned w32 m.disp → mem_ok m ≡ true → fits_byte n ≡ true →
+    Spells (with_rm row.cmp_mem_imm8 size 0x83 7 (operands.Mem m) (one_byte n)) (instrs.Alu ops.Cmp size (operands.Mem m) (operands.Imm n))
 cmp_mem_imm8_spells size m n f ok h = by_rm row.cmp_mem_imm8 size 0x83 7 (operands.Mem m) (one_byte n) (Some 7) (instrs.Alu ops.Cmp size (operands.Mem m) (operands.Imm n)) (6, omega arith, refl)
     (record { row = refl; modrm = refl; opcode = refl; small = omega arith; number = refl; place = ok; fits = f; bytes = one_fits n })
     (λ x s. rw (s.digit, s.size_is, s.rm_is, ap signed_of s.imm_is, one_back n h) refl)
 
-cmp_mem_imm32_spells : (size : Size) (m : Mem) (n : ℤ) → FitsSigned w32 m.disp → mem_ok m ≡ true → FitsSigned w32 n → Spells (with_rm row.cmp_mem_imm32 size 0x81 7 (operands.Mem m) (four_bytes n)) (instrs.Alu ops.Cmp size (operands.Mem m) (operands.Imm n))
+cmp_mem_imm32_spells : (size : Size) (m : Mem) (n : ℤ) → FitsSigned w32 m.disp → mem_ok m ≡ true → FitsSigned w32 n →
+    Spells (with_rm row.cmp_mem_imm32 size 0x81 7 (operands.Mem m) (four_bytes n)) (instrs.Alu ops.Cmp size (operands.Mem m) (operands.Imm n))
 cmp_mem_imm32_spells size m n f ok h = by_rm row.cmp_mem_imm32 size 0x81 7 (operands.Mem m) (four_bytes n) (Some 7) (instrs.Alu ops.Cmp size (operands.Mem m) (operands.Imm n)) (7, omega arith, refl)
     (record { row = refl; modrm = refl; opcode = refl; small = omega arith; number = refl; place = ok; fits = f; bytes = four_fit n })
     (λ x s. rw (s.digit, s.size_is, s.rm_is, ap signed_of s.imm_is, four_back n h) refl)
@@ -192,7 +198,16 @@ xchg_spells o r f ok = by_rm row.xchg Qword 0x87 (reg_number r) o [] (None) (ins
 
 cmov_spells : (c : Cond) (size : Size) (d : Reg) (o : Operand) → OperandFits o → place_ok o ≡ true → Spells (with_rm row.cmov size (0x40 + cond_number c) (reg_number d) o []) (instrs.Cmov c size d o)
 cmov_spells c size d o f ok = by_rm row.cmov size (0x40 + cond_number c) (reg_number d) o [] (None) (instrs.Cmov c size d o) (38, omega arith, refl)
-    (record { row = refl; modrm = either_side o row.cmov.modrm (None) refl refl; opcode = agree_below_at (λ k. has row.cmov.opcode (0x40 + k)) (λ _. true) 16 (cond_number c) refl (cond_small c); small = reg_small d; number = refl; place = ok; fits = f; bytes = tt })
+    (record {
+      row = refl;
+      modrm = either_side o row.cmov.modrm (None) refl refl;
+      opcode = agree_below_at (λ k. has row.cmov.opcode (0x40 + k)) (λ _. true) 16 (cond_number c) refl (cond_small c);
+      small = reg_small d;
+      number = refl;
+      place = ok;
+      fits = f;
+      bytes = tt;
+    })
     (λ x s. rw (cond_in_opcode c 0x40 x.opcode refl s.op_is, s.size_is, s.rm_is, s.reg_is d refl) refl)
 
 -- ---- operations of one register
@@ -324,7 +339,12 @@ jmp_rel_spells : (d : ℤ) → FitsSigned w32 d → Spells (alone row.jmp_rel32 
 jmp_rel_spells d f = by_alone row.jmp_rel32 0xe9 (four_bytes d) (instrs.JmpRel d) (48, omega arith, refl) refl refl (four_fit d) (ap instrs.JmpRel (four_back d f))
 
 jcc_spells : (c : Cond) (d : ℤ) → FitsSigned w32 d → Spells (alone row.jcc_rel32 (0x80 + cond_number c) (four_bytes d)) (instrs.Jcc c d)
-jcc_spells c d f = by_alone row.jcc_rel32 (0x80 + cond_number c) (four_bytes d) (instrs.Jcc c d) (52, omega arith, refl) refl (agree_below_at (λ k. has row.jcc_rel32.opcode (0x80 + k)) (λ _. true) 16 (cond_number c) refl (cond_small c)) (four_fit d) (rw (cond_in_opcode c 0x80 (0x80 + cond_number c) refl refl, four_back d f) refl)
+jcc_spells c d f = by_alone row.jcc_rel32 (0x80 + cond_number c) (four_bytes d) (instrs.Jcc c d) (
+  52,
+  omega arith,
+  refl,
+) refl (agree_below_at (λ k. has row.jcc_rel32.opcode (0x80 + k)) (λ _. true) 16 (cond_number c) refl (cond_small c)) (four_fit d)
+    (rw (cond_in_opcode c 0x80 (0x80 + cond_number c) refl refl, four_back d f) refl)
 
 ret_imm_spells : (n : ℕ) → n < 2 ^ 16 → Spells (alone row.ret_imm16 0xc2 (to_le_bytes w16 n)) (instrs.RetImm n)
 ret_imm_spells n l = by_alone row.ret_imm16 0xc2 (to_le_bytes w16 n) (instrs.RetImm n) (55, omega arith, refl) refl refl (omega arith, (omega arith, tt)) (ap instrs.RetImm (from_le_bytes-to_le_bytes_2 n l))

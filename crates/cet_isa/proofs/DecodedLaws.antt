@@ -1,5 +1,6 @@
 -- What is read by the table is what the table spells: each answer of `decoded` comes exactly where its cause holds. Source: own.
-use Rattle.std.proofs.Common.{◌≡◌, ◌≢◌, ℕ, zero, suc, ◌+◌, ◌-◌, ◌<◌, ◌≤◌, get_or, Bool, true, false, ◌&&◌, cond, List, [], ◌∷◌, ◌++◌, length, take, drop, Result, Ok, Err, refl, sym, ap, subst, ◌∙◌, append_assoc, inl, inr, arith}
+use Rattle.std.proofs.Common.{◌≡◌, ◌≢◌, ℕ, zero, suc, ◌+◌, ◌-◌, ◌<◌, ◌≤◌, get_or, Bool, true, false, ◌&&◌, cond, List, [], ◌∷◌, ◌++◌, length}
+use Rattle.std.proofs.Common.{take, drop, Result, Ok, Err, refl, sym, ap, subst, ◌∙◌, append_assoc, inl, inr, arith}
 use Rattle.std.specs.Prelude.{slice_index_or, Contains}
 use Rattle.std.proofs.lemmas.Bool.{and_parts}
 use Rattle.std.proofs.lemmas.List.{take_at, take-append-drop, length-append, length-drop}
@@ -162,7 +163,8 @@ part_is_short bytes fits p = go (any_at forms bytes) refl
     go : (r : Answer) → any_at forms bytes ≡ r → any_at forms bytes ≡ Err Ends
     go (Ok x) e =
         let t = found bytes x.1 x.0 fits e in
-        let again : any_at forms (bytes ++ p.more) ≡ Ok (x.0, x.1 ++ p.more) = ap (λ (k : List ℕ). any_at forms (k ++ p.more)) t.whole ∙ ap (any_at forms) (append_assoc t.front x.1 p.more) ∙ only t.front (x.1 ++ p.more) x.0 t.means in
+        let again : any_at forms (bytes ++ p.more) ≡ Ok (x.0, x.1 ++ p.more) = ap (λ (k : List ℕ). any_at forms (k ++ p.more)) t.whole ∙ ap (any_at forms) (append_assoc t.front x.1 p.more) ∙
+        only t.front (x.1 ++ p.more) x.0 t.means in
         let rest : x.1 ++ p.more ≡ [] = (pair_same x.0 p.instr (x.1 ++ p.more) [] (sym again ∙ whole)).1 in
         absurd (p.some_more (no_more x.1 p.more rest))
       where

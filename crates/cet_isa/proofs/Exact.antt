@@ -56,7 +56,8 @@ nonempty-append (x ∷ xs) ys h e = absurd cc
 abbrev pub Chain : {X Y : Type 0} → (List ℕ → Result (X × List ℕ) Miss) → (X → List ℕ → Result (Y × List ℕ) Miss) → List ℕ → Result (Y × List ℕ) Miss
 Chain p q bytes = p bytes >>= (λ r. q r.0 r.1)
 
-module _ {X Y : Type 0} (p : List ℕ → Result (X × List ℕ) Miss) (q : X → List ℕ → Result (Y × List ℕ) Miss) (R : List ℕ → X → Type 0) (S : X → List ℕ → Y → Type 0) (P : Exact p R) (Q : (x : X) → Exact (q x) (S x)) where
+module _ {X Y : Type 0} (p : List ℕ → Result (X × List ℕ) Miss) (q : X → List ℕ → Result (Y × List ℕ) Miss) (R : List ℕ → X → Type 0) (S : X → List ℕ → Y → Type 0) (P : Exact p R) (Q : (x : X) →
+    Exact (q x) (S x)) where
   seq_sound : (bytes rest : List ℕ) (y : Y) → IsBytes bytes → Chain p q bytes ≡ Ok (y, rest) → Took (Seq R S) bytes rest y
   seq_sound bytes rest y fits e =
       let b = bind_ok (p bytes) (λ (r : X × List ℕ). q r.0 r.1) (y, rest) e in
@@ -141,7 +142,8 @@ exact_done {X} x = record {
     same e = cc
 
 -- the same reader by another relation
-pub exact_as : {X : Type 0} (p p' : List ℕ → Result (X × List ℕ) Miss) (R R' : List ℕ → X → Type 0) → Exact p R → ((bytes : List ℕ) → p' bytes ≡ p bytes) → ((bytes : List ℕ) (x : X) → R bytes x → R' bytes x) → ((bytes : List ℕ) (x : X) → R' bytes x → R bytes x) → Exact p' R'
+pub exact_as : {X : Type 0} (p p' : List ℕ → Result (X × List ℕ) Miss) (R R' : List ℕ → X → Type 0) → Exact p R → ((bytes : List ℕ) → p' bytes ≡ p bytes) →
+    ((bytes : List ℕ) (x : X) → R bytes x → R' bytes x) → ((bytes : List ℕ) (x : X) → R' bytes x → R bytes x) → Exact p' R'
 exact_as p p' R R' P e to from = record {
   sound = λ bytes rest x fits h. let t = P.sound bytes rest x fits (sym (e bytes) ∙ h) in record { front = t.front; whole = t.whole; means = to t.front x t.means };
   complete = λ front rest x r. e (front ++ rest) ∙ P.complete front rest x (from front x r);

@@ -1,5 +1,6 @@
 -- Each stage of reading an instruction is exact. Source: own.
-use Rattle.std.proofs.Common.{◌≡◌, ◌≢◌, ℕ, zero, suc, ◌-◌, ◌<◌, ◌≤◌, Bool, true, false, cond, List, [], ◌∷◌, ◌++◌, length, take, drop, Option, Some, None, Ok, Err, refl, sym, ap, subst, ◌∙◌, append_assoc, arith, replicate}
+use Rattle.std.proofs.Common.{◌≡◌, ◌≢◌, ℕ, zero, suc, ◌-◌, ◌<◌, ◌≤◌, Bool, true, false, cond, List, [], ◌∷◌, ◌++◌, length, take, drop}
+use Rattle.std.proofs.Common.{Option, Some, None, Ok, Err, refl, sym, ap, subst, ◌∙◌, append_assoc, arith, replicate}
 use Rattle.std.specs.Prelude.{slice_index, nat_lt}
 use Rattle.std.proofs.lemmas.Bool.{ltb-true, ltb-false, le-ltb}
 use Rattle.std.proofs.lemmas.List.{take_at, drop_at, take-append-drop, length-append, length-take, length-replicate}
@@ -40,7 +41,11 @@ exact_byte (Some p) inhabited = record {
     sound (b ∷ bytes) rest x fits e = go (has p b) refl e
       where
         go : (t : Bool) → has p b ≡ t → cond t (pair b bytes) (Err Differs) ≡ Ok (x, rest) → Took (Place (Some p)) (b ∷ bytes) rest x
-        go true holds e = let q = pair_same b x bytes rest e in record { front = x ∷ []; whole = ap (λ (k : ℕ). k ∷ bytes) q.0 ∙ ap (λ (k : List ℕ). x ∷ k) q.1; means = (subst (λ (k : ℕ). has p k ≡ true) q.0 holds, refl) }
+        go true holds e = let q = pair_same b x bytes rest e in record {
+          front = x ∷ [];
+          whole = ap (λ (k : ℕ). k ∷ bytes) q.0 ∙ ap (λ (k : List ℕ). x ∷ k) q.1;
+          means = (subst (λ (k : ℕ). has p k ≡ true) q.0 holds, refl);
+        }
         go false nope e = absurd cc
 
     ends : (bytes : List ℕ) → IsBytes bytes → byte_at (Some p) bytes ≡ Err Ends → GoesOn (Place (Some p)) bytes
@@ -125,7 +130,11 @@ exact_bytes n = record {
         let q1 = q.1 in
         let long : n ≤ length bytes = ltb-false _ _ l in
         let fits' : IsBytes (take n bytes ++ drop n bytes) = subst IsBytes (sym (take-append-drop n bytes)) fits in
-        record { front = x; whole = sym (take-append-drop n bytes) ∙ ap (λ (k : List ℕ). k ++ drop n bytes) q0 ∙ ap (λ (k : List ℕ). x ++ k) q1; means = (refl, ap length (sym q0) ∙ omega (arith, length-take n bytes), subst IsBytes q0 (IsBytes-left (take n bytes) (drop n bytes) fits')) }
+        record {
+          front = x;
+          whole = sym (take-append-drop n bytes) ∙ ap (λ (k : List ℕ). k ++ drop n bytes) q0 ∙ ap (λ (k : List ℕ). x ++ k) q1;
+          means = (refl, ap length (sym q0) ∙ omega (arith, length-take n bytes), subst IsBytes q0 (IsBytes-left (take n bytes) (drop n bytes) fits'));
+        }
 
     complete : (front rest x : List ℕ) → Bytes n front x → bytes_at n (front ++ rest) ≡ Ok (x, rest)
     complete front rest x b =
@@ -136,7 +145,16 @@ exact_bytes n = record {
     ends bytes fits true l e =
         let lt : length bytes < n = ltb-true _ _ l in
         let zs = zeros (n - length bytes) in
-        record { more = zs; some_more = nonempty_zeros (n - length bytes) (omega arith); value = bytes ++ zs; means = (refl, omega (arith, length-append bytes (zeros (n - length bytes)), length-replicate {A = ℕ} (n - length bytes) zero), IsBytes-append bytes zs fits (zeros_fit (n - length bytes))) }
+        record {
+          more = zs;
+          some_more = nonempty_zeros (n - length bytes) (omega arith);
+          value = bytes ++ zs;
+          means = (
+            refl,
+            omega (arith, length-append bytes (zeros (n - length bytes)), length-replicate {A = ℕ} (n - length bytes) zero),
+            IsBytes-append bytes zs fits (zeros_fit (n - length bytes)),
+          );
+        }
     ends bytes fits false l e = absurd cc
 
     never : (t : Bool) (bytes : List ℕ) → cond t (Err Ends) (pair (take n bytes) (drop n bytes)) ≡ Err Differs → ⊥
@@ -179,7 +197,8 @@ spelled_by f rex bytes i ok s =
       imm = imm.value;
       imm_fits = imm.means.1;
       tail_fits = IsBytes-append operand.value (disp.value ++ imm.value) operand.first.2 (IsBytes-append disp.value imm.value disp.means.2 imm.means.2);
-      whole = s.whole ∙ ap (λ (k : List ℕ). s.front ++ k) (tail.whole ∙ ap (λ (k : List ℕ). k ++ tail.back) (operand.whole ∙ ap (λ (k : List ℕ). k ++ operand.back) operand.first.0 ∙ ap (λ (k : List ℕ). operand.value ++ k) disp.means.0) ∙ append_assoc operand.value disp.value tail.back ∙ ap (λ (k : List ℕ). operand.value ++ (disp.value ++ k)) imm.means.0);
+      whole = s.whole ∙ ap (λ (k : List ℕ). s.front ++ k) (tail.whole ∙ ap (λ (k : List ℕ). k ++ tail.back) (operand.whole ∙ ap (λ (k : List ℕ). k ++ operand.back) operand.first.0 ∙
+          ap (λ (k : List ℕ). operand.value ++ k) disp.means.0) ∙ append_assoc operand.value disp.value tail.back ∙ ap (λ (k : List ℕ). operand.value ++ (disp.value ++ k)) imm.means.0);
       means = imm.same ∙ ap (λ (k : Operand). instr_of f.kind (fields_in s.value k imm.value)) disp.same;
     }
 

@@ -1,5 +1,6 @@
 -- The canonical bytes of an operand are read as that operand. Source: own.
-use Rattle.std.proofs.Common.{◌≡◌, ℕ, ◌+◌, ◌-◌, ◌*◌, ◌/◌, ◌%◌, ◌^◌, ◌<◌, ◌≤◌, suc, Bool, true, false, not, ◌&&◌, ◌||◌, cond, ltb, List, [], ◌∷◌, length, Option, Some, None, refl, sym, ap, subst, ◌∙◌, ◌⊎◌, inl, inr, arith, ℤ, pos, negsuc}
+use Rattle.std.proofs.Common.{◌≡◌, ℕ, ◌+◌, ◌-◌, ◌*◌, ◌/◌, ◌%◌, ◌^◌, ◌<◌, ◌≤◌, suc, Bool, true, false, not, ◌&&◌, ◌||◌, cond, ltb, List, [], ◌∷◌}
+use Rattle.std.proofs.Common.{length, Option, Some, None, refl, sym, ap, subst, ◌∙◌, ◌⊎◌, inl, inr, arith, ℤ, pos, negsuc}
 use Rattle.std.specs.Prelude.{slice_index, nat_lt, ◌==◌}
 use Rattle.std.specs.Int.{w32, cast_signed, cast_unsigned}
 use Rattle.std.specs.Int.RustNames.{FitsSigned}
@@ -118,7 +119,8 @@ reads_reg r rex m h =
       disp_bytes = tt;
     }
 
-read_mem : (rex m sib : ℕ) (d : ℤ) (b : Base) (i : Option Reg) (s : ℕ) → nat_lt m 192 ≡ true → base_of rex m sib ≡ b → cond (has_index rex m sib) (Some (reg_at (index_number rex sib))) None ≡ i → cond (has_index rex m sib) (2 ^ (sib / 64)) 1 ≡ s → operand_of rex m sib d ≡ operands.Mem (record { base = b; index = i; scale = s; disp = d })
+read_mem : (rex m sib : ℕ) (d : ℤ) (b : Base) (i : Option Reg) (s : ℕ) → nat_lt m 192 ≡ true → base_of rex m sib ≡ b → cond (has_index rex m sib) (Some (reg_at (index_number rex sib))) None ≡ i →
+    cond (has_index rex m sib) (2 ^ (sib / 64)) 1 ≡ s → operand_of rex m sib d ≡ operands.Mem (record { base = b; index = i; scale = s; disp = d })
 read_mem rex m sib d b i s small eb ei es = rw small (ap operands.Mem (made eb ei es))
   where
     made : {b b' : Base} {i i' : Option Reg} {s s' : ℕ} → b ≡ b' → i ≡ i' → s ≡ s' → (let x : Mem = record { base = b; index = i; scale = s; disp = d } in x) ≡ record { base = b'; index = i'; scale = s'; disp = d }
@@ -225,7 +227,8 @@ sib_says i s b oi os l =
 -- ---- memory, form by form
 
 -- [base + disp], with no SIB
-reads_plain : (b : Reg) (d : ℤ) (k : ℕ) (text : List ℕ) → Disp b d k text → (low b ≡ 4 → ⊥) → (rex m : ℕ) → Holds (record { mode = k + low b; sib = []; disp = text; extend = high b }) rex m → Reads (operands.Mem (record { base = bases.Reg b; index = None; scale = 1; disp = d })) (record { mode = k + low b; sib = []; disp = text; extend = high b }) rex m
+reads_plain : (b : Reg) (d : ℤ) (k : ℕ) (text : List ℕ) → Disp b d k text → (low b ≡ 4 → ⊥) → (rex m : ℕ) → Holds (record { mode = k + low b; sib = []; disp = text; extend = high b }) rex m →
+    Reads (operands.Mem (record { base = bases.Reg b; index = None; scale = 1; disp = d })) (record { mode = k + low b; sib = []; disp = text; extend = high b }) rex m
 reads_plain b d k text f no_sib rex m h =
     let n = reg_small b in
     let k-is = mods_small k f.mods in
@@ -243,7 +246,9 @@ reads_plain b d k text f no_sib rex m h =
     }
 
 -- by SIB with a base
-reads_sib : (b : Reg) (i : Option Reg) (s : ℕ) (d : ℤ) (k sib e : ℕ) (text : List ℕ) → Disp b d k text → sib < 256 → sib % 8 ≡ low b → e % 2 ≡ high b → IndexBy sib e i s → (rex m : ℕ) → Holds (record { mode = k + 4; sib = sib ∷ []; disp = text; extend = e }) rex m → Reads (operands.Mem (record { base = bases.Reg b; index = i; scale = s; disp = d })) (record { mode = k + 4; sib = sib ∷ []; disp = text; extend = e }) rex m
+reads_sib : (b : Reg) (i : Option Reg) (s : ℕ) (d : ℤ) (k sib e : ℕ) (text : List ℕ) → Disp b d k text → sib < 256 → sib % 8 ≡ low b → e % 2 ≡ high b → IndexBy sib e i s → (rex m : ℕ) →
+    Holds (record { mode = k + 4; sib = sib ∷ []; disp = text; extend = e }) rex m → Reads (operands.Mem (record { base = bases.Reg b; index = i; scale = s; disp = d }))
+    (record { mode = k + 4; sib = sib ∷ []; disp = text; extend = e }) rex m
 reads_sib b i s d k sib e text f byte sib-low e-low index rex m h =
     let n = reg_small b in
     let k-is = mods_small k f.mods in
@@ -260,7 +265,8 @@ reads_sib b i s d k sib e text f byte sib-low e-low index rex m h =
       disp_bytes = f.bytes;
     }
 
-reads_rip : (d : ℤ) (rex m : ℕ) → FitsSigned w32 d → Holds (record { mode = 5; sib = []; disp = four_bytes d; extend = 0 }) rex m → Reads (operands.Mem (record { base = bases.Rip; index = None; scale = 1; disp = d })) (record { mode = 5; sib = []; disp = four_bytes d; extend = 0 }) rex m
+reads_rip : (d : ℤ) (rex m : ℕ) → FitsSigned w32 d → Holds (record { mode = 5; sib = []; disp = four_bytes d; extend = 0 }) rex m →
+    Reads (operands.Mem (record { base = bases.Rip; index = None; scale = 1; disp = d })) (record { mode = 5; sib = []; disp = four_bytes d; extend = 0 }) rex m
 reads_rip d rex m f h =
     let rm : m % 8 ≡ 5 = omega (arith, h.whole, h.small) in
     let small : nat_lt m 192 ≡ true = lt-ltb _ _ (omega (arith, h.whole, h.small)) in
@@ -278,7 +284,9 @@ reads_rip d rex m f h =
     }
 
 -- by SIB with no base
-reads_baseless : (i : Option Reg) (s : ℕ) (d : ℤ) (sib e : ℕ) → FitsSigned w32 d → sib < 256 → sib % 8 ≡ 5 → IndexBy sib e i s → (rex m : ℕ) → Holds (record { mode = 4; sib = sib ∷ []; disp = four_bytes d; extend = e }) rex m → Reads (operands.Mem (record { base = bases.None; index = i; scale = s; disp = d })) (record { mode = 4; sib = sib ∷ []; disp = four_bytes d; extend = e }) rex m
+reads_baseless : (i : Option Reg) (s : ℕ) (d : ℤ) (sib e : ℕ) → FitsSigned w32 d → sib < 256 → sib % 8 ≡ 5 → IndexBy sib e i s → (rex m : ℕ) →
+    Holds (record { mode = 4; sib = sib ∷ []; disp = four_bytes d; extend = e }) rex m → Reads (operands.Mem (record { base = bases.None; index = i; scale = s; disp = d }))
+    (record { mode = 4; sib = sib ∷ []; disp = four_bytes d; extend = e }) rex m
 reads_baseless i s d sib e f byte sib-low index rex m h =
     let rm : m % 8 ≡ 4 = omega (arith, h.whole, h.small) in
     let small : nat_lt m 192 ≡ true = lt-ltb _ _ (omega (arith, h.whole, h.small)) in
@@ -311,10 +319,13 @@ reads_base b d f rex m h = go (low b == 4) refl h
     go false e h = reads_plain b d (mod_bits b d) (disp_bytes b d) (disp_back b d f) (λ k. neither (low b == 4) e (eq-eqb (low b) 4 k)) rex m h
 
 -- a scale that passes the test without an index is 1
-at_one : (b : Base) (s : ℕ) (d : ℤ) (rex m : ℕ) → s ≡ 1 → (Holds (coded_mem b None 1 d) rex m → Reads (operands.Mem (record { base = b; index = None; scale = 1; disp = d })) (coded_mem b None 1 d) rex m) → Holds (coded_mem b None s d) rex m → Reads (operands.Mem (record { base = b; index = None; scale = s; disp = d })) (coded_mem b None s d) rex m
+at_one : (b : Base) (s : ℕ) (d : ℤ) (rex m : ℕ) → s ≡ 1 → (Holds (coded_mem b None 1 d) rex m →
+    Reads (operands.Mem (record { base = b; index = None; scale = 1; disp = d })) (coded_mem b None 1 d) rex m) → Holds (coded_mem b None s d) rex m →
+    Reads (operands.Mem (record { base = b; index = None; scale = s; disp = d })) (coded_mem b None s d) rex m
 at_one b s d rex m e g = subst (λ (k : ℕ). Holds (coded_mem b None k d) rex m → Reads (operands.Mem (record { base = b; index = None; scale = k; disp = d })) (coded_mem b None k d) rex m) (sym e) g
 
-reads_mem : (b : Base) (i : Option Reg) (s : ℕ) (d : ℤ) → FitsSigned w32 d → address_ok b i s ≡ true → (rex m : ℕ) → Holds (coded_mem b i s d) rex m → Reads (operands.Mem (record { base = b; index = i; scale = s; disp = d })) (coded_mem b i s d) rex m
+reads_mem : (b : Base) (i : Option Reg) (s : ℕ) (d : ℤ) → FitsSigned w32 d → address_ok b i s ≡ true → (rex m : ℕ) → Holds (coded_mem b i s d) rex m →
+    Reads (operands.Mem (record { base = b; index = i; scale = s; disp = d })) (coded_mem b i s d) rex m
 reads_mem bases.Rip None s d f ok rex m h = at_one bases.Rip s d rex m (eqb-true s 1 ok) (reads_rip d rex m f) h
 reads_mem bases.Rip (Some i) s d f ok rex m h = absurd cc
 reads_mem bases.None None s d f ok rex m h = at_one bases.None s d rex m (eqb-true s 1 ok) (reads_baseless None 1 d 0x25 0 f (omega arith) (omega arith) (no_index 0x25 0 (omega arith) (omega arith)) rex m) h

@@ -1,5 +1,6 @@
 -- How many bytes a reader takes: at least one, and 12 at most. Source: own.
-use Rattle.std.proofs.Common.{◌≡◌, ℕ, zero, suc, ◌+◌, ◌-◌, ◌<◌, ◌≤◌, Bool, true, false, ◌&&◌, cond, List, [], ◌∷◌, ◌++◌, length, take, drop, Option, Some, None, Result, Ok, Err, refl, sym, ap, subst, ◌∙◌, arith, ◌⊎◌, inl, inr}
+use Rattle.std.proofs.Common.{◌≡◌, ℕ, zero, suc, ◌+◌, ◌-◌, ◌<◌, ◌≤◌, Bool, true, false, ◌&&◌, cond, List, [], ◌∷◌, ◌++◌, length, take, drop}
+use Rattle.std.proofs.Common.{Option, Some, None, Result, Ok, Err, refl, sym, ap, subst, ◌∙◌, arith, ◌⊎◌, inl, inr}
 use Rattle.std.specs.Prelude.{slice_index, nat_le, nat_lt}
 use Rattle.std.proofs.lemmas.Bool.{and_parts, leb-true, ltb-false}
 use Rattle.std.proofs.lemmas.List.{length-append, length-drop}
@@ -34,7 +35,9 @@ cells_fill (None ∷ os) bytes cells rest e =
 cells_fill (Some p ∷ os) [] cells rest e = absurd cc
 cells_fill (Some p ∷ os) (a ∷ bytes) cells rest e = go (λ xs ys h. cells_fill os bytes xs ys h) (has p a) refl e
   where
-    go : ((xs ys : List ℕ) → cells_at os bytes ≡ Ok (xs, ys) → Cells os bytes xs ys) → (t : Bool) → has p a ≡ t → ((let r : Result (ℕ × List ℕ) Miss = cond t (Ok (a, bytes)) (Err Differs) in r) >>= (λ x. cells_at os x.1 >>= (λ r. pair (x.0 ∷ r.0) r.1))) ≡ Ok (cells, rest) → Cells (Some p ∷ os) (a ∷ bytes) cells rest
+    go : ((xs ys : List ℕ) → cells_at os bytes ≡ Ok (xs, ys) → Cells os bytes xs ys) → (t : Bool) → has p a ≡ t →
+        ((let r : Result (ℕ × List ℕ) Miss = cond t (Ok (a, bytes)) (Err Differs) in r) >>= (λ x. cells_at os x.1 >>= (λ r. pair (x.0 ∷ r.0) r.1))) ≡ Ok (cells, rest) →
+        Cells (Some p ∷ os) (a ∷ bytes) cells rest
     go ih true h e =
         let b = bind_ok (cells_at os bytes) (λ (r : List ℕ × List ℕ). pair (a ∷ r.0) r.1) (cells, rest) e in
         let q = pair_same (a ∷ b.0.0) cells b.0.1 rest b.2 in

@@ -1,5 +1,6 @@
 -- An instruction that has a spelling passes the test of its operands. Source: own.
-use Rattle.std.proofs.Common.{◌≡◌, ℕ, zero, suc, ◌+◌, ◌*◌, ◌/◌, ◌%◌, ◌^◌, ◌<◌, ◌≤◌, Bool, true, false, not, ◌&&◌, ◌||◌, cond, List, [], ◌∷◌, ◌++◌, length, Option, Some, None, refl, ap, subst, ◌∙◌, inl, inr, arith, ℤ}
+use Rattle.std.proofs.Common.{◌≡◌, ℕ, zero, suc, ◌+◌, ◌*◌, ◌/◌, ◌%◌, ◌^◌, ◌<◌, ◌≤◌, Bool, true, false, not, ◌&&◌, ◌||◌, cond, List, []}
+use Rattle.std.proofs.Common.{◌∷◌, ◌++◌, length, Option, Some, None, refl, ap, subst, ◌∙◌, inl, inr, arith, ℤ}
 use Rattle.std.specs.Prelude.{slice_index, slice_index_or, nat_lt, nat_le, ◌==◌, Contains}
 use Rattle.std.proofs.lemmas.Bool.{and_parts, and_from, or_cases, eqb-true, ltb-true, leb-true, agree_below, agree_below_at}
 use Rattle.std.proofs.lemmas.Nat.{and_le_l}
@@ -37,7 +38,8 @@ scale_is_ok i n l = agree_below_at (λ n. scale_ok (Some i) (2 ^ n)) (λ _. true
 mem_is_ok : (rex m sib : ℕ) (d : ℤ) → sib < 256 → mem_ok (mem_of rex m sib d) ≡ true
 mem_is_ok rex m sib d l = go (lacks_base m sib) (m % 8 == 4) (index_number rex sib == 4) refl
   where
-    go : (lacks four none : Bool) → (index_number rex sib == 4) ≡ none → address_ok (cond lacks (cond four bases.None bases.Rip) (bases.Reg (reg_at (cond four (sib % 8) (m % 8) + 8 * bit rex 0)))) (cond (four && not none) (Some (reg_at (index_number rex sib))) None) (cond (four && not none) (2 ^ (sib / 64)) 1) ≡ true
+    go : (lacks four none : Bool) → (index_number rex sib == 4) ≡ none → address_ok (cond lacks (cond four bases.None bases.Rip) (bases.Reg (reg_at (cond four (sib % 8) (m % 8) + 8 * bit rex 0))))
+        (cond (four && not none) (Some (reg_at (index_number rex sib))) None) (cond (four && not none) (2 ^ (sib / 64)) 1) ≡ true
     go true true true e = refl
     go true true false e = and_from _ _ (index_is_ok rex sib e) (scale_is_ok (reg_at (index_number rex sib)) (sib / 64) (omega arith))
     go true false true e = refl

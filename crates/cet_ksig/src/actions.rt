@@ -5,7 +5,8 @@ ghost use Rattle.cet_words.specs.Layout.{action_word, word_count};
 ghost use Rattle.cet_page.specs.Script.{play};
 ghost use Rattle.cet_page.specs.Plays.{Refines};
 ghost use Rattle.cet_page.specs.Finish.{rdi};
-ghost use Rattle.cet_page.specs.Signals.{action_refused, allowed_flags, asked_action, change_action, copy_action, has_handler, is_allowed, is_code, is_fixed, last_signal, load_action, new_action, old_action, rt_sigaction, set_action, set_handler};
+ghost use Rattle.cet_page.specs.Signals.{action_refused, allowed_flags, asked_action, change_action, copy_action, has_handler, is_allowed, is_code};
+ghost use Rattle.cet_page.specs.Signals.{is_fixed, last_signal, load_action, new_action, old_action, rt_sigaction, set_action, set_handler};
 
 use crate::structures::{Given, LAST_SIGNAL, MASK_SIZE, given_span};
 use cet_isa::{Arch, R10, RDI, RDX, RSI, Record};

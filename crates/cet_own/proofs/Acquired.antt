@@ -105,7 +105,8 @@ module _ {t m q p : ℕ} {b : Book} (k : Token t m q p b) where
 
 module _ {image : ImageData} {t k : ℕ} {past : List Visit} {b : Book} {a : Access} {v : ℕ} {changes : List Change} where
   -- the token is found
-  pub takes : (m q p : ℕ) → (region b m).holder ≡ Current t → (region b q).holder ≡ Parked → top (region b q) ≡ p + 8 → a ≡ access.CompareExchange (slot p) (p + 9) (top (region b m) + 3) → v ≡ p + 9 → changes ≡ Acquired p ∷ [] → Owed image t k past b a v changes
+  pub takes : (m q p : ℕ) → (region b m).holder ≡ Current t → (region b q).holder ≡ Parked → top (region b q) ≡ p + 8 → a ≡ access.CompareExchange (slot p) (p + 9) (top (region b m) + 3) → v ≡ p + 9 →
+      changes ≡ Acquired p ∷ [] → Owed image t k past b a v changes
   takes m q p current parked at e found ev =
       changed (Acquired p) (acquire t m q b) ev tt
       (λ words is h ssp held stands note. of_class class.Acquire (Acquired p ∷ []) ev refl

@@ -56,11 +56,13 @@ others_keep : (words : List ℕ) (word x : ℕ) → ((s : ℕ) → s < 64 → re
 others_keep words word x other s l n z = n (sym (word_other words word x (restorer_word s) (other s l)) ∙ z)
 
 -- and then what stands as restorers is as it was
-same_restorers : (image : ImageData) (words : List ℕ) (word x : ℕ) → ((s : ℕ) → s < 64 → restorer_word s ≢ word) → Restorers image words → (s : ℕ) → s < 64 → IsRestorer image (slice_index (slice_set words word x) (restorer_word s))
+same_restorers : (image : ImageData) (words : List ℕ) (word x : ℕ) → ((s : ℕ) → s < 64 → restorer_word s ≢ word) → Restorers image words → (s : ℕ) → s < 64 →
+    IsRestorer image (slice_index (slice_set words word x) (restorer_word s))
 same_restorers image words word x other h s l = subst (IsRestorer image) (sym (word_other words word x (restorer_word s) (other s l))) (h.executable s l)
 
 module _ {image : ImageData} {t k : ℕ} {past : List Visit} {b : Book} {a : Access} {v : ℕ} {changes : List Change} where
-  acts : (word x : ℕ) → IsAction word → a ≡ access.Store word x → changes ≡ [] → ((words : List ℕ) → Holds image words b → Still words t b past → Restorers image (slice_set words word x)) → ((words : List ℕ) → Holds image words b → KeepsRestorers words (slice_set words word x)) → Owed image t k past b a v changes
+  acts : (word x : ℕ) → IsAction word → a ≡ access.Store word x → changes ≡ [] → ((words : List ℕ) → Holds image words b → Still words t b past → Restorers image (slice_set words word x)) →
+      ((words : List ℕ) → Holds image words b → KeepsRestorers words (slice_set words word x)) → Owed image t k past b a v changes
   acts word x at e ev restorers keeps = record {
     notes = λ words is h. notes_gate v e ev (λ held. refl) (λ held j q. inl q);
     below = λ words is h. (let high = at.high in tells_below t b v e (λ j l. not_below word j (λ z. omega arith)));

@@ -73,7 +73,9 @@ module _ (job : JobData) (arch : Arch) where
   pushed b back = relist (current_of arch.number b) (Call back ∷ (region b (current_of arch.number b)).entries) b
 
   -- the return address goes on the shadow stack
-  push_claim : (past : List Visit) (before s : State) (target sp word back : ℕ) → Resting arch.number untouched (progress past) s.book arch.ssp → word ≡ slot (arch.ssp - 8) → (region s.book (current_of arch.number s.book)).start + 8 ≤ top (region s.book (current_of arch.number s.book)) → IsReturn back → IsElsewhere job arch → Claim job arch (EndsRow job arch) past before s (store_as (Called back ∷ []) word back >>= (λ _. done (called arch target sp (sub64 arch.ssp 8))))
+  push_claim : (past : List Visit) (before s : State) (target sp word back : ℕ) → Resting arch.number untouched (progress past) s.book arch.ssp → word ≡ slot (arch.ssp - 8) →
+      (region s.book (current_of arch.number s.book)).start + 8 ≤ top (region s.book (current_of arch.number s.book)) → IsReturn back → IsElsewhere job arch →
+      Claim job arch (EndsRow job arch) past before s (store_as (Called back ∷ []) word back >>= (λ _. done (called arch target sp (sub64 arch.ssp 8))))
   unfolding store_as
   push_claim past before s target sp word back rest w room is_return free =
       claim_bind job arch (EndsRow job arch) past before s (store_as (Called back ∷ []) word back) _ (
@@ -103,7 +105,8 @@ module _ (job : JobData) (arch : Arch) where
             ),
       )
 
-  pub call_claim : (past : List Visit) (before s : State) (back target : ℕ) → Resting arch.number untouched (progress past) s.book arch.ssp → IsReturn back → IsElsewhere job arch → Claim job arch (EndsRow job arch) past before s (call arch back target)
+  pub call_claim : (past : List Visit) (before s : State) (back target : ℕ) → Resting arch.number untouched (progress past) s.book arch.ssp → IsReturn back → IsElsewhere job arch →
+      Claim job arch (EndsRow job arch) past before s (call arch back target)
   unfolding call
   call_claim past before s back target rest is_return free =
       let low = rest.stacked.low in
@@ -133,12 +136,14 @@ module _ (job : JobData) (arch : Arch) where
       store_then job arch (EndsRow job arch) _ now now (word_in page (sub64 (rsp arch) 8)) back _ (page_word page (sub64 (rsp arch) 8) p) (rest_stacked rest1) (λ now2 r2.
       (rested (rest_kept r2 rest1), λ held later. free, tt))))
 
-  pub call_relative_claim : (past : List Visit) (before s : State) (disp : ℤ) (next : ℕ) → Resting arch.number untouched (progress past) s.book arch.ssp → IsReturn next → IsElsewhere job arch → Claim job arch (EndsRow job arch) past before s (call_relative arch disp next)
+  pub call_relative_claim : (past : List Visit) (before s : State) (disp : ℤ) (next : ℕ) → Resting arch.number untouched (progress past) s.book arch.ssp → IsReturn next → IsElsewhere job arch →
+      Claim job arch (EndsRow job arch) past before s (call_relative arch disp next)
   call_relative_claim past before s disp next rest is_return free =
       claim_cond job arch (EndsRow job arch) past before s (cast_unsigned w64 disp == 0) _ _
       (λ _. call_next_claim past before s next rest free) (λ _. call_claim past before s next (relative next disp) rest is_return free)
 
-  pub call_indirect_claim : (past : List Visit) (before s : State) (src : Operand) (next : ℕ) → Resting arch.number untouched (progress past) s.book arch.ssp → IsReturn next → IsElsewhere job arch → Claim job arch (EndsRow job arch) past before s (call_indirect arch src next)
+  pub call_indirect_claim : (past : List Visit) (before s : State) (src : Operand) (next : ℕ) → Resting arch.number untouched (progress past) s.book arch.ssp → IsReturn next → IsElsewhere job arch →
+      Claim job arch (EndsRow job arch) past before s (call_indirect arch src next)
   unfolding call_indirect
   call_indirect_claim past before s src next rest is_return free =
       read_operand_then job arch (EndsRow job arch) past before s size.Qword src next _ rest (λ p z n rest1 target.

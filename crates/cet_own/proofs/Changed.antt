@@ -22,7 +22,8 @@ use Rattle.cet_own.proofs.ClassLaws.{one_book, sound_after}
 use Rattle.cet_own.proofs.Classes.{word_other, keeps_restorers}
 
 -- a write in a region that isn't the thread's leaves its own words
-pub place_spares : (words : List ℕ) (b : Book) (k p x y : ℕ) → Place p → In (region b k) p → (Owns y (region b k).holder → ⊥) → (w : ℕ) → OwnWord y b w → slice_index (slice_set words (slot p) x) w ≡ slice_index words w
+pub place_spares : (words : List ℕ) (b : Book) (k p x y : ℕ) → Place p → In (region b k) p → (Owns y (region b k).holder → ⊥) → (w : ℕ) → OwnWord y b w →
+    slice_index (slice_set words (slot p) x) w ≡ slice_index words w
 place_spares words b k p x y place inn not_own w (own_slot addr at own e) =
     let low = place.low in
     let even = place.even in
@@ -47,7 +48,11 @@ pub spares_none : (t : ℕ) (b : Book) (words : List ℕ) → Spares t b words w
 spares_none t b words = record { own = λ y n w own. refl; restorers = λ s l n. n }
 
 -- it is enough to say to which book the change leads, that words and book are in step there, and which words were spared
-pub changed : {image : ImageData} {t k : ℕ} {past : List Visit} {b : Book} {a : Access} {v : ℕ} {changes : List Change} → (c : Change) (to : Book) → changes ≡ c ∷ [] → ChangeReturns c → ((words : List ℕ) → v ≡ answer words a → Holds image words b → Fits t past b a v changes) → ((words : List ℕ) → v ≡ answer words a → Holds image words b → CountsBy t past b a v changes) → ((words : List ℕ) → v ≡ answer words a → Holds image words b → TellsBelow t b a v) → ((words : List ℕ) → v ≡ answer words a → Holds image words b → NotesGate k a v changes) → ((words : List ℕ) → v ≡ answer words a → Holds image words b → book_after t b c ≡ Some to) → ((words : List ℕ) → v ≡ answer words a → Holds image words b → Sound to → Holds image (after words a) to × Spares t b words (after words a)) → Owed image t k past b a v changes
+pub changed : {image : ImageData} {t k : ℕ} {past : List Visit} {b : Book} {a : Access} {v : ℕ} {changes : List Change} → (c : Change) (to : Book) → changes ≡ c ∷ [] → ChangeReturns c →
+    ((words : List ℕ) → v ≡ answer words a → Holds image words b → Fits t past b a v changes) → ((words : List ℕ) → v ≡ answer words a → Holds image words b → CountsBy t past b a v changes) →
+    ((words : List ℕ) → v ≡ answer words a → Holds image words b → TellsBelow t b a v) → ((words : List ℕ) → v ≡ answer words a → Holds image words b → NotesGate k a v changes) →
+    ((words : List ℕ) → v ≡ answer words a → Holds image words b → book_after t b c ≡ Some to) →
+    ((words : List ℕ) → v ≡ answer words a → Holds image words b → Sound to → Holds image (after words a) to × Spares t b words (after words a)) → Owed image t k past b a v changes
 changed {image = image} {t = t} {b = b} {a = a} {v = v} {changes = changes} c to ev returns fits counts below notes way does = record {
   notes = notes;
   fits = fits;

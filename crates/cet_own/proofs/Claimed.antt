@@ -133,7 +133,8 @@ pub draw_can_claim : (b : Book) (v pages : ℕ) → ((i : ℕ) → (region b i).
 draw_can_claim b v pages drawn least fits = let l = last_drawn b v drawn in record { least = least; most = omega arith; aligned = omega arith; above = omega arith; high = omega arith }
 
 module _ {image : ImageData} {t k : ℕ} {past : List Visit} {b : Book} {a : Access} {v : ℕ} {changes : List Change} where
-  pub draws : (pages : ℕ) (maker : Bool) → a ≡ access.FetchAdd draw_word (pages + 1) → 1 ≤ pages → v + pages + 1 ≤ 1023 → drew past ≡ false → changes ≡ Claimed (shadow_start + 4096 * (v + 1)) pages maker ∷ [] → Owed image t k past b a v changes
+  pub draws : (pages : ℕ) (maker : Bool) → a ≡ access.FetchAdd draw_word (pages + 1) → 1 ≤ pages → v + pages + 1 ≤ 1023 → drew past ≡ false →
+      changes ≡ Claimed (shadow_start + 4096 * (v + 1)) pages maker ∷ [] → Owed image t k past b a v changes
   draws pages maker e least fits once ev =
       changed (Claimed (shadow_start + 4096 * (v + 1)) pages maker) (append (claim t (shadow_start + 4096 * (v + 1)) pages maker) b) ev tt
       (λ words is h ssp held stands note. of_class class.Claim (Claimed (shadow_start + 4096 * (v + 1)) pages maker ∷ []) ev refl (ap (λ c. class_at c ssp held v) e ∙ is_claim (pages + 1) ssp v held))

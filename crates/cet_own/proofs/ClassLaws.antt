@@ -76,7 +76,8 @@ sound_after t c b next s e r = let k = book_kept t c b next s.book e in record {
 
 -- ---- the words after
 
-pub wrote : (image : ImageData) (words : List ℕ) (b : Book) (word expected value : ℕ) (c : Bool) → (slice_index words word == expected) ≡ c → Holds image words b → (c ≡ true → Holds image (slice_set words word value) b) → Holds image (after words (access.CompareExchange word expected value)) b
+pub wrote : (image : ImageData) (words : List ℕ) (b : Book) (word expected value : ℕ) (c : Bool) → (slice_index words word == expected) ≡ c → Holds image words b →
+    (c ≡ true → Holds image (slice_set words word value) b) → Holds image (after words (access.CompareExchange word expected value)) b
 wrote image words b word expected value true e h f = rw e (f refl)
 wrote image words b word expected value false e h f = rw e h
 
@@ -87,7 +88,8 @@ pub exchange_fails : (words : List ℕ) (word expected value : ℕ) → slice_in
 exchange_fails words word expected value n = let f : (slice_index words word == expected) ≡ false = grind (arith, nat_tests) in rw f refl
 
 -- a supervisor stack gets a holder, or loses it
-pub holds_gate : (image : ImageData) (words : List ℕ) (b : Book) (k x : ℕ) (o : Option ℕ) → k < 8 → x ≡ token k + busy o → Sound (put_stack b k o) → Holds image words b → Holds image (slice_set words (token_word k) x) (put_stack b k o)
+pub holds_gate : (image : ImageData) (words : List ℕ) (b : Book) (k x : ℕ) (o : Option ℕ) → k < 8 → x ≡ token k + busy o → Sound (put_stack b k o) → Holds image words b →
+    Holds image (slice_set words (token_word k) x) (put_stack b k o)
 holds_gate image words b k x o l e sound h = record {
   size = size_kept words (token_word k) x h.size;
   sound = sound;
@@ -106,7 +108,8 @@ holds_end image words t m b o sound h =
     record {
       size = h.size;
       sound = sound;
-      stacks = hand_all (ends o) (λ i r. Stack words (tops (hand m (region b m).entries Lost b)) (top r) r.entries) (tops_agree words (tops b) (tops (hand m (region b m).entries Lost b)) (top (region b m)) (region b m).entries same (h.stacks m))
+      stacks = hand_all (ends o) (λ i r. Stack words (tops (hand m (region b m).entries Lost b)) (top r) r.entries)
+          (tops_agree words (tops b) (tops (hand m (region b m).entries Lost b)) (top (region b m)) (region b m).entries same (h.stacks m))
           (λ i n. tops_agree words (tops b) (tops (hand m (region b m).entries Lost b)) (top (region b i)) (region b i).entries same (h.stacks i));
       pages = pages_same image words b (hand m (region b m).entries Lost b) (hand_same (ends o)) h.pages;
       gates = gates_same words b (hand m (region b m).entries Lost b) refl h.gates;

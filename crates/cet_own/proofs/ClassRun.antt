@@ -28,13 +28,15 @@ module _ (job : JobData) (j : IsJob job) (m : Machine) (s : State) (st : Invaria
   thread_stands = subst (ThreadStands job t s) found (st.threads t)
 
   -- of a thread that waits for it
-  row_fits : (a : Access) (changes : ℕ → List Change) → InRow job t s thread.core → row_played job thread.core.arch thread.core.vals ≡ Wants a changes → all_of (class_by a thread.core.arch (answer m.words a)) (next_changes job thread.core (answer m.words a)) ≡ true
+  row_fits : (a : Access) (changes : ℕ → List Change) → InRow job t s thread.core → row_played job thread.core.arch thread.core.vals ≡ Wants a changes →
+      all_of (class_by a thread.core.arch (answer m.words a)) (next_changes job thread.core (answer m.words a)) ≡ true
   row_fits a changes r w =
       let tell = counters_tell job m.words m.threads t thread s.book j st.paid found (λ y q. subst (ThreadStands job y s) q (st.threads y)) in
       let d = led job j m.words t s thread.core a changes tell st.holds (st.still t thread found) thread_stands.0 r w in
       d.owed.fits m.words refl st.holds thread.core.arch.ssp thread.core.arch.held (core_stacked job t s thread.core None r tt) thread_stands.0
 
-  core_fits : (a : Access) (over : Option End) → thread.core.over ≡ over → CoreStands job t s thread.core over → next_access job thread.core ≡ Some a → all_of (class_by a thread.core.arch (answer m.words a)) (next_changes job thread.core (answer m.words a)) ≡ true
+  core_fits : (a : Access) (over : Option End) → thread.core.over ≡ over → CoreStands job t s thread.core over → next_access job thread.core ≡ Some a →
+      all_of (class_by a thread.core.arch (answer m.words a)) (next_changes job thread.core (answer m.words a)) ≡ true
   unfolding next_access
   core_fits a (Some e) is h q = (let none = sym (ap (access_of job thread.core) is) ∙ q in cc)
   core_fits a None is h q =

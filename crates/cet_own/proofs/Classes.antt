@@ -57,7 +57,8 @@ stack_free {b = b} k h l found = free_by (stack_of b k) (token k) (sym (h.gates 
 
 -- ---- the book after
 
-called_is : (t m back : ℕ) (b next : Book) (changes : List Change) → Owned t m b → (region b m).start + 8 ≤ top (region b m) → changes ≡ Called back ∷ [] → books_after t b changes ≡ Some next → relist m (Call back ∷ (region b m).entries) b ≡ next
+called_is : (t m back : ℕ) (b next : Book) (changes : List Change) → Owned t m b → (region b m).start + 8 ≤ top (region b m) → changes ≡ Called back ∷ [] → books_after t b changes ≡ Some next →
+    relist m (Call back ∷ (region b m).entries) b ≡ next
 called_is t m back b next changes o room ev q =
     let r : book_after t b (Called back) ≡ Some next = one_book t b next (Called back) changes ev q in
     let fits = (o.shape.fits m).room in
@@ -177,7 +178,9 @@ other_word w n = grind (arith, nat_tests)
 pub next_other : (w : ℕ) → w ≢ next_word → (w == next_word) ≡ false
 next_other w n = grind (arith, nat_tests)
 
-pub quiet : {image : ImageData} {t k : ℕ} {past : List Visit} {b : Book} {a : Access} {v : ℕ} {changes : List Change} → changes ≡ [] → LeavesCounters a → TellsBelow t b a v → ((held : Option ℕ) → held ≡ held_by a v held) → ((words : List ℕ) → v ≡ answer words a → Holds image words b → Holds image (after words a) b × Spared b words (after words a)) → Owed image t k past b a v changes
+pub quiet : {image : ImageData} {t k : ℕ} {past : List Visit} {b : Book} {a : Access} {v : ℕ} {changes : List Change} → changes ≡ [] → LeavesCounters a → TellsBelow t b a v →
+    ((held : Option ℕ) → held ≡ held_by a v held) → ((words : List ℕ) → v ≡ answer words a → Holds image words b → Holds image (after words a) b × Spared b words (after words a)) →
+    Owed image t k past b a v changes
 quiet {image = image} {t = t} {b = b} {a = a} {v = v} {changes = changes} ev leaves below notes h = record {
   notes = λ words is h. record {
     says = λ held. ap (λ cs. held_after cs held) ev ∙ notes held;
@@ -193,21 +196,28 @@ quiet {image = image} {t = t} {b = b} {a = a} {v = v} {changes = changes} ev lea
 
 module _ {image : ImageData} {t k : ℕ} {past : List Visit} {b : Book} {a : Access} {v : ℕ} {changes : List Change} where
   pub looks : (page : ℕ) → a ≡ access.Look page → changes ≡ [] → Owed image t k past b a v changes
-  looks page e ev = quiet ev (leaves_by e refl refl) (tells_below t b v e (λ j l. refl)) (keeps_note v e (λ held. refl)) (λ words is h. subst (λ c. Holds image (after words c) b × Spared b words (after words c)) (sym e) (h, record { own = λ y w own. refl; restorers = λ s l n. n }))
+  looks page e ev = quiet ev (leaves_by e refl refl) (tells_below t b v e (λ j l. refl)) (keeps_note v e (λ held. refl))
+      (λ words is h. subst (λ c. Holds image (after words c) b × Spared b words (after words c)) (sym e) (h, record { own = λ y w own. refl; restorers = λ s l n. n }))
 
   pub loads : (word : ℕ) → a ≡ access.Load word → TellsBelow t b a v → changes ≡ [] → Owed image t k past b a v changes
-  loads word e below ev = quiet ev (leaves_by e refl refl) below (keeps_note v e (λ held. refl)) (λ words is h. subst (λ c. Holds image (after words c) b × Spared b words (after words c)) (sym e) (h, record { own = λ y w own. refl; restorers = λ s l n. n }))
+  loads word e below ev = quiet ev (leaves_by e refl refl) below (keeps_note v e (λ held. refl))
+      (λ words is h. subst (λ c. Holds image (after words c) b × Spared b words (after words c)) (sym e) (h, record { own = λ y w own. refl; restorers = λ s l n. n }))
 
   -- of a thread that holds no supervisor stack
   pub free_loads : (word : ℕ) → a ≡ access.Load word → Free t b → changes ≡ [] → Owed image t k past b a v changes
   free_loads word e free ev = loads word e (λ j l h q. absurd (free j h)) ev
 
   pub stores : (word value : ℕ) → a ≡ access.Store word value → IsOut word → changes ≡ [] → Owed image t k past b a v changes
-  stores word value e out ev = quiet ev (leaves_by e (other_word word out.draw) (next_other word out.next)) (tells_below t b v e (λ j l. not_below word j (λ z. out.below j l (sym z)))) (keeps_note v e (λ held. refl)) (λ words is h. subst (λ c. Holds image (after words c) b × Spared b words (after words c)) (sym e) (holds_out image words b word value out h, out_spared words b word value out))
+  stores word value e out ev = quiet ev (leaves_by e (other_word word out.draw) (next_other word out.next)) (tells_below t b v e (λ j l. not_below word j (λ z. out.below j l (sym z))))
+      (keeps_note v e (λ held. refl)) (λ words is h. subst (λ c. Holds image (after words c) b × Spared b words (after words c)) (sym e) (
+        holds_out image words b word value out h,
+        out_spared words b word value out,
+      ))
 
   pub exchanges : (word expected value : ℕ) → a ≡ access.CompareExchange word expected value → IsOut word → changes ≡ [] → Owed image t k past b a v changes
   exchanges word expected value e out ev =
-      quiet ev (leaves_by e (other_word word out.draw) (next_other word out.next)) (tells_below t b v e (λ j l. not_below word j (λ z. out.below j l (sym z)))) (keeps_note v e (no_token word expected value v out.token)) (λ words is h. subst (λ c. Holds image (after words c) b × Spared b words (after words c)) (sym e) (
+      quiet ev (leaves_by e (other_word word out.draw) (next_other word out.next)) (tells_below t b v e (λ j l. not_below word j (λ z. out.below j l (sym z))))
+      (keeps_note v e (no_token word expected value v out.token)) (λ words is h. subst (λ c. Holds image (after words c) b × Spared b words (after words c)) (sym e) (
         wrote image words b word expected value (slice_index words word == expected) refl h (λ _. holds_out image words b word value out h),
         record {
           own = λ y w own. exchange_other words word value w (slice_index words word == expected) (own_out y w word b out own);
@@ -216,25 +226,32 @@ module _ {image : ImageData} {t k : ℕ} {past : List Visit} {b : Book} {a : Acc
       ))
 
   pub swaps : (word value : ℕ) → a ≡ access.Swap word value → IsOut word → changes ≡ [] → Owed image t k past b a v changes
-  swaps word value e out ev = quiet ev (leaves_by e (other_word word out.draw) (next_other word out.next)) (tells_below t b v e (λ j l. not_below word j (λ z. out.below j l (sym z)))) (keeps_note v e (λ held. refl)) (λ words is h. subst (λ c. Holds image (after words c) b × Spared b words (after words c)) (sym e) (holds_out image words b word value out h, out_spared words b word value out))
+  swaps word value e out ev = quiet ev (leaves_by e (other_word word out.draw) (next_other word out.next)) (tells_below t b v e (λ j l. not_below word j (λ z. out.below j l (sym z))))
+      (keeps_note v e (λ held. refl)) (λ words is h. subst (λ c. Holds image (after words c) b × Spared b words (after words c)) (sym e) (
+        holds_out image words b word value out h,
+        out_spared words b word value out,
+      ))
 
   pub adds : (word value : ℕ) → a ≡ access.FetchAdd word value → IsOut word → changes ≡ [] → Owed image t k past b a v changes
   adds word value e out ev =
-      quiet ev (leaves_by e (other_word word out.draw) (next_other word out.next)) (tells_below t b v e (λ j l. not_below word j (λ z. out.below j l (sym z)))) (keeps_note v e (λ held. refl)) (λ words is h. subst (λ c. Holds image (after words c) b × Spared b words (after words c)) (sym e) (
+      quiet ev (leaves_by e (other_word word out.draw) (next_other word out.next)) (tells_below t b v e (λ j l. not_below word j (λ z. out.below j l (sym z)))) (keeps_note v e (λ held. refl))
+      (λ words is h. subst (λ c. Holds image (after words c) b × Spared b words (after words c)) (sym e) (
         holds_out image words b word ((slice_index words word + value) % 2 ^ 64) out h,
         out_spared words b word ((slice_index words word + value) % 2 ^ 64) out,
       ))
 
   pub ors : (word value : ℕ) → a ≡ access.FetchOr word value → IsOut word → changes ≡ [] → Owed image t k past b a v changes
   ors word value e out ev =
-      quiet ev (leaves_by e (other_word word out.draw) (next_other word out.next)) (tells_below t b v e (λ j l. not_below word j (λ z. out.below j l (sym z)))) (keeps_note v e (λ held. refl)) (λ words is h. subst (λ c. Holds image (after words c) b × Spared b words (after words c)) (sym e) (
+      quiet ev (leaves_by e (other_word word out.draw) (next_other word out.next)) (tells_below t b v e (λ j l. not_below word j (λ z. out.below j l (sym z)))) (keeps_note v e (λ held. refl))
+      (λ words is h. subst (λ c. Holds image (after words c) b × Spared b words (after words c)) (sym e) (
         holds_out image words b word (bit_or (slice_index words word) value) out h,
         out_spared words b word (bit_or (slice_index words word) value) out,
       ))
 
   pub ands : (word value : ℕ) → a ≡ access.FetchAnd word value → IsOut word → changes ≡ [] → Owed image t k past b a v changes
   ands word value e out ev =
-      quiet ev (leaves_by e (other_word word out.draw) (next_other word out.next)) (tells_below t b v e (λ j l. not_below word j (λ z. out.below j l (sym z)))) (keeps_note v e (λ held. refl)) (λ words is h. subst (λ c. Holds image (after words c) b × Spared b words (after words c)) (sym e) (
+      quiet ev (leaves_by e (other_word word out.draw) (next_other word out.next)) (tells_below t b v e (λ j l. not_below word j (λ z. out.below j l (sym z)))) (keeps_note v e (λ held. refl))
+      (λ words is h. subst (λ c. Holds image (after words c) b × Spared b words (after words c)) (sym e) (
         holds_out image words b word (bit_and (slice_index words word) value) out h,
         out_spared words b word (bit_and (slice_index words word) value) out,
       ))
@@ -242,7 +259,8 @@ module _ {image : ImageData} {t k : ℕ} {past : List Visit} {b : Book} {a : Acc
   -- the process ends, where it hasn't ended before
   pub finishes : (value : ℕ) → a ≡ access.CompareExchange exit_word 0 value → IsEnding value → changes ≡ [] → Owed image t k past b a v changes
   finishes value e ending ev =
-      quiet ev (leaves_by e (other_word exit_word (omega arith)) (next_other exit_word (omega arith))) (tells_below t b v e (λ j l. not_below exit_word j (λ z. omega arith))) (keeps_note v e (no_token exit_word 0 value v (λ j l z. omega arith))) (λ words is h. subst (λ c. Holds image (after words c) b × Spared b words (after words c)) (sym e) (
+      quiet ev (leaves_by e (other_word exit_word (omega arith)) (next_other exit_word (omega arith))) (tells_below t b v e (λ j l. not_below exit_word j (λ z. omega arith)))
+      (keeps_note v e (no_token exit_word 0 value v (λ j l z. omega arith))) (λ words is h. subst (λ c. Holds image (after words c) b × Spared b words (after words c)) (sym e) (
         wrote image words b exit_word 0 value (slice_index words exit_word == 0) refl h (λ _. holds_ended image words b value ending h),
         record {
           own = λ y w own. exchange_other words exit_word value w (slice_index words exit_word == 0) (own_exit y w b own);
@@ -252,25 +270,30 @@ module _ {image : ImageData} {t k : ℕ} {past : List Visit} {b : Book} {a : Acc
 
   -- The entry of a page of the mmap area or the shadow area is stored: 0, or its present one; in the shadow area that of a page
   -- in a region.
-  pub sets_page : (page x : ℕ) → a ≡ access.Store (entry_word page) x → first_mmap_page ≤ page → page < first_kernel_page → IsEntry image page x → (x ≢ 0 → first_shadow_page ≤ page → (i : ℕ) × LiesIn (region b i) page) → changes ≡ [] → Owed image t k past b a v changes
-  sets_page page x e lo hi entry lies ev = quiet ev (leaves_by e (other_word (entry_word page) (omega arith)) (next_other (entry_word page) (omega arith))) (tells_below t b v e (λ j l. not_below (entry_word page) j (λ z. omega arith))) (keeps_note v e (λ held. refl)) (λ words is h. subst (λ c. Holds image (after words c) b × Spared b words (after words c)) (sym e) (
-    holds_entry image words b page x lo hi entry lies h,
-    record {
-      own = λ y w own. word_other words (entry_word page) x w (own_entry y w (entry_word page) b (omega arith) own);
-      restorers = keeps_restorers words (entry_word page) x (inr (omega arith));
-    },
-  ))
+  pub sets_page : (page x : ℕ) → a ≡ access.Store (entry_word page) x → first_mmap_page ≤ page → page < first_kernel_page → IsEntry image page x →
+      (x ≢ 0 → first_shadow_page ≤ page → (i : ℕ) × LiesIn (region b i) page) → changes ≡ [] → Owed image t k past b a v changes
+  sets_page page x e lo hi entry lies ev = quiet ev (leaves_by e (other_word (entry_word page) (omega arith)) (next_other (entry_word page) (omega arith)))
+      (tells_below t b v e (λ j l. not_below (entry_word page) j (λ z. omega arith))) (keeps_note v e (λ held. refl))
+      (λ words is h. subst (λ c. Holds image (after words c) b × Spared b words (after words c)) (sym e) (
+        holds_entry image words b page x lo hi entry lies h,
+        record {
+          own = λ y w own. word_other words (entry_word page) x w (own_entry y w (entry_word page) b (omega arith) own);
+          restorers = keeps_restorers words (entry_word page) x (inr (omega arith));
+        },
+      ))
 
   pub clears : (page : ℕ) → a ≡ access.Store (entry_word page) 0 → first_mmap_page ≤ page → page < first_kernel_page → changes ≡ [] → Owed image t k past b a v changes
   clears page e lo hi ev = sets_page page 0 e lo hi (inl refl) (λ n _. absurd (n refl)) ev
 
-  pub makes_page : (page i : ℕ) → a ≡ access.Store (entry_word page) (entry_of image page) → first_shadow_page ≤ page → page < first_kernel_page → LiesIn (region b i) page → changes ≡ [] → Owed image t k past b a v changes
+  pub makes_page : (page i : ℕ) → a ≡ access.Store (entry_word page) (entry_of image page) → first_shadow_page ≤ page → page < first_kernel_page → LiesIn (region b i) page → changes ≡ [] →
+      Owed image t k past b a v changes
   makes_page page i e lo hi lies ev = sets_page page (entry_of image page) e (omega arith) hi (inr refl) (λ _ _. (i, lies)) ev
 
   -- the way in finds the supervisor stack busy
   pub refused : (value : ℕ) → k < 8 → a ≡ access.CompareExchange (token_word k) (token k) value → v ≢ token k → changes ≡ [] → Owed image t k past b a v changes
   refused value l e n ev =
-      quiet ev (leaves_by e (other_word (token_word k) (omega arith)) (next_other (token_word k) (omega arith))) (tells_below t b v e (λ j m. not_below (token_word k) j (λ z. omega arith))) (keeps_note v e (exchange_misses (token_word k) (token k) value v n)) (λ words is h.
+      quiet ev (leaves_by e (other_word (token_word k) (omega arith)) (next_other (token_word k) (omega arith))) (tells_below t b v e (λ j m. not_below (token_word k) j (λ z. omega arith)))
+      (keeps_note v e (exchange_misses (token_word k) (token k) value v n)) (λ words is h.
       let n' : slice_index words (token_word k) ≢ token k = λ z. n (is ∙ ap (answer words) e ∙ z) in
       subst (λ c. Holds image (after words c) b × Spared b words (after words c)) (sym e) (
         subst (λ w. Holds image w b) (sym (exchange_fails words (token_word k) (token k) value n')) h,
@@ -305,7 +328,8 @@ module _ {image : ImageData} {t k : ℕ} {past : List Visit} {b : Book} {a : Acc
           n (cc)
 
   -- a return address is stored below the top of the thread's region
-  pub pushes : (m back : ℕ) → (region b m).holder ≡ Current t → a ≡ access.Store (slot (top (region b m) - 8)) back → (region b m).start + 8 ≤ top (region b m) → IsReturn back → frame_pushed past ≡ false → changes ≡ Called back ∷ [] → Owed image t k past b a v changes
+  pub pushes : (m back : ℕ) → (region b m).holder ≡ Current t → a ≡ access.Store (slot (top (region b m) - 8)) back → (region b m).start + 8 ≤ top (region b m) → IsReturn back →
+      frame_pushed past ≡ false → changes ≡ Called back ∷ [] → Owed image t k past b a v changes
   pushes m back current e room is_return level ev = record {
     notes = λ words is h. notes_gate v e ev (λ note. refl) (λ note j q. inl q);
     below = λ words is h.
@@ -320,7 +344,8 @@ module _ {image : ImageData} {t k : ℕ} {past : List Visit} {b : Book} {a : Acc
         let most = is_return.1 in
         of_class class.Push (Called back ∷ []) ev refl
         (ap (λ c. class_at c ssp held v) e ∙ is_push (top (region b m) - 8) ssp v held place back (omega arith) (λ z. omega arith) (omega arith));
-    counts = λ words is h. no_count_by (leaves_by e (other_word (slot (top (region b m) - 8)) (let p = (below_top (own_region t m h current) room).place.high in omega arith)) (next_other (slot (top (region b m) - 8)) (let p = (below_top (own_region t m h current) room).place.high in omega arith))) (ap birth ev);
+    counts = λ words is h. no_count_by (leaves_by e (other_word (slot (top (region b m) - 8)) (let p = (below_top (own_region t m h current) room).place.high in omega arith))
+        (next_other (slot (top (region b m) - 8)) (let p = (below_top (own_region t m h current) room).place.high in omega arith))) (ap birth ev);
     keeps = λ words next is h still q.
         let o = own_region t m h current in
         let d = called_is t m back b next changes o room ev q in
@@ -397,7 +422,8 @@ module _ {image : ImageData} {t k : ℕ} {past : List Visit} {b : Book} {a : Acc
   }
 
   -- and the thread's region may end with it
-  pub exits : (m : ℕ) → k < 8 → a ≡ access.CompareExchange (token_word k) (token k + 1) (token k) → stack_of b k ≡ Some t → (region b m).holder ≡ Current t → changes ≡ Ended ∷ Freed k ∷ [] → Owed image t k past b a v changes
+  pub exits : (m : ℕ) → k < 8 → a ≡ access.CompareExchange (token_word k) (token k + 1) (token k) → stack_of b k ≡ Some t → (region b m).holder ≡ Current t → changes ≡ Ended ∷ Freed k ∷ [] →
+      Owed image t k past b a v changes
   exits m l e held current ev = record {
     notes = λ words is h. notes_gate v e ev (gives_note k v l (is ∙ ap (answer words) e ∙ token_held t k h l held)) (λ note j q. cc);
     below = λ words is h. tells_below t b v e (λ j n. not_below (token_word k) j (λ z. omega arith));

@@ -62,7 +62,8 @@ module _ (job : JobData) (arch : Arch) (l : own_stack job arch.number < 8) (free
   Numbering past s = Within job arch l (counted_by true true) past s
 
   -- from the draw of a number on the row has drawn one
-  numbers_on : {now : Progress} {left : Option ℕ} {b : Book} → Inside arch.number gate (counted_by true false) now left b arch.ssp → Inside arch.number gate (counted_by true true) (record { framed = now.framed; drawing = now.drawing; numbering = true }) left b arch.ssp
+  numbers_on : {now : Progress} {left : Option ℕ} {b : Book} → Inside arch.number gate (counted_by true false) now left b arch.ssp →
+      Inside arch.number gate (counted_by true true) (record { framed = now.framed; drawing = now.drawing; numbering = true }) left b arch.ssp
   numbers_on i = record { stacked = i.stacked; holds = i.holds; level = ap (λ (x : Progress). record { framed = x.framed; drawing = x.drawing; numbering = true }) i.level; settled = i.settled; alone = i.alone }
 
   bore_claim : (past : List Visit) (before s : State) (child start : ℕ) → Numbering past s → Leaves job arch l past before s (bore arch child start)
@@ -76,7 +77,12 @@ module _ (job : JobData) (arch : Arch) (l : own_stack job arch.number < 8) (free
       failed_claim job arch l {drawing = true} {numbering = true} p z n errno.Again free within1))
 
   -- by whether there is a number left
-  numbered_claim : (past : List Visit) (now : State) (i d v : ℕ) → d + thread_pages + 1 ≤ 1023 → Known job.image arch.number past now.book (access.FetchAdd next_word 1) v → Drawing past now → Begun arch.number i (drawn_start d) (drawn_start d + 4096 * thread_pages) true now.book → (c : Bool) → nat_lt v thread_limit ≡ c → Owed job.image arch.number gate past now.book (access.FetchAdd next_word 1) v (if c then Born v (drawn_start d) ∷ [] else []) × (later : State) × (state_after arch.number now (if c then Born v (drawn_start d) ∷ [] else []) ≡ Some later) × Claim job arch (Leaves job arch l) (visit (access.FetchAdd next_word 1) v (if c then Born v (drawn_start d) ∷ [] else []) ∷ past) now later (if c then done (bore arch v (drawn_start d)) else give_up arch (drawn_page d))
+  numbered_claim : (past : List Visit) (now : State) (i d v : ℕ) → d + thread_pages + 1 ≤ 1023 → Known job.image arch.number past now.book (access.FetchAdd next_word 1) v → Drawing past now →
+      Begun arch.number i (drawn_start d) (drawn_start d + 4096 * thread_pages) true now.book → (c : Bool) → nat_lt v thread_limit ≡ c →
+      Owed job.image arch.number gate past now.book (access.FetchAdd next_word 1) v (if c then Born v (drawn_start d) ∷ [] else []) × (later : State) ×
+      (state_after arch.number now (if c then Born v (drawn_start d) ∷ [] else []) ≡ Some later) ×
+      Claim job arch (Leaves job arch l) (visit (access.FetchAdd next_word 1) v (if c then Born v (drawn_start d) ∷ [] else []) ∷ past) now later
+      (if c then done (bore arch v (drawn_start d)) else give_up arch (drawn_page d))
   numbered_claim past now i d v room known within begun false e =
       let many : thread_limit ≤ v = grind (arith, nat_tests) in
       let once : numbered past ≡ false = ap (λ (x : Progress). x.numbering) within.level in
@@ -100,7 +106,9 @@ module _ (job : JobData) (arch : Arch) (l : own_stack job arch.number < 8) (free
         bore_claim _ now (record now { book = hand i (region now.book i).entries (Current v) now.book }) v (drawn_start d) (inside_left (rw apart refl) (numbers_on within1)),
       )
 
-  number_claim : (past : List Visit) (before s : State) (i d : ℕ) → d + thread_pages + 1 ≤ 1023 → Drawing past s → Begun arch.number i (drawn_start d) (drawn_start d + 4096 * thread_pages) true s.book → Claim job arch (Leaves job arch l) past before s (fetch_add_as (born_if (drawn_start d)) next_thread_word 1 >>= bear_by arch d)
+  number_claim : (past : List Visit) (before s : State) (i d : ℕ) → d + thread_pages + 1 ≤ 1023 → Drawing past s →
+      Begun arch.number i (drawn_start d) (drawn_start d + 4096 * thread_pages) true s.book →
+      Claim job arch (Leaves job arch l) past before s (fetch_add_as (born_if (drawn_start d)) next_thread_word 1 >>= bear_by arch d)
   unfolding fetch_add_as
   number_claim past before s i d room within begun =
       claim_bind job arch (Leaves job arch l) past before s (fetch_add_as (born_if (drawn_start d)) next_thread_word 1) _ (
@@ -108,12 +116,14 @@ module _ (job : JobData) (arch : Arch) (l : own_stack job arch.number < 8) (free
         λ now r v known. numbered_claim past now i d v room known (inside_kept r within) (begun_kept r begun) (nat_lt v thread_limit) refl,
       )
 
-  bear_claim : (past : List Visit) (before s : State) (i d : ℕ) → d + thread_pages + 1 ≤ 1023 → Drawing past s → Begun arch.number i (drawn_start d) (drawn_start d + 4096 * thread_pages) true s.book → Claim job arch (Leaves job arch l) past before s (bear arch d)
+  bear_claim : (past : List Visit) (before s : State) (i d : ℕ) → d + thread_pages + 1 ≤ 1023 → Drawing past s → Begun arch.number i (drawn_start d) (drawn_start d + 4096 * thread_pages) true s.book →
+      Claim job arch (Leaves job arch l) past before s (bear arch d)
   unfolding bear
   bear_claim past before s i d room within begun =
       claim_bind job arch (Leaves job arch l) past before s (stores thread_pages (entry_word (drawn_page d)) (shadow_entry (drawn_page d)) 4096) _
       (entries_claim job arch l free (λ p z n _. Claim job arch (Leaves job arch l) p z n (fetch_add_as (born_if (drawn_start d)) next_thread_word 1 >>= bear_by arch d))
-      past before s thread_pages (drawn_page d) (entry_word (drawn_page d)) (shadow_entry (drawn_page d)) i (drawn_start d) (drawn_start d + 4096 * thread_pages) true refl refl (omega arith) (omega arith) (omega arith) (omega arith) within begun
+      past before s thread_pages (drawn_page d) (entry_word (drawn_page d)) (shadow_entry (drawn_page d)) i (drawn_start d) (drawn_start d + 4096 * thread_pages) true refl refl (omega arith)
+      (omega arith) (omega arith) (omega arith) within begun
       (λ p z n within1 begun1. number_claim p z n i d room within1 begun1))
 
   draw_thread_claim : (past : List Visit) (before s : State) → Within job arch l untouched past s → Claim job arch (Leaves job arch l) past before s (draw_thread arch)

@@ -152,7 +152,8 @@ module _ (job : JobData) (m : Machine) (s : State) (st : Invariant job m s) (tol
   count_is = length-map spans (λ (x : Span). starting_at x.start s.book)
 
   -- each region that is kept has its place
-  placed : (i : ℕ) → i < length s.book.regions → IsKept (region s.book i).holder → (k : ℕ) × (k < length spans) × ((get_or spans k no_span).start ≡ (region s.book i).start) × (slice_index (told_numbers s.book m.threads) k ≡ i)
+  placed : (i : ℕ) → i < length s.book.regions → IsKept (region s.book i).holder → (k : ℕ) × (k < length spans) × ((get_or spans k no_span).start ≡ (region s.book i).start) ×
+      (slice_index (told_numbers s.book m.threads) k ≡ i)
   placed i l k =
       let at = times_place (region s.book i).start spans (kept_told i k) in
       (at.place, at.inside, at.is, number_at at.place at.inside ∙ starting_at_is (get_or spans at.place no_span).start s.book i st.holds.sound.book.shape l (sym at.is))

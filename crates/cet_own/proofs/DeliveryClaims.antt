@@ -1,5 +1,6 @@
 -- What a thread claims of the deliveries of signals, and of the kill. Source: own.
-use Rattle.std.proofs.Common.{eqb, ◌≡◌, ◌≢◌, ℕ, zero, suc, ◌+◌, ◌-◌, ◌/◌, ◌^◌, ◌<◌, ◌≤◌, inl, inr, Bool, true, false, List, [], ◌∷◌, length, Option, Some, None, refl, sym, ◌∙◌, ap, subst, arith}
+use Rattle.std.proofs.Common.{eqb, ◌≡◌, ◌≢◌, ℕ, zero, suc, ◌+◌, ◌-◌, ◌/◌, ◌^◌, ◌<◌, ◌≤◌, inl, inr, Bool, true, false, List}
+use Rattle.std.proofs.Common.{[], ◌∷◌, length, Option, Some, None, refl, sym, ◌∙◌, ap, subst, arith}
 use Rattle.std.specs.Prelude.{◌==◌, ◌%◌, if◌then◌else◌, nat_lt}
 use Rattle.std.proofs.lemmas.Bool.Decides.{nat_tests}
 use Rattle.cet_words.specs.Bytes.{code_byte}
@@ -62,7 +63,8 @@ unfolding lowest
 lowest_few set from zero signal one e = cc
 lowest_few set from (suc count) signal one e = by_bit (set / 2 ^ (from - 1) % 2 == 1) (λ k. lowest_few set (from + 1) count signal (omega arith) k) e
   where
-    by_bit : (c : Bool) → (lowest set (from + 1) count ≡ Some signal → (1 ≤ signal) × (signal < from + 1 + count)) → (if c then Some from else lowest set (from + 1) count) ≡ Some signal → (1 ≤ signal) × (signal < from + suc count)
+    by_bit : (c : Bool) → (lowest set (from + 1) count ≡ Some signal → (1 ≤ signal) × (signal < from + 1 + count)) → (if c then Some from else lowest set (from + 1) count) ≡ Some signal →
+        (1 ≤ signal) × (signal < from + suc count)
     by_bit true later e = let same : from ≡ signal = cc in (omega arith, omega arith)
     by_bit false later e = let r = later e in let low = r.0 in let high = r.1 in (low, omega arith)
 
@@ -121,7 +123,9 @@ module _ (job : JobData) (j : IsJob job) (arch : Arch) (l : own_stack job arch.n
 
   -- ---- the places of a frame
 
-  places_claim : (Q : List Visit → State → State → Option FramePlaces → Type 0) (past : List Visit) (before s : State) → Inner past s → ((p : List Visit) (z n : State) → Inner p n → Q p z n None) → ((p : List Visit) (z n : State) (places : FramePlaces) → places.frame + 24 ≤ first_shadow_word → places.marker ≡ slot (arch.ssp - 8) → places.restorer ≡ slot (arch.ssp - 16) → HasRoom arch.number n.book → Inner p n → Q p z n (Some places)) → Claim job arch Q past before s (frame_places arch)
+  places_claim : (Q : List Visit → State → State → Option FramePlaces → Type 0) (past : List Visit) (before s : State) → Inner past s → ((p : List Visit) (z n : State) → Inner p n → Q p z n None) →
+      ((p : List Visit) (z n : State) (places : FramePlaces) → places.frame + 24 ≤ first_shadow_word → places.marker ≡ slot (arch.ssp - 8) → places.restorer ≡ slot (arch.ssp - 16) →
+      HasRoom arch.number n.book → Inner p n → Q p z n (Some places)) → Claim job arch Q past before s (frame_places arch)
   unfolding frame_places frame_span
   places_claim Q past before s within none some =
       let low = within.stacked.low in
@@ -148,7 +152,9 @@ module _ (job : JobData) (j : IsJob job) (arch : Arch) (l : own_stack job arch.n
   with_frame b x = relist (current_of arch.number b) (Restorer x ∷ Frame ∷ (region b (current_of arch.number b)).entries) b
 
   -- the restorer goes below the frame's word
-  restorer_claim : (past : List Visit) (before s : State) (signal word : ℕ) (action : Action) → word ≡ slot (arch.ssp - 16) → IsReturn action.restorer → HasRoom arch.number s.book → left_in past (slot (arch.ssp - 8)) ≡ Some (2 ^ 63 + arch.ssp) → Inner past s → Claim job arch (Leaves job arch l) past before s (store_as (Pushed action.restorer ∷ []) word action.restorer >>= (λ _. done (delivered arch signal action)))
+  restorer_claim : (past : List Visit) (before s : State) (signal word : ℕ) (action : Action) → word ≡ slot (arch.ssp - 16) → IsReturn action.restorer → HasRoom arch.number s.book →
+      left_in past (slot (arch.ssp - 8)) ≡ Some (2 ^ 63 + arch.ssp) → Inner past s → Claim job arch (Leaves job arch l) past before s (store_as (Pushed action.restorer ∷ []) word action.restorer >>=
+      (λ _. done (delivered arch signal action)))
   unfolding store_as
   restorer_claim past before s signal word action is is_return room seen within =
       claim_bind job arch (Leaves job arch l) past before s (store_as (Pushed action.restorer ∷ []) word action.restorer) _ (
@@ -186,7 +192,9 @@ module _ (job : JobData) (j : IsJob job) (arch : Arch) (l : own_stack job arch.n
       )
 
   -- the frame's word goes below SSP
-  marker_claim : (past : List Visit) (before s : State) (signal marker word : ℕ) (action : Action) → marker ≡ slot (arch.ssp - 8) → word ≡ slot (arch.ssp - 16) → IsReturn action.restorer → HasRoom arch.number s.book → Inner past s → Claim job arch (Leaves job arch l) past before s (store marker (frame_word arch.ssp) >>= (λ _. store_as (Pushed action.restorer ∷ []) word action.restorer >>= (λ _. done (delivered arch signal action))))
+  marker_claim : (past : List Visit) (before s : State) (signal marker word : ℕ) (action : Action) → marker ≡ slot (arch.ssp - 8) → word ≡ slot (arch.ssp - 16) → IsReturn action.restorer →
+      HasRoom arch.number s.book → Inner past s → Claim job arch (Leaves job arch l) past before s (store marker (frame_word arch.ssp) >>=
+      (λ _. store_as (Pushed action.restorer ∷ []) word action.restorer >>= (λ _. done (delivered arch signal action))))
   unfolding store_as
   marker_claim past before s signal marker word action at_marker is is_return room within =
       claim_bind job arch (Leaves job arch l) past before s (store marker (frame_word arch.ssp)) _ (
@@ -211,7 +219,9 @@ module _ (job : JobData) (j : IsJob job) (arch : Arch) (l : own_stack job arch.n
             ),
       )
 
-  push_claim : (past : List Visit) (before s : State) (signal : ℕ) (cause : Option Fault) (action : Action) (places : FramePlaces) → places.frame + 24 ≤ first_shadow_word → places.marker ≡ slot (arch.ssp - 8) → places.restorer ≡ slot (arch.ssp - 16) → IsReturn action.restorer → HasRoom arch.number s.book → Inner past s → Claim job arch (Leaves job arch l) past before s (push_frame arch signal cause action places)
+  push_claim : (past : List Visit) (before s : State) (signal : ℕ) (cause : Option Fault) (action : Action) (places : FramePlaces) → places.frame + 24 ≤ first_shadow_word →
+      places.marker ≡ slot (arch.ssp - 8) → places.restorer ≡ slot (arch.ssp - 16) → IsReturn action.restorer → HasRoom arch.number s.book → Inner past s →
+      Claim job arch (Leaves job arch l) past before s (push_frame arch signal cause action places)
   unfolding push_frame
   push_claim past before s signal cause action places few at_marker at_restorer is_return room within =
       let long = frame_length arch signal action.restorer cause in
@@ -220,7 +230,8 @@ module _ (job : JobData) (j : IsJob job) (arch : Arch) (l : own_stack job arch.n
       let same = own_kept arch.number s.book n.book r within.stacked.top.has in
       marker_claim p z n signal places.marker places.restorer action at_marker at_restorer is_return (rw same room) within1))
 
-  push_or_kill_claim : (past : List Visit) (before s : State) (signal : ℕ) (cause : Option Fault) (action : Action) → IsReturn action.restorer → Inner past s → Claim job arch (Leaves job arch l) past before s (frame_places arch >>= push_or_kill arch signal cause action)
+  push_or_kill_claim : (past : List Visit) (before s : State) (signal : ℕ) (cause : Option Fault) (action : Action) → IsReturn action.restorer → Inner past s →
+      Claim job arch (Leaves job arch l) past before s (frame_places arch >>= push_or_kill arch signal cause action)
   push_or_kill_claim past before s signal cause action is_return within =
       claim_bind job arch (Leaves job arch l) past before s (frame_places arch) (push_or_kill arch signal cause action)
       (places_claim _ past before s within (λ p z n within1. kill_claim p z n segv (by_signal Gp) within1)
@@ -229,7 +240,8 @@ module _ (job : JobData) (j : IsJob job) (arch : Arch) (l : own_stack job arch.n
   -- ---- the delivery
 
   -- the handler was seen to be none of 0 and 1, so there is a restorer
-  handler_claim : (past : List Visit) (before s : State) (signal handler : ℕ) (cause : Option Fault) → signal < 64 → has_restorer past signal ≡ true → Inner past s → Claim job arch (Leaves job arch l) past before s (enter_handler arch signal cause handler)
+  handler_claim : (past : List Visit) (before s : State) (signal handler : ℕ) (cause : Option Fault) → signal < 64 → has_restorer past signal ≡ true → Inner past s →
+      Claim job arch (Leaves job arch l) past before s (enter_handler arch signal cause handler)
   unfolding enter_handler
   handler_claim past before s signal handler cause few shows within =
       kernel_load_then job arch (Leaves job arch l) past before s gate (action_word signal + 1) _ (λ z. omega arith) within (λ now r flags within1.
@@ -255,7 +267,8 @@ module _ (job : JobData) (j : IsJob job) (arch : Arch) (l : own_stack job arch.n
       let above : nat_lt 1 handler ≡ true = (let a : handler ≢ 0 = grind (arith, nat_tests) in let b : handler ≢ 1 = grind (arith, nat_tests) in let c : 1 < handler = omega arith in grind (arith, nat_tests)) in
       handler_claim _ now now signal handler cause few (rw (here, above) refl) within1)))
 
-  pub pending_delivery_claim : (past : List Visit) (before s : State) (signal : ℕ) → arch.number < thread_limit → (1 ≤ signal) × (signal < 32) → Inner past s → Claim job arch (Leaves job arch l) past before s (pending_delivery arch signal)
+  pub pending_delivery_claim : (past : List Visit) (before s : State) (signal : ℕ) → arch.number < thread_limit → (1 ≤ signal) × (signal < 32) → Inner past s →
+      Claim job arch (Leaves job arch l) past before s (pending_delivery arch signal)
   unfolding pending_delivery
   pending_delivery_claim past before s signal born few within =
       let low = few.0 in

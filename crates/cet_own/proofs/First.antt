@@ -61,7 +61,8 @@ shadow_present : (page : ℕ) (c : Bool) → is_present page ≡ c → first_sha
 shadow_present page true e lo hi f = (grind (arith, nat_tests), grind (arith, nat_tests))
 shadow_present page false e lo hi f = absurd (false≢true f)
 
-first_lies : (image : ImageData) (words : List ℕ) (page : ℕ) → IsStart image words → first_shadow_page ≤ page → page < first_kernel_page → slice_index words (entry_word page) ≢ 0 → (c : Bool) → is_present page ≡ c → LiesIn (region first_book 0) page
+first_lies : (image : ImageData) (words : List ℕ) (page : ℕ) → IsStart image words → first_shadow_page ≤ page → page < first_kernel_page → slice_index words (entry_word page) ≢ 0 → (c : Bool) →
+    is_present page ≡ c → LiesIn (region first_book 0) page
 first_lies image words page s lo hi n true e = let p = shadow_present page true e lo hi refl in let low = p.0 in let high = p.1 in record { low = omega arith; high = omega arith }
 first_lies image words page s lo hi n false e = absurd (n (first_entry image words page s (omega arith) ∙ absent_is image page e))
 

@@ -26,15 +26,21 @@ pub record Rules (B : Type 0) : Type 1 where
 -- The claim of a thread on the rest of its row. Before each access During holds. At the access, whatever the others did and
 -- whatever is answered, the thread pays what it owes, the book has its changes, and it claims what follows with one visit
 -- more in the trail. At the end Q holds of the books before and after the last access and of the result, or F of the fault.
-abbrev pub Steady : {A B : Type 0} → Rules B → (During : List Visit → B → Type 0) → (Q : List Visit → B → B → A → Type 0) → (F : List Visit → B → Fault → Type 0) → (past : List Visit) → (before b : B) → Script A → Type 0
+abbrev pub Steady : {A B : Type 0} → Rules B → (During : List Visit → B → Type 0) → (Q : List Visit → B → B → A → Type 0) → (F : List Visit → B → Fault → Type 0) → (past : List Visit) →
+    (before b : B) → Script A → Type 0
 Steady rules During Q F past before b (done x) = Q past before b x
 Steady rules During Q F past before b (fault e) = F past b e
 Steady {A} {B} rules During Q F past before b (ask a changes f) =
-    During past b × ((now : B) → rules.Rely b now → (v : ℕ) → rules.Known past now a v → rules.Owed past now a v (changes v) × (next : B) × (rules.after now (changes v) ≡ Some next) × Steady rules During Q F (visit a v (changes v) ∷ past) now next (f v))
+    During past b × ((now : B) → rules.Rely b now → (v : ℕ) → rules.Known past now a v → rules.Owed past now a v (changes v) × (next : B) × (rules.after now (changes v) ≡ Some next) ×
+    Steady rules During Q F (visit a v (changes v) ∷ past) now next (f v))
 Steady {A} {B} rules During Q F past before b (tell word value changes s) =
-    During past b × ((now : B) → rules.Rely b now → rules.Known past now (access.Store word value) 0 → rules.Owed past now (access.Store word value) 0 changes × (next : B) × (rules.after now changes ≡ Some next) × Steady rules During Q F (visit (access.Store word value) 0 changes ∷ past) now next s)
+    During past b × ((now : B) → rules.Rely b now → rules.Known past now (access.Store word value) 0 →
+    rules.Owed past now (access.Store word value) 0 changes × (next : B) × (rules.after now changes ≡ Some next) ×
+    Steady rules During Q F (visit (access.Store word value) 0 changes ∷ past) now next s)
 
-pub steady_bind : {A C B : Type 0} (rules : Rules B) (During : List Visit → B → Type 0) (Q : List Visit → B → B → C → Type 0) (F : List Visit → B → Fault → Type 0) (past : List Visit) (before b : B) (m : Script A) (f : A → Script C) → Steady rules During (λ p z b' x. Steady rules During Q F p z b' (f x)) F past before b m → Steady rules During Q F past before b (m >>= f)
+pub steady_bind : {A C B : Type 0} (rules : Rules B) (During : List Visit → B → Type 0) (Q : List Visit → B → B → C → Type 0) (F : List Visit → B → Fault →
+    Type 0) (past : List Visit) (before b : B) (m : Script A) (f : A → Script C) → Steady rules During (λ p z b' x. Steady rules During Q F p z b' (f x)) F past before b m →
+    Steady rules During Q F past before b (m >>= f)
 unfolding ◌>>=◌
 steady_bind rules During Q F past before b (done x) f h = h
 steady_bind rules During Q F past before b (fault e) f h = h
@@ -43,12 +49,15 @@ steady_bind rules During Q F past before b (ask a changes c) f h =
 steady_bind rules During Q F past before b (tell word value changes s) f h =
     (h.0, λ now r known. let k = h.1 now r known in (k.0, k.1, k.2, steady_bind rules During Q F (visit (access.Store word value) 0 changes ∷ past) now k.1 s f k.3))
 
-pub steady_cond : {A B : Type 0} (rules : Rules B) (During : List Visit → B → Type 0) (Q : List Visit → B → B → A → Type 0) (F : List Visit → B → Fault → Type 0) (past : List Visit) (before b : B) (c : Bool) (s t : Script A) → (c ≡ true → Steady rules During Q F past before b s) → (c ≡ false → Steady rules During Q F past before b t) → Steady rules During Q F past before b (cond c s t)
+pub steady_cond : {A B : Type 0} (rules : Rules B) (During : List Visit → B → Type 0) (Q : List Visit → B → B → A → Type 0) (F : List Visit → B → Fault →
+    Type 0) (past : List Visit) (before b : B) (c : Bool) (s t : Script A) → (c ≡ true → Steady rules During Q F past before b s) → (c ≡ false → Steady rules During Q F past before b t) →
+    Steady rules During Q F past before b (cond c s t)
 steady_cond rules During Q F past before b true s t p q = p refl
 steady_cond rules During Q F past before b false s t p q = q refl
 
 -- the claim on what is left of a script after some accesses and the answers kept of them
-abbrev pub SteadyAt : {A B : Type 0} → Rules B → (During : List Visit → B → Type 0) → (Q : List Visit → B → B → A → Type 0) → (F : List Visit → B → Fault → Type 0) → (past : List Visit) → (before b : B) → Script A → ℕ → List ℕ → Type 0
+abbrev pub SteadyAt : {A B : Type 0} → Rules B → (During : List Visit → B → Type 0) → (Q : List Visit → B → B → A → Type 0) → (F : List Visit → B → Fault → Type 0) → (past : List Visit) →
+    (before b : B) → Script A → ℕ → List ℕ → Type 0
 SteadyAt rules During Q F past before b s zero [] = Steady rules During Q F past before b s
 SteadyAt rules During Q F past before b s zero (v ∷ vs) = ⊥
 SteadyAt rules During Q F past before b (done x) (suc n) vs = ⊥
@@ -63,7 +72,8 @@ kept_cons x vs a v = elim (keeps a) as (λ b. x ∷ cond b (vs ++ v ∷ []) vs �
 
 module _ {A B : Type 0} (rules : Rules B) (During : List Visit → B → Type 0) (Q : List Visit → B → B → A → Type 0) (F : List Visit → B → Fault → Type 0) where
   -- before an access
-  pub during_at : (past : List Visit) (before b : B) (s : Script A) (n : ℕ) (vs : List ℕ) (a : Access) (own : ℕ → List Change) → SteadyAt rules During Q F past before b s n vs → play s n vs ≡ Wants a own → During (trail n s vs past) b
+  pub during_at : (past : List Visit) (before b : B) (s : Script A) (n : ℕ) (vs : List ℕ) (a : Access) (own : ℕ → List Change) → SteadyAt rules During Q F past before b s n vs →
+      play s n vs ≡ Wants a own → During (trail n s vs past) b
   during_at past before b (done x) zero [] a own g w = cc
   during_at past before b (fault e) zero [] a own g w = cc
   during_at past before b (ask b' changes f) zero [] a own g w = g.0
@@ -76,7 +86,8 @@ module _ {A B : Type 0} (rules : Rules B) (During : List Visit → B → Type 0)
   during_at past before b (tell word value changes s) (suc n) vs a own g w = during_at (visit (access.Store word value) 0 changes ∷ past) before b s n vs a own g w
 
   -- what the others do keeps the claim of a thread that waits for an access
-  pub others_at : (past : List Visit) (before b now : B) (s : Script A) (n : ℕ) (vs : List ℕ) (a : Access) (own : ℕ → List Change) → rules.Rely b now → ((p : List Visit) → During p b → During p now) → SteadyAt rules During Q F past before b s n vs → play s n vs ≡ Wants a own → SteadyAt rules During Q F past before now s n vs
+  pub others_at : (past : List Visit) (before b now : B) (s : Script A) (n : ℕ) (vs : List ℕ) (a : Access) (own : ℕ → List Change) → rules.Rely b now → ((p : List Visit) → During p b → During p now) →
+      SteadyAt rules During Q F past before b s n vs → play s n vs ≡ Wants a own → SteadyAt rules During Q F past before now s n vs
   others_at past before b now (done x) zero [] a own r d g w = cc
   others_at past before b now (fault e) zero [] a own r d g w = cc
   others_at past before b now (ask b' changes f) zero [] a own r d g w = (d past g.0, λ later l v known. g.1 later (rules.again b now later r l) v known)
@@ -97,7 +108,9 @@ module _ {A B : Type 0} (rules : Rules B) (During : List Visit → B → Type 0)
     pub grown : trail n s vs past ≡ visit a v changes ∷ at
 
   -- the next access of a script, where what the words answer is known
-  pub goes : (R : A → Type 0) (wrote : Bool) (m k : ℕ) (words : List ℕ) (past : List Visit) (before b : B) (s : Script A) (n : ℕ) (vs : List ℕ) (a : Access) (own : ℕ → List Change) → Walks m k wrote R s → SteadyAt rules During Q F past before b s n vs → play s n vs ≡ Wants a own → rules.Known (trail n s vs past) b a (answer words a) → Goes (trail n s vs past) past b s (suc n) (kept_after vs a (answer words a)) a (answer words a) (own (answer words a))
+  pub goes : (R : A → Type 0) (wrote : Bool) (m k : ℕ) (words : List ℕ) (past : List Visit) (before b : B) (s : Script A) (n : ℕ) (vs : List ℕ) (a : Access) (own : ℕ → List Change) →
+      Walks m k wrote R s → SteadyAt rules During Q F past before b s n vs → play s n vs ≡ Wants a own → rules.Known (trail n s vs past) b a (answer words a) →
+      Goes (trail n s vs past) past b s (suc n) (kept_after vs a (answer words a)) a (answer words a) (own (answer words a))
   goes R wrote m k words past before b (done x) zero [] a own o g w known = cc
   goes R wrote m k words past before b (fault e) zero [] a own o g w known = cc
   goes R wrote m k words past before b (ask c changes f) zero [] a own o g w known =

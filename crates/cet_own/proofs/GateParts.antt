@@ -102,7 +102,11 @@ module _ (job : JobData) (arch : Arch) (l : own_stack job arch.number < 8) where
   ended b = hand (current_of arch.number b) (region b (current_of arch.number b)).entries Lost b
 
   -- the way in: the thread is inside, or it is at rest as before
-  pub gate_in_then : {A : Type 0} (Q : List Visit → State → State → A → Type 0) (past : List Visit) (before s : State) (f : Option ℕ → Script A) → Resting arch.number untouched (progress past) s.book arch.ssp → ((p : List Visit) (z n : State) → Inside arch.number gate untouched (progress p) (left_in p (token_word gate - 1)) n.book arch.ssp → Claim job arch Q p z n (f None)) → ((p : List Visit) (z n : State) (found : ℕ) → (found ≡ token gate + 1) × (stack_of z.book gate ≢ None) → Resting arch.number untouched (progress p) n.book arch.ssp → Claim job arch Q p z n (f (Some found))) → Claim job arch Q past before s (gate_in gate >>= f)
+  pub gate_in_then : {A : Type 0} (Q : List Visit → State → State → A → Type 0) (past : List Visit) (before s : State) (f : Option ℕ → Script A) →
+      Resting arch.number untouched (progress past) s.book arch.ssp → ((p : List Visit) (z n : State) →
+      Inside arch.number gate untouched (progress p) (left_in p (token_word gate - 1)) n.book arch.ssp → Claim job arch Q p z n (f None)) →
+      ((p : List Visit) (z n : State) (found : ℕ) → (found ≡ token gate + 1) × (stack_of z.book gate ≢ None) → Resting arch.number untouched (progress p) n.book arch.ssp →
+      Claim job arch Q p z n (f (Some found))) → Claim job arch Q past before s (gate_in gate >>= f)
   unfolding gate_in compare_exchange_as store_as
   gate_in_then Q past before s f rest inside busied =
       claim_bind job arch Q past before s (gate_in gate) f
@@ -142,7 +146,9 @@ module _ (job : JobData) (arch : Arch) (l : own_stack job arch.number < 8) where
       )))
 
   -- the way out
-  pub gate_out_then : {A : Type 0} {d : Progress} (Q : List Visit → State → State → A → Type 0) (past : List Visit) (before s : State) (f : Unit {0} → Script A) → Inside arch.number gate d (progress past) (left_in past (token_word gate - 1)) s.book arch.ssp → ((p : List Visit) (z n : State) → Resting arch.number d (progress p) n.book arch.ssp → Claim job arch Q p z n (f tt)) → Claim job arch Q past before s (gate_out leaving.Back gate >>= f)
+  pub gate_out_then : {A : Type 0} {d : Progress} (Q : List Visit → State → State → A → Type 0) (past : List Visit) (before s : State) (f : Unit {0} → Script A) →
+      Inside arch.number gate d (progress past) (left_in past (token_word gate - 1)) s.book arch.ssp →
+      ((p : List Visit) (z n : State) → Resting arch.number d (progress p) n.book arch.ssp → Claim job arch Q p z n (f tt)) → Claim job arch Q past before s (gate_out leaving.Back gate >>= f)
   unfolding gate_out compare_exchange_as load_as
   gate_out_then {d = d} Q past before s f inside h =
       claim_bind job arch Q past before s (gate_out leaving.Back gate) f
@@ -178,7 +184,10 @@ module _ (job : JobData) (arch : Arch) (l : own_stack job arch.number < 8) where
   popped b es = relist (current_of arch.number b) es b
 
   -- the newest entry, a frame's, goes with the way out
-  pub popped_out_then : {A : Type 0} (Q : List Visit → State → State → A → Type 0) (past : List Visit) (before s : State) (es : List Entry) (f : Unit {0} → Script A) → (region s.book (current_of arch.number s.book)).entries ≡ Frame ∷ es → Inside arch.number gate untouched (progress past) (left_in past (token_word gate - 1)) s.book arch.ssp → ((p : List Visit) (z n : State) → Resting arch.number untouched (progress p) n.book (arch.ssp + 8) → Claim job arch Q p z n (f tt)) → Claim job arch Q past before s (gate_out leaving.Popped gate >>= f)
+  pub popped_out_then : {A : Type 0} (Q : List Visit → State → State → A → Type 0) (past : List Visit) (before s : State) (es : List Entry) (f : Unit {0} → Script A) →
+      (region s.book (current_of arch.number s.book)).entries ≡ Frame ∷ es → Inside arch.number gate untouched (progress past) (left_in past (token_word gate - 1)) s.book arch.ssp →
+      ((p : List Visit) (z n : State) → Resting arch.number untouched (progress p) n.book (arch.ssp + 8) → Claim job arch Q p z n (f tt)) →
+      Claim job arch Q past before s (gate_out leaving.Popped gate >>= f)
   unfolding gate_out compare_exchange_as load_as
   popped_out_then Q past before s es f list inside h =
       claim_bind job arch Q past before s (gate_out leaving.Popped gate) f
@@ -223,7 +232,9 @@ module _ (job : JobData) (arch : Arch) (l : own_stack job arch.number < 8) where
       ))
 
   -- the way out of a thread that ends
-  pub exit_out_then : {A : Type 0} (Q : List Visit → State → State → A → Type 0) (past : List Visit) (before s : State) (status : ℕ) (f : Unit {0} → Script A) → Inside arch.number gate untouched (progress past) (left_in past (token_word gate - 1)) s.book arch.ssp → ((p : List Visit) (z n : State) → HasNone arch.number n.book → Claim job arch Q p z n (f tt)) → Claim job arch Q past before s (gate_out (leaving.Ended status) gate >>= f)
+  pub exit_out_then : {A : Type 0} (Q : List Visit → State → State → A → Type 0) (past : List Visit) (before s : State) (status : ℕ) (f : Unit {0} → Script A) →
+      Inside arch.number gate untouched (progress past) (left_in past (token_word gate - 1)) s.book arch.ssp →
+      ((p : List Visit) (z n : State) → HasNone arch.number n.book → Claim job arch Q p z n (f tt)) → Claim job arch Q past before s (gate_out (leaving.Ended status) gate >>= f)
   unfolding gate_out compare_exchange_as load_as
   exit_out_then Q past before s status f inside h =
       claim_bind job arch Q past before s (gate_out (leaving.Ended status) gate) f

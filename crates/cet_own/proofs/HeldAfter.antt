@@ -44,7 +44,8 @@ pub record NotesGate (k : ℕ) (a : Access) (v : ℕ) (changes : List Change) : 
   pub says : (held : Option ℕ) → held_after changes held ≡ held_by a v held
   pub own : (held : Option ℕ) (j : ℕ) → held_after changes held ≡ Some j → (held ≡ Some j) ⊎ (j ≡ k)
 
-pub notes_gate : {k : ℕ} {a c : Access} {changes l : List Change} (v : ℕ) → a ≡ c → changes ≡ l → ((held : Option ℕ) → held_after l held ≡ held_by c v held) → ((held : Option ℕ) (j : ℕ) → held_after l held ≡ Some j → (held ≡ Some j) ⊎ (j ≡ k)) → NotesGate k a v changes
+pub notes_gate : {k : ℕ} {a c : Access} {changes l : List Change} (v : ℕ) → a ≡ c → changes ≡ l → ((held : Option ℕ) → held_after l held ≡ held_by c v held) →
+    ((held : Option ℕ) (j : ℕ) → held_after l held ≡ Some j → (held ≡ Some j) ⊎ (j ≡ k)) → NotesGate k a v changes
 notes_gate v e ev h own = record {
   says = λ held. ap (λ cs. held_after cs held) ev ∙ h held ∙ sym (ap (λ x. held_by x v held) e);
   own = λ held j q. own held j (sym (ap (λ cs. held_after cs held) ev) ∙ q);

@@ -2,7 +2,8 @@
 use Rattle.std.specs.Prelude.{◌≡◌, ◌≢◌, ℕ, ◌+◌, ◌-◌, ◌*◌, ◌<◌, ◌≤◌, ◌⊎◌, List, length, slice_index}
 use Rattle.cet_words.specs.Entries.{entry_of}
 use Rattle.cet_words.specs.Job.{ImageData}
-use Rattle.cet_words.specs.Layout.{exit_word, entry_word, token, token_word, first_entry_word, first_kernel_page, first_kernel_word, first_mmap_page, first_shadow_page, first_shadow_word, page_count, shadow_start, word_count, first_action_word}
+use Rattle.cet_words.specs.Layout.{exit_word, entry_word, token, token_word, first_entry_word, first_kernel_page, first_kernel_word, first_mmap_page}
+use Rattle.cet_words.specs.Layout.{first_shadow_page, first_shadow_word, page_count, shadow_start, word_count, first_action_word}
 use Rattle.cet_book.specs.Facts.{In, LiesIn, Place, IsParkedAt, Returns, Stack}
 use Rattle.cet_book.specs.declared.entries.Holder.{Holder}
 use Rattle.cet_book.specs.declared.entries.Holder.TheVariants.{Maker, Current, Parked, Left, Lost}

@@ -19,7 +19,8 @@ use Rattle.cet_own.proofs.Writes.{stack_agrees, top_even, list_out}
 use Rattle.cet_own.proofs.Marks.{marks_out}
 
 -- the lists, where no word of the shadow area was written
-pub lists_out : (words : List ℕ) (b : Book) (w x : ℕ) → Shape b → (w < first_shadow_word) ⊎ (first_kernel_word ≤ w) → ((i : ℕ) → Stack words (tops b) (top (region b i)) (region b i).entries) → (i : ℕ) → Stack (slice_set words w x) (tops b) (top (region b i)) (region b i).entries
+pub lists_out : (words : List ℕ) (b : Book) (w x : ℕ) → Shape b → (w < first_shadow_word) ⊎ (first_kernel_word ≤ w) → ((i : ℕ) → Stack words (tops b) (top (region b i)) (region b i).entries) →
+    (i : ℕ) → Stack (slice_set words w x) (tops b) (top (region b i)) (region b i).entries
 lists_out words b w x s out h i =
     let o = (s.fits i).room in
     stack_agrees words (slice_set words w x) (tops b) (tops b) (top (region b i)) (region b i).entries (top_even b i s)
@@ -60,7 +61,8 @@ pub gates_same : (words : List ℕ) (b next : Book) → next.stacks ≡ b.stacks
 gates_same words b next e h k l = h k l ∙ ap (λ s. token k + busy (get_or s k None)) (sym e)
 
 -- a token becomes what the new holder asks
-pub gates_set : (words : List ℕ) (b : Book) (k x : ℕ) (o : Option ℕ) → length words ≡ word_count → length b.stacks ≡ 8 → k < 8 → x ≡ token k + busy o → Gates words b → Gates (slice_set words (token_word k) x) (put_stack b k o)
+pub gates_set : (words : List ℕ) (b : Book) (k x : ℕ) (o : Option ℕ) → length words ≡ word_count → length b.stacks ≡ 8 → k < 8 → x ≡ token k + busy o → Gates words b →
+    Gates (slice_set words (token_word k) x) (put_stack b k o)
 gates_set words b k x o size eight l e h j lj =
     let within : k < length b.stacks = omega arith in
     let now = stack_of-put_stack b k j o within in
@@ -78,7 +80,8 @@ gates_set words b k x o size eight l e h j lj =
 -- handlers and restorers, where none was written
 pub restorers_out : (image : ImageData) (words : List ℕ) (w x : ℕ) → NoAction w → Restorers image words → Restorers image (slice_set words w x)
 restorers_out image words w x out h =
-    let restorer : (s : ℕ) → s < 64 → slice_index (slice_set words w x) (restorer_word s) ≡ slice_index words (restorer_word s) = λ s l. (let other : restorer_word s ≢ w = elim out [ inl p ↦ omega arith | inr g ↦ omega arith ] in get_or-set_other words w (restorer_word s) x 0 other) in
+    let restorer : (s : ℕ) → s < 64 → slice_index (slice_set words w x) (restorer_word s) ≡ slice_index words (restorer_word s) =
+    λ s l. (let other : restorer_word s ≢ w = elim out [ inl p ↦ omega arith | inr g ↦ omega arith ] in get_or-set_other words w (restorer_word s) x 0 other) in
     record {
       executable = λ s l. subst (IsRestorer image) (sym (restorer s l)) (h.executable s l);
       shown = λ s l above.
@@ -141,10 +144,12 @@ holds_below_token image words b k x l h = record {
 
 -- a word that a page's entry may be is stored as that of a page of the mmap area or the shadow area, in the latter, where it
 -- isn't 0, of a page of a region
-pages_entry : (image : ImageData) (words : List ℕ) (b : Book) (page x : ℕ) → length words ≡ word_count → first_mmap_page ≤ page → page < first_kernel_page → IsEntry image page x → (x ≢ 0 → first_shadow_page ≤ page → (i : ℕ) × LiesIn (region b i) page) → Pages image words b → Pages image (slice_set words (entry_word page) x) b
+pages_entry : (image : ImageData) (words : List ℕ) (b : Book) (page x : ℕ) → length words ≡ word_count → first_mmap_page ≤ page → page < first_kernel_page → IsEntry image page x →
+    (x ≢ 0 → first_shadow_page ≤ page → (i : ℕ) × LiesIn (region b i) page) → Pages image words b → Pages image (slice_set words (entry_word page) x) b
 pages_entry image words b page x size lo hi is lies h =
     let inside : entry_word page < length words = omega arith in
-    let same : (p : ℕ) → p ≢ page → slice_index (slice_set words (entry_word page) x) (entry_word p) ≡ slice_index words (entry_word p) = λ p n. (let other : entry_word p ≢ entry_word page = omega arith in get_or-set_other words (entry_word page) (entry_word p) x 0 other) in
+    let same : (p : ℕ) → p ≢ page → slice_index (slice_set words (entry_word page) x) (entry_word p) ≡ slice_index words (entry_word p) =
+    λ p n. (let other : entry_word p ≢ entry_word page = omega arith in get_or-set_other words (entry_word page) (entry_word p) x 0 other) in
     let here : slice_index (slice_set words (entry_word page) x) (entry_word page) ≡ x = get_or-set_same words (entry_word page) x 0 inside in
     record {
       entries = λ p. elim (eqb_tells p page) [
@@ -163,7 +168,8 @@ pages_entry image words b page x size lo hi is lies h =
       ];
     }
 
-pub holds_entry : (image : ImageData) (words : List ℕ) (b : Book) (page x : ℕ) → first_mmap_page ≤ page → page < first_kernel_page → IsEntry image page x → (x ≢ 0 → first_shadow_page ≤ page → (i : ℕ) × LiesIn (region b i) page) → Holds image words b → Holds image (slice_set words (entry_word page) x) b
+pub holds_entry : (image : ImageData) (words : List ℕ) (b : Book) (page x : ℕ) → first_mmap_page ≤ page → page < first_kernel_page → IsEntry image page x →
+    (x ≢ 0 → first_shadow_page ≤ page → (i : ℕ) × LiesIn (region b i) page) → Holds image words b → Holds image (slice_set words (entry_word page) x) b
 holds_entry image words b page x lo hi is lies h = record {
   size = size_kept words (entry_word page) x h.size;
   sound = h.sound;

@@ -47,12 +47,17 @@ module _ (job : JobData) (arch : Arch) (l : own_stack job arch.number < 8) where
   failed_claim past before s error free within = serve_claim past before s _ free within
 
   -- A look that doesn't fault: the page's number, where its entry allows the access, or none.
-  probed : {A : Type 0} {d : Progress} (Q : List Visit → State → State → A → Type 0) (past : List Visit) (now : State) (kd : Kind) (w : Who) (page v : ℕ) (f : Option ℕ → Script A) (c : Bool) → allows v kd w ≡ c → Within d past now → (Within d past now → Claim job arch Q past now now (f None)) → (allows v kd w ≡ true → Within d past now → Claim job arch Q past now now (f (Some page))) → Claim job arch Q past now now (f (if c then Some page else None))
+  probed : {A : Type 0} {d : Progress} (Q : List Visit → State → State → A → Type 0) (past : List Visit) (now : State) (kd : Kind) (w : Who) (page v : ℕ) (f : Option ℕ → Script A) (c : Bool) →
+      allows v kd w ≡ c → Within d past now → (Within d past now → Claim job arch Q past now now (f None)) →
+      (allows v kd w ≡ true → Within d past now → Claim job arch Q past now now (f (Some page))) → Claim job arch Q past now now (f (if c then Some page else None))
   probed Q past now kd w page v f true e within none some = some e within
   probed Q past now kd w page v f false e within none some = none within
 
   -- with the page's number and entry
-  probe_at : {A : Type 0} {d : Progress} (Q : List Visit → State → State → A → Type 0) (past : List Visit) (before s : State) (at : Option ℕ) (kd : Kind) (w : Who) (f : Option ℕ → Script A) → Within d past s → ((p : List Visit) (z n : State) → Within d p n → Claim job arch Q p z n (f None)) → ((p : List Visit) (z n : State) (page v : ℕ) → at ≡ Some page → Relies arch.number s.book n.book → Known job.image arch.number past n.book (access.Look page) v → allows v kd w ≡ true → Within d p n → Claim job arch Q p z n (f (Some page))) → Claim job arch (λ p z n x. Claim job arch Q p z n (f x)) past before s (probe_in at kd w)
+  probe_at : {A : Type 0} {d : Progress} (Q : List Visit → State → State → A → Type 0) (past : List Visit) (before s : State) (at : Option ℕ) (kd : Kind) (w : Who) (f : Option ℕ → Script A) →
+      Within d past s → ((p : List Visit) (z n : State) → Within d p n → Claim job arch Q p z n (f None)) →
+      ((p : List Visit) (z n : State) (page v : ℕ) → at ≡ Some page → Relies arch.number s.book n.book → Known job.image arch.number past n.book (access.Look page) v → allows v kd w ≡ true →
+      Within d p n → Claim job arch Q p z n (f (Some page))) → Claim job arch (λ p z n x. Claim job arch Q p z n (f x)) past before s (probe_in at kd w)
   unfolding probe_in
   probe_at Q past before s None kd w f within none some = none past before s within
   probe_at {d = d} Q past before s (Some page) kd w f within none some = (
@@ -66,9 +71,15 @@ module _ (job : JobData) (arch : Arch) (l : own_stack job arch.number < 8) where
     ),
   )
 
-  pub probe_known : {A : Type 0} {d : Progress} (Q : List Visit → State → State → A → Type 0) (past : List Visit) (before s : State) (kd : Kind) (w : Who) (addr : ℕ) (f : Option ℕ → Script A) → Within d past s → ((p : List Visit) (z n : State) → Within d p n → Claim job arch Q p z n (f None)) → ((p : List Visit) (z n : State) (page v : ℕ) → page_at addr ≡ Some page → Relies arch.number s.book n.book → Known job.image arch.number past n.book (access.Look page) v → allows v kd w ≡ true → Within d p n → Claim job arch Q p z n (f (Some page))) → Claim job arch Q past before s (probe kd w addr >>= f)
+  pub probe_known : {A : Type 0} {d : Progress} (Q : List Visit → State → State → A → Type 0) (past : List Visit) (before s : State) (kd : Kind) (w : Who) (addr : ℕ) (f : Option ℕ → Script A) →
+      Within d past s → ((p : List Visit) (z n : State) → Within d p n → Claim job arch Q p z n (f None)) →
+      ((p : List Visit) (z n : State) (page v : ℕ) → page_at addr ≡ Some page → Relies arch.number s.book n.book → Known job.image arch.number past n.book (access.Look page) v → allows v kd w ≡ true →
+      Within d p n → Claim job arch Q p z n (f (Some page))) → Claim job arch Q past before s (probe kd w addr >>= f)
   unfolding probe
   probe_known Q past before s kd w addr f within none some = claim_bind job arch Q past before s (probe kd w addr) f (probe_at Q past before s (page_at addr) kd w f within none some)
 
-  pub probe_then : {A : Type 0} {d : Progress} (Q : List Visit → State → State → A → Type 0) (past : List Visit) (before s : State) (kd : Kind) (w : Who) (addr : ℕ) (f : Option ℕ → Script A) → Within d past s → ((p : List Visit) (z n : State) → Within d p n → Claim job arch Q p z n (f None)) → ((p : List Visit) (z n : State) (page v : ℕ) → IsEntry job.image page v → allows v kd w ≡ true → Within d p n → Claim job arch Q p z n (f (Some page))) → Claim job arch Q past before s (probe kd w addr >>= f)
+  pub probe_then : {A : Type 0} {d : Progress} (Q : List Visit → State → State → A → Type 0) (past : List Visit) (before s : State) (kd : Kind) (w : Who) (addr : ℕ) (f : Option ℕ → Script A) →
+      Within d past s → ((p : List Visit) (z n : State) → Within d p n → Claim job arch Q p z n (f None)) →
+      ((p : List Visit) (z n : State) (page v : ℕ) → IsEntry job.image page v → allows v kd w ≡ true → Within d p n → Claim job arch Q p z n (f (Some page))) →
+      Claim job arch Q past before s (probe kd w addr >>= f)
   probe_then {d = d} Q past before s kd w addr f within none some = probe_known {d = d} Q past before s kd w addr f within none (λ p z n page v at r known a within1. some p z n page v (known.entry page refl) a within1)

@@ -5,7 +5,8 @@ use Rattle.std.proofs.lemmas.Bool.{cases_lt, false≢true}
 use Rattle.std.proofs.lemmas.Bool.Decides.{nat_tests}
 use Rattle.cet_words.specs.Entries.{entry_of, entry_with, no_execute, segment_entry}
 use Rattle.cet_words.specs.Job.{JobData, ImageData, covers}
-use Rattle.cet_words.specs.Layout.{within, page_at, first_kernel_page, first_mmap_page, first_shadow_page, first_stack_page, image_end, image_start, kernel_end, kernel_start, mmap_end, mmap_start, shadow_end, shadow_start, stack_end, stack_start}
+use Rattle.cet_words.specs.Layout.{within, page_at, first_kernel_page, first_mmap_page, first_shadow_page, first_stack_page, image_end, image_start}
+use Rattle.cet_words.specs.Layout.{kernel_end, kernel_start, mmap_end, mmap_start, shadow_end, shadow_start, stack_end, stack_start}
 use Rattle.cet_words.specs.declared.accesses.Access.TheVariants as access
 use Rattle.cet_words.specs.declared.images.Segment.{Segment}
 use Rattle.cet_isa.specs.declared.threads.Arch.{Arch}
@@ -87,7 +88,11 @@ of_shadow_area image page v (inr e) a = (
 -- ---- and the address one of its addresses
 
 -- c, d, e, f and g tell the ranges in the order of `page_at`
-area_by : (addr page : ℕ) (c d e f g : Bool) → within image_start image_end addr ≡ c → within stack_start stack_end addr ≡ d → within mmap_start mmap_end addr ≡ e → within shadow_start shadow_end addr ≡ f → first_shadow_page ≤ page → page < first_kernel_page → (if c then Some ((addr - image_start) / 4096) else if d then Some (first_stack_page + (addr - stack_start) / 4096) else if e then Some (first_mmap_page + (addr - mmap_start) / 4096) else if f then Some (first_shadow_page + (addr - shadow_start) / 4096) else if g then Some (first_kernel_page + (addr - kernel_start) / 4096) else None) ≡ Some page → f ≡ true
+area_by : (addr page : ℕ) (c d e f g : Bool) → within image_start image_end addr ≡ c → within stack_start stack_end addr ≡ d → within mmap_start mmap_end addr ≡ e →
+    within shadow_start shadow_end addr ≡ f → first_shadow_page ≤ page → page < first_kernel_page →
+    (if c then Some ((addr - image_start) / 4096) else if d then Some (first_stack_page + (addr - stack_start) / 4096) else if e then Some
+    (first_mmap_page + (addr - mmap_start) / 4096) else if f then Some (first_shadow_page + (addr - shadow_start) / 4096) else if g then Some
+    (first_kernel_page + (addr - kernel_start) / 4096) else None) ≡ Some page → f ≡ true
 area_by addr page true d e f g p q r s lo hi is = absurd (let at : (addr - image_start) / 4096 ≡ page = cc in let high : addr < image_end = grind (arith, nat_tests) in omega arith)
 area_by addr page false true e f g p q r s lo hi is = absurd (let at : first_stack_page + (addr - stack_start) / 4096 ≡ page = cc in let high : addr < stack_end = grind (arith, nat_tests) in omega arith)
 area_by addr page false false true f g p q r s lo hi is = absurd (let at : first_mmap_page + (addr - mmap_start) / 4096 ≡ page = cc in let high : addr < mmap_end = grind (arith, nat_tests) in omega arith)
@@ -126,7 +131,11 @@ entries_at b m i j h l few inn = elim (cases_lt j (length (region b m).entries))
 -- ---- the look, with what follows it
 
 module _ (job : JobData) (arch : Arch) where
-  pub shadow_store_look_then : {A : Type 0} (Q : List Visit → State → State → A → Type 0) (past : List Visit) (before s : State) (addr : ℕ) (f : ℕ → Script A) → Resting arch.number untouched (progress past) s.book arch.ssp → ((now : State) → (r : Relies arch.number s.book now.book) → (v : ℕ) → shadow_start ≤ addr → addr < shadow_end → Known job.image arch.number past now.book (access.Look (first_shadow_page + (addr - shadow_start) / 4096)) v → (i : ℕ) → In (region now.book i) addr → Claim job arch Q (visit (access.Look (first_shadow_page + (addr - shadow_start) / 4096)) v [] ∷ past) now now (f (first_shadow_page + (addr - shadow_start) / 4096))) → Claim job arch Q past before s (look kind.ShadowStore User addr >>= f)
+  pub shadow_store_look_then : {A : Type 0} (Q : List Visit → State → State → A → Type 0) (past : List Visit) (before s : State) (addr : ℕ) (f : ℕ → Script A) →
+      Resting arch.number untouched (progress past) s.book arch.ssp → ((now : State) → (r : Relies arch.number s.book now.book) → (v : ℕ) → shadow_start ≤ addr → addr < shadow_end →
+      Known job.image arch.number past now.book (access.Look (first_shadow_page + (addr - shadow_start) / 4096)) v → (i : ℕ) → In (region now.book i) addr →
+      Claim job arch Q (visit (access.Look (first_shadow_page + (addr - shadow_start) / 4096)) v [] ∷ past) now now (f (first_shadow_page + (addr - shadow_start) / 4096))) →
+      Claim job arch Q past before s (look kind.ShadowStore User addr >>= f)
   shadow_store_look_then Q past before s addr f rest h =
       look_then job arch Q past before s kind.ShadowStore User addr f rest (λ now r page v at known a.
       let p = of_shadow_area job.image page v (known.entry page refl) a in

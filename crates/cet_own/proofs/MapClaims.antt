@@ -1,5 +1,6 @@
 -- What a thread claims of map_shadow_stack. Source: own.
-use Rattle.std.proofs.Common.{zero, suc, ◌≡◌, ◌≢◌, ℕ, ◌+◌, ◌-◌, ◌*◌, ◌/◌, ◌%◌, ◌^◌, ◌<◌, ◌≤◌, Bool, true, false, ◌&&◌, ◌||◌, List, [], ◌∷◌, length, replicate, Option, Some, None, refl, sym, ◌∙◌, ap, subst, arith}
+use Rattle.std.proofs.Common.{zero, suc, ◌≡◌, ◌≢◌, ℕ, ◌+◌, ◌-◌, ◌*◌, ◌/◌, ◌%◌, ◌^◌, ◌<◌, ◌≤◌, Bool, true, false, ◌&&◌, ◌||◌, List}
+use Rattle.std.proofs.Common.{[], ◌∷◌, length, replicate, Option, Some, None, refl, sym, ◌∙◌, ap, subst, arith}
 use Rattle.std.specs.Prelude.{◌==◌, if◌then◌else◌, nat_lt, nat_le}
 use Rattle.std.proofs.lemmas.Bool.{false≢true}
 use Rattle.std.proofs.lemmas.Bool.Decides.{nat_tests}
@@ -135,7 +136,9 @@ module _ (job : JobData) (arch : Arch) (l : own_stack job arch.number < 8) (free
   claimed_claim past before s start size within = gate_out_then job arch l (Ends job arch) past before s _ within (λ p z n rest. (rested rest, λ held now. free, tt))
 
   -- the token
-  token_claim : (past : List Visit) (before s : State) (i start size : ℕ) → 8 ≤ size → size % 8 ≡ 0 → Drawing past s → Begun arch.number i start (start + 4096 * pages_of size) true s.book → Claim job arch (Leaves job arch l) past before s (store_as (Seeded start ((4096 * pages_of size - size) / 8) ∷ []) (seed_word start size) (restore_token (start + size)) >>= (λ _. done (claimed arch start size)))
+  token_claim : (past : List Visit) (before s : State) (i start size : ℕ) → 8 ≤ size → size % 8 ≡ 0 → Drawing past s → Begun arch.number i start (start + 4096 * pages_of size) true s.book →
+      Claim job arch (Leaves job arch l) past before s (store_as (Seeded start ((4096 * pages_of size - size) / 8) ∷ []) (seed_word start size) (restore_token (start + size)) >>=
+      (λ _. done (claimed arch start size)))
   unfolding store_as
   token_claim past before s i start size least even within begun =
       claim_bind job arch (Leaves job arch l) past before s (store_as (Seeded start ((4096 * pages_of size - size) / 8) ∷ []) (seed_word start size) (restore_token (start + size))) _ (
@@ -167,13 +170,18 @@ module _ (job : JobData) (arch : Arch) (l : own_stack job arch.number < 8) (free
             ),
       )
 
-  seed_claim : (past : List Visit) (before s : State) (i start size : ℕ) (token : Bool) → (token ≡ true → (8 ≤ size) × (size % 8 ≡ 0)) → Drawing past s → Begun arch.number i start (start + 4096 * pages_of size) token s.book → Claim job arch (Leaves job arch l) past before s (seed_if start size (pages_of size) token >>= (λ _. done (claimed arch start size)))
+  seed_claim : (past : List Visit) (before s : State) (i start size : ℕ) (token : Bool) → (token ≡ true → (8 ≤ size) × (size % 8 ≡ 0)) → Drawing past s →
+      Begun arch.number i start (start + 4096 * pages_of size) token s.book → Claim job arch (Leaves job arch l) past before s (seed_if start size (pages_of size) token >>=
+      (λ _. done (claimed arch start size)))
   unfolding ◌>>=◌
   seed_claim past before s i start size true asked within begun = (let a = asked refl in token_claim past before s i start size a.0 a.1 within begun)
   seed_claim past before s i start size false asked within begun = claimed_claim past before s start size within
 
   -- the entries of the region's pages, the lowest first
-  pub entries_claim : (Q : List Visit → State → State → Unit {0} → Type 0) (past : List Visit) (before s : State) (count page word value i start end : ℕ) (maker : Bool) → word ≡ entry_word page → value ≡ shadow_entry page → start ≤ shadow_start + 4096 * (page - first_shadow_page) → first_shadow_page ≤ page → shadow_start + 4096 * (page - first_shadow_page + count) ≤ end → end ≤ 0x2003ff000 → Drawing past s → Begun arch.number i start end maker s.book → ((p : List Visit) (z n : State) → Drawing p n → Begun arch.number i start end maker n.book → Q p z n tt) → Claim job arch Q past before s (stores count word value 4096)
+  pub entries_claim : (Q : List Visit → State → State → Unit {0} → Type 0) (past : List Visit) (before s : State) (count page word value i start end : ℕ) (maker : Bool) → word ≡ entry_word page →
+      value ≡ shadow_entry page → start ≤ shadow_start + 4096 * (page - first_shadow_page) → first_shadow_page ≤ page → shadow_start + 4096 * (page - first_shadow_page + count) ≤ end →
+      end ≤ 0x2003ff000 → Drawing past s → Begun arch.number i start end maker s.book → ((p : List Visit) (z n : State) → Drawing p n → Begun arch.number i start end maker n.book → Q p z n tt) →
+      Claim job arch Q past before s (stores count word value 4096)
   unfolding stores
   entries_claim Q past before s zero page word value i start end maker e v lo first hi most within begun h = h past before s within begun
   entries_claim Q past before s (suc count) page word value i start end maker e v lo first hi most within begun h = (
@@ -193,20 +201,30 @@ module _ (job : JobData) (arch : Arch) (l : own_stack job arch.number < 8) (free
         ),
   )
 
-  fill_claim : (past : List Visit) (before s : State) (i d size : ℕ) (token : Bool) → 1 ≤ size → (token ≡ true → (8 ≤ size) × (size % 8 ≡ 0)) → d + pages_of size + 1 ≤ 1023 → Drawing past s → Begun arch.number i (drawn_start d) (drawn_start d + 4096 * pages_of size) token s.book → Claim job arch (Leaves job arch l) past before s (fill_stack arch d size (pages_of size) token)
+  fill_claim : (past : List Visit) (before s : State) (i d size : ℕ) (token : Bool) → 1 ≤ size → (token ≡ true → (8 ≤ size) × (size % 8 ≡ 0)) → d + pages_of size + 1 ≤ 1023 → Drawing past s →
+      Begun arch.number i (drawn_start d) (drawn_start d + 4096 * pages_of size) token s.book → Claim job arch (Leaves job arch l) past before s (fill_stack arch d size (pages_of size) token)
   unfolding fill_stack
   fill_claim past before s i d size token least asked room within begun =
       claim_bind job arch (Leaves job arch l) past before s (stores (pages_of size) (entry_word (drawn_page d)) (shadow_entry (drawn_page d)) 4096) _
       (entries_claim (λ p z n _. Claim job arch (Leaves job arch l) p z n (seed_if (drawn_start d) size (pages_of size) token >>= (λ _. done (claimed arch (drawn_start d) size))))
-      past before s (pages_of size) (drawn_page d) (entry_word (drawn_page d)) (shadow_entry (drawn_page d)) i (drawn_start d) (drawn_start d + 4096 * pages_of size) token refl refl (omega arith) (omega arith) (omega arith) (omega arith) within begun
+      past before s (pages_of size) (drawn_page d) (entry_word (drawn_page d)) (shadow_entry (drawn_page d)) i (drawn_start d) (drawn_start d + 4096 * pages_of size) token refl refl (omega arith)
+      (omega arith) (omega arith) (omega arith) within begun
       (λ p z n within1 begun1. seed_claim p z n i (drawn_start d) size token asked within1 begun1))
 
   -- from the draw on the row has drawn
-  draws_on : {now : Progress} {left : Option ℕ} {b : Book} → Inside arch.number gate untouched now left b arch.ssp → Inside arch.number gate (counted_by true false) (record { framed = now.framed; drawing = true; numbering = now.numbering }) left b arch.ssp
+  draws_on : {now : Progress} {left : Option ℕ} {b : Book} → Inside arch.number gate untouched now left b arch.ssp →
+      Inside arch.number gate (counted_by true false) (record { framed = now.framed; drawing = true; numbering = now.numbering }) left b arch.ssp
   draws_on i = record { stacked = i.stacked; holds = i.holds; level = ap (λ (x : Progress). record { framed = x.framed; drawing = true; numbering = x.numbering }) i.level; settled = i.settled; alone = i.alone }
 
   -- by whether there is room for so many pages
-  drawn_claim : (past : List Visit) (now : State) (pages : ℕ) (token : Bool) (fill : ℕ → Work) (d : ℕ) → 1 ≤ pages → pages ≤ most_stack_pages → Known job.image arch.number past now.book (access.FetchAdd draw_word (pages + 1)) d → Within job arch l untouched past now → ((p : List Visit) (z n : State) (i d : ℕ) → d + pages + 1 ≤ 1023 → Drawing p n → Begun arch.number i (drawn_start d) (drawn_start d + 4096 * pages) token n.book → Claim job arch (Leaves job arch l) p z n (fill d)) → (c : Bool) → can_draw pages d ≡ c → Owed job.image arch.number gate past now.book (access.FetchAdd draw_word (pages + 1)) d (if c then Claimed (drawn_start d) pages token ∷ [] else []) × (later : State) × (state_after arch.number now (if c then Claimed (drawn_start d) pages token ∷ [] else []) ≡ Some later) × Claim job arch (Leaves job arch l) (visit (access.FetchAdd draw_word (pages + 1)) d (if c then Claimed (drawn_start d) pages token ∷ [] else []) ∷ past) now later (if c then fill d else done (failed arch errno.NoMem))
+  drawn_claim : (past : List Visit) (now : State) (pages : ℕ) (token : Bool) (fill : ℕ → Work) (d : ℕ) → 1 ≤ pages → pages ≤ most_stack_pages →
+      Known job.image arch.number past now.book (access.FetchAdd draw_word (pages + 1)) d → Within job arch l untouched past now →
+      ((p : List Visit) (z n : State) (i d : ℕ) → d + pages + 1 ≤ 1023 → Drawing p n → Begun arch.number i (drawn_start d) (drawn_start d + 4096 * pages) token n.book →
+      Claim job arch (Leaves job arch l) p z n (fill d)) → (c : Bool) → can_draw pages d ≡ c →
+      Owed job.image arch.number gate past now.book (access.FetchAdd draw_word (pages + 1)) d (if c then Claimed (drawn_start d) pages token ∷ [] else []) × (later : State) ×
+      (state_after arch.number now (if c then Claimed (drawn_start d) pages token ∷ [] else []) ≡ Some later) ×
+      Claim job arch (Leaves job arch l) (visit (access.FetchAdd draw_word (pages + 1)) d (if c then Claimed (drawn_start d) pages token ∷ [] else []) ∷ past) now later
+      (if c then fill d else done (failed arch errno.NoMem))
   drawn_claim past now pages token fill d least most known within h false e =
       let few = known.few (pages + 1) refl in
       let apart : (draw_word == token_word gate - 1) ≡ false = (let n : draw_word ≢ token_word gate - 1 = omega arith in grind (arith, nat_tests)) in
@@ -233,7 +251,10 @@ module _ (job : JobData) (arch : Arch) (l : own_stack job arch.number < 8) (free
       )
 
   -- a draw of so many pages, and what fills the place
-  pub draw_then : (past : List Visit) (before s : State) (pages : ℕ) (token : Bool) (fill : ℕ → Work) → 1 ≤ pages → pages ≤ most_stack_pages → Within job arch l untouched past s → ((p : List Visit) (z n : State) (i d : ℕ) → d + pages + 1 ≤ 1023 → Drawing p n → Begun arch.number i (drawn_start d) (drawn_start d + 4096 * pages) token n.book → Claim job arch (Leaves job arch l) p z n (fill d)) → Claim job arch (Leaves job arch l) past before s (fetch_add_as (claimed_if pages token) draw_shadow_word (pages + 1) >>= (λ d. if can_draw pages d then fill d else done (failed arch errno.NoMem)))
+  pub draw_then : (past : List Visit) (before s : State) (pages : ℕ) (token : Bool) (fill : ℕ → Work) → 1 ≤ pages → pages ≤ most_stack_pages → Within job arch l untouched past s →
+      ((p : List Visit) (z n : State) (i d : ℕ) → d + pages + 1 ≤ 1023 → Drawing p n → Begun arch.number i (drawn_start d) (drawn_start d + 4096 * pages) token n.book →
+      Claim job arch (Leaves job arch l) p z n (fill d)) → Claim job arch (Leaves job arch l) past before s (fetch_add_as (claimed_if pages token) draw_shadow_word (pages + 1) >>=
+      (λ d. if can_draw pages d then fill d else done (failed arch errno.NoMem)))
   unfolding fetch_add_as
   draw_then past before s pages token fill least most within h =
       claim_bind job arch (Leaves job arch l) past before s (fetch_add_as (claimed_if pages token) draw_shadow_word (pages + 1)) _ (
@@ -241,13 +262,15 @@ module _ (job : JobData) (arch : Arch) (l : own_stack job arch.number < 8) (free
         λ now r d known. drawn_claim past now pages token fill d least most known (inside_kept r within) h (can_draw pages d) refl,
       )
 
-  draw_claim : (past : List Visit) (before s : State) (size : ℕ) (token : Bool) → 1 ≤ size → pages_of size ≤ most_stack_pages → (token ≡ true → (8 ≤ size) × (size % 8 ≡ 0)) → Within job arch l untouched past s → Claim job arch (Leaves job arch l) past before s (draw_stack arch size (pages_of size) token)
+  draw_claim : (past : List Visit) (before s : State) (size : ℕ) (token : Bool) → 1 ≤ size → pages_of size ≤ most_stack_pages → (token ≡ true → (8 ≤ size) × (size % 8 ≡ 0)) →
+      Within job arch l untouched past s → Claim job arch (Leaves job arch l) past before s (draw_stack arch size (pages_of size) token)
   unfolding draw_stack
   draw_claim past before s size token least most asked within =
       draw_then past before s (pages_of size) token (λ d. fill_stack arch d size (pages_of size) token) (omega arith) most within
       (λ p z n i d room within1 begun. fill_claim p z n i d size token least asked room within1 begun)
 
-  map_claim : (past : List Visit) (before s : State) (address size flags : ℕ) (o : Option Errno) → refused address size flags ≡ o → Within job arch l untouched past s → Claim job arch (Leaves job arch l) past before s (map_by arch size flags o)
+  map_claim : (past : List Visit) (before s : State) (address size flags : ℕ) (o : Option Errno) → refused address size flags ≡ o → Within job arch l untouched past s →
+      Claim job arch (Leaves job arch l) past before s (map_by arch size flags o)
   map_claim past before s address size flags (Some error) e within = failed_claim job arch l {drawing = false} {numbering = false} past before s error free within
   map_claim past before s address size flags None e within = (let f = fits address size flags e in draw_claim past before s size (flags == 1) f.some f.most f.asked within)
 

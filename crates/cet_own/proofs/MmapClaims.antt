@@ -54,7 +54,9 @@ module _ (job : JobData) (arch : Arch) (l : own_stack job arch.number < 8) (free
   -- ---- mmap
 
   -- the entries of the pages, the lowest first
-  entries_claim : (Q : List Visit → State → State → Unit {0} → Type 0) (past : List Visit) (before s : State) (count page word value : ℕ) → word ≡ entry_word page → value ≡ data_entry page → first_mmap_page ≤ page → page + count ≤ first_shadow_page → Within job arch l untouched past s → ((p : List Visit) (z n : State) → Within job arch l untouched p n → Q p z n tt) → Claim job arch Q past before s (stores count word value 4096)
+  entries_claim : (Q : List Visit → State → State → Unit {0} → Type 0) (past : List Visit) (before s : State) (count page word value : ℕ) → word ≡ entry_word page → value ≡ data_entry page →
+      first_mmap_page ≤ page → page + count ≤ first_shadow_page → Within job arch l untouched past s → ((p : List Visit) (z n : State) → Within job arch l untouched p n → Q p z n tt) →
+      Claim job arch Q past before s (stores count word value 4096)
   unfolding stores
   entries_claim Q past before s zero page word value e v lo most within h = h past before s within
   entries_claim Q past before s (suc count) page word value e v lo most within h = (
@@ -98,13 +100,15 @@ module _ (job : JobData) (arch : Arch) (l : own_stack job arch.number < 8) (free
 
   -- ---- munmap
 
-  clear_claim : (past : List Visit) (before s : State) (pages page : ℕ) → first_mmap_page ≤ page → page + pages ≤ first_kernel_page → Within job arch l untouched past s → Claim job arch (Leaves job arch l) past before s (unmap_pages arch pages page)
+  clear_claim : (past : List Visit) (before s : State) (pages page : ℕ) → first_mmap_page ≤ page → page + pages ≤ first_kernel_page → Within job arch l untouched past s →
+      Claim job arch (Leaves job arch l) past before s (unmap_pages arch pages page)
   unfolding unmap_pages
   clear_claim past before s pages page lo hi within =
       claim_bind job arch (Leaves job arch l) past before s (clears pages page) _
       (clears_claim job arch gate l _ past before s pages page lo hi within (λ p z n within1. serve_claim job arch l {drawing = false} {numbering = false} p z n 0 free within1))
 
-  munmap_by_claim : (past : List Visit) (before s : State) (address length : ℕ) (o : Option ℕ) → unmapped_page address length ≡ o → Within job arch l untouched past s → Claim job arch (Leaves job arch l) past before s (munmap_by arch length o)
+  munmap_by_claim : (past : List Visit) (before s : State) (address length : ℕ) (o : Option ℕ) → unmapped_page address length ≡ o → Within job arch l untouched past s →
+      Claim job arch (Leaves job arch l) past before s (munmap_by arch length o)
   munmap_by_claim past before s address length None e within = failed_claim job arch l {drawing = false} {numbering = false} past before s errno.Inval free within
   munmap_by_claim past before s address length (Some page) e within = (let place = unmapped_place address length page e in clear_claim past before s (pages_of length) page place.0 place.1 within)
 

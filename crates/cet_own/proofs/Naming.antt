@@ -1,5 +1,6 @@
 -- Each thread but the first is told of by one with a lower number, along every run. Source: own.
-use Rattle.std.proofs.Common.{◌≡◌, ◌≢◌, ◌⊎◌, ℕ, zero, suc, ◌+◌, ◌<◌, ◌≤◌, inl, inr, Bool, true, false, List, [], ◌∷◌, ◌++◌, Option, Some, None, refl, sym, ◌∙◌, ap, subst, arith, length, length-append, length-set}
+use Rattle.std.proofs.Common.{◌≡◌, ◌≢◌, ◌⊎◌, ℕ, zero, suc, ◌+◌, ◌<◌, ◌≤◌, inl, inr, Bool, true, false, List, [], ◌∷◌, ◌++◌, Option}
+use Rattle.std.proofs.Common.{Some, None, refl, sym, ◌∙◌, ap, subst, arith, length, length-append, length-set}
 use Rattle.std.specs.Prelude.{slice_get, slice_set}
 use Rattle.std.proofs.lemmas.Bool.{cases_lt}
 use Rattle.std.proofs.lemmas.Bool.Decides.{eqb_tells}
@@ -109,7 +110,8 @@ few_kept d (tell word value changes s) h =
     omega arith
 
 -- so also after its next access
-few_next : (past : List Visit) (s : Script Finish) (n : ℕ) (vs : List ℕ) (a : Access) (own : ℕ → List Change) (v : ℕ) → Telling EndTells (drawn past) s → play s n vs ≡ Wants a own → length (draws (own v) (drawn (trail n s vs past))).kept ≤ 1
+few_next : (past : List Visit) (s : Script Finish) (n : ℕ) (vs : List ℕ) (a : Access) (own : ℕ → List Change) (v : ℕ) → Telling EndTells (drawn past) s → play s n vs ≡ Wants a own →
+    length (draws (own v) (drawn (trail n s vs past))).kept ≤ 1
 few_next past (done x) n vs a own v h w = cc
 few_next past (fault e) n vs a own v h w = cc
 few_next past (ask b changes f) zero vs a own v h w =
@@ -129,7 +131,8 @@ some_kept past n [] e b = (let none : None ≡ Some n = sym (none_borne past e) 
 some_kept past n (x ∷ l) e b = omega arith
 
 -- a row that bears a thread has borne none before
-once : (job : JobData) (core : Core) (a : Access) (own : ℕ → List Change) (v : ℕ) → row_played job core.arch core.vals ≡ Wants a own → (n child start : ℕ) → own v ≡ Born child start ∷ [] → borne_in (trail_of job core) ≡ Some n → ⊥
+once : (job : JobData) (core : Core) (a : Access) (own : ℕ → List Change) (v : ℕ) → row_played job core.arch core.vals ≡ Wants a own → (n child start : ℕ) → own v ≡ Born child start ∷ [] →
+    borne_in (trail_of job core) ≡ Some n → ⊥
 once job core a own v w n child start e b =
     let past = trail_of job core in
     let few = few_next [] (row job (unheld core.arch)) core.vals.accesses core.vals.values a own v (row_tells job (unheld core.arch)) w in
@@ -146,7 +149,8 @@ data Onward (job : JobData) (o : Option ℕ) (thread next : Thread) : Type 0 whe
   ends : (r : Record) → next.trace ≡ thread.trace ++ r ∷ [] → o ≡ named r.what r.a → borne_in (trail_of job next.core) ≡ None → Onward job o thread next
   stops : next.trace ≡ thread.trace → o ≡ None → borne_in (trail_of job next.core) ≡ None → Onward job o thread next
 
-onward_came : (job : JobData) (thread : Thread) (held : Option ℕ) (seen : ValsData) (child : Option Core) (c : Played Finish) → CameTells EndTells (drawn (row_trail job thread.core.arch seen)) c → Onward job (borne_in (row_trail job thread.core.arch seen)) thread (thread_after thread (left_by job thread.core.arch held seen c child))
+onward_came : (job : JobData) (thread : Thread) (held : Option ℕ) (seen : ValsData) (child : Option Core) (c : Played Finish) → CameTells EndTells (drawn (row_trail job thread.core.arch seen)) c →
+    Onward job (borne_in (row_trail job thread.core.arch seen)) thread (thread_after thread (left_by job thread.core.arch held seen c child))
 onward_came job thread held seen child (Wants a changes) k = goes_on refl refl refl
 onward_came job thread held seen child (Faulted e) k = ends (fault_record thread.core.arch e) refl (none_borne (row_trail job thread.core.arch seen) k) refl
 onward_came job thread held seen child (Completed (Noted next r) left values) k = ends r refl (sym (borne_is (row_trail job thread.core.arch seen)) ∙ k.thread) refl
@@ -154,7 +158,8 @@ onward_came job thread held seen child (Completed (Posted next) left values) k =
 onward_came job thread held seen child (Completed (Exited next r status) left values) k = ends r refl (sym (borne_is (row_trail job thread.core.arch seen)) ∙ k.thread) refl
 onward_came job thread held seen child (Completed Stopped left values) k = stops refl (none_borne (row_trail job thread.core.arch seen) k) refl
 
-onward : (job : JobData) (thread : Thread) (a : Access) (own : ℕ → List Change) (v : ℕ) → Waits job thread.core → row_played job thread.core.arch thread.core.vals ≡ Wants a own → Onward job (borne_by (next_changes job thread.core v) (borne_in (trail_of job thread.core))) thread (thread_after thread (taken job thread.core v))
+onward : (job : JobData) (thread : Thread) (a : Access) (own : ℕ → List Change) (v : ℕ) → Waits job thread.core → row_played job thread.core.arch thread.core.vals ≡ Wants a own →
+    Onward job (borne_by (next_changes job thread.core v) (borne_in (trail_of job thread.core))) thread (thread_after thread (taken job thread.core v))
 unfolding taken
 onward job thread a own v h w =
     let core = thread.core in
@@ -221,7 +226,9 @@ module _ (job : JobData) (thread : Thread) (live : thread.core.over ≡ None) (n
     only = λ n tells. elim (tells_back n way tells) [ inl a ↦ inl (inl a) | inr b ↦ inr (core, refl, (let same : core.arch.number ≡ n = cc in same)) ];
   }
 
-  told_by : (changes : List Change) (b : Option (ℕ × ℕ)) → birth changes ≡ b → BirthFits changes → ((n child start : ℕ) → changes ≡ Born child start ∷ [] → borne_in (trail_of job thread.core) ≡ Some n → ⊥) → Onward job (borne_by changes (borne_in (trail_of job thread.core))) thread next → TellsOn job thread next (child_of thread.core.arch changes)
+  told_by : (changes : List Change) (b : Option (ℕ × ℕ)) → birth changes ≡ b → BirthFits changes →
+      ((n child start : ℕ) → changes ≡ Born child start ∷ [] → borne_in (trail_of job thread.core) ≡ Some n → ⊥) → Onward job (borne_by changes (borne_in (trail_of job thread.core))) thread next →
+      TellsOn job thread next (child_of thread.core.arch changes)
   told_by changes None e fits none way =
       subst (TellsOn job thread next) (sym (ap (born thread.core.arch) e)) (told_none (borne_by changes (borne_in (trail_of job thread.core))) (borne_still changes (borne_in (trail_of job thread.core)) e) way)
   told_by changes (Some c) e fits none way =
@@ -284,7 +291,8 @@ module _ (job : JobData) (threads : List Thread) (t : ℕ) (thread moved : Threa
   inside = slice_get_within threads t thread found
 
   -- a thread that was told of is told of in a list with all these threads, and with that which moved on
-  kept_named : (new : List Thread) (n : ℕ) → slice_get new t ≡ Some moved → ((k : ℕ) (y : Thread) → k ≢ t → slice_get threads k ≡ Some y → slice_get new k ≡ Some y) → (TellsOf job thread n → TellsOf job moved n) → IsNamed job threads n → IsNamed job new n
+  kept_named : (new : List Thread) (n : ℕ) → slice_get new t ≡ Some moved → ((k : ℕ) (y : Thread) → k ≢ t → slice_get threads k ≡ Some y → slice_get new k ≡ Some y) →
+      (TellsOf job thread n → TellsOf job moved n) → IsNamed job threads n → IsNamed job new n
   kept_named new n here others keeps d = elim (eqb_tells d.parent t) [
     | inl u ↦
         let old : slice_get threads t ≡ Some d.thread = subst (λ k. slice_get threads k ≡ Some d.thread) u.1 d.found in
@@ -301,7 +309,8 @@ module _ (job : JobData) (threads : List Thread) (t : ℕ) (thread moved : Threa
     now : k ≡ t → New n → Teller New k n
 
   -- it is enough to know of the one that acted, and that a new one tells of nobody
-  module _ (New : ℕ → Type 0) (child : Option Core) (more : (n : ℕ) → TellsOf job moved n → TellsOf job thread n ⊎ New n) (silent : (core : Core) (n : ℕ) → child ≡ Some core → TellsOf job (record { core = core; trace = [] }) n → ⊥) where
+  module _ (New : ℕ → Type 0) (child : Option Core) (more : (n : ℕ) → TellsOf job moved n → TellsOf job thread n ⊎ New n) (silent : (core : Core) (n : ℕ) → child ≡ Some core →
+      TellsOf job (record { core = core; trace = [] }) n → ⊥) where
     teller_at : (k n : ℕ) (y : Thread) → Place threads t moved child k y → TellsOf job y n → Teller New k n
     teller_at k n y (actor u is) tells = elim (more n (subst (λ z. TellsOf job z n) (sym is) tells)) [
       | inl a ↦ before thread (subst (λ i. slice_get threads i ≡ Some thread) (sym u) found) a

@@ -66,20 +66,23 @@ module _ (job : JobData) (j : IsJob job) (m : Machine) (s : State) (st : Invaria
   -- ---- the draw of a number
 
   -- what an access of a thread does to the counters
-  counts_row : (t : ℕ) (thread : Thread) (a : Access) (changes : ℕ → List Change) (over : Option End) → slice_get m.threads t ≡ Some thread → over ≡ None → CoreStands job t s thread.core over → row_played job thread.core.arch thread.core.vals ≡ Wants a changes → CountsBy t (trail_of job thread.core) s.book a (answer m.words a) (next_changes job thread.core (answer m.words a))
+  counts_row : (t : ℕ) (thread : Thread) (a : Access) (changes : ℕ → List Change) (over : Option End) → slice_get m.threads t ≡ Some thread → over ≡ None → CoreStands job t s thread.core over →
+      row_played job thread.core.arch thread.core.vals ≡ Wants a changes → CountsBy t (trail_of job thread.core) s.book a (answer m.words a) (next_changes job thread.core (answer m.words a))
   counts_row t thread a changes (Some end) e is r w = cc
   counts_row t thread a changes None e is r w =
       let before = counters_tell job m.words m.threads t thread s.book j st.paid e (λ y q. subst (ThreadStands job y s) q (st.threads y)) in
       let d = led job j m.words t s thread.core a changes before st.holds (st.still t thread e) (thread_stands t thread e).0 r w in
       d.owed.counts m.words refl st.holds
 
-  pub counts_at : (t : ℕ) (thread : Thread) (a : Access) (changes : ℕ → List Change) → slice_get m.threads t ≡ Some thread → thread.core.over ≡ None → row_played job thread.core.arch thread.core.vals ≡ Wants a changes → CountsBy t (trail_of job thread.core) s.book a (answer m.words a) (next_changes job thread.core (answer m.words a))
+  pub counts_at : (t : ℕ) (thread : Thread) (a : Access) (changes : ℕ → List Change) → slice_get m.threads t ≡ Some thread → thread.core.over ≡ None →
+      row_played job thread.core.arch thread.core.vals ≡ Wants a changes → CountsBy t (trail_of job thread.core) s.book a (answer m.words a) (next_changes job thread.core (answer m.words a))
   counts_at t thread a changes e is w = counts_row t thread a changes thread.core.over e is (thread_stands t thread e).1 w
 
   nobody : (a : Access) (arch : Arch) (changes : List Change) (child : Option Core) → child ≡ child_of arch changes → birth changes ≡ None → child ≡ None
   nobody a arch changes child is none = is ∙ ap (born arch) none
 
-  draws_by : (t : ℕ) (thread : Thread) (a : Access) (changes : List Change) (child : Option Core) → child ≡ child_of thread.core.arch changes → CountsBy t (trail_of job thread.core) s.book a (answer m.words a) changes → Draws m a child
+  draws_by : (t : ℕ) (thread : Thread) (a : Access) (changes : List Change) (child : Option Core) → child ≡ child_of thread.core.arch changes →
+      CountsBy t (trail_of job thread.core) s.book a (answer m.words a) changes → Draws m a child
   draws_by t thread a changes child is (counters.no_count d n none) =
       leaves (unaltered a m.words next_word n) (nobody a thread.core.arch changes child is none)
   draws_by t thread a changes child is (counters.draws_pages n most e once none) =
@@ -91,7 +94,8 @@ module _ (job : JobData) (j : IsJob job) (m : Machine) (s : State) (st : Invaria
   draws_by t thread a changes child is (counters.bears_nobody e many once none) =
       bears_nobody e many (nobody a thread.core.arch changes child is none)
 
-  draws_core : (t : ℕ) (thread : Thread) (a : Access) (over : Option End) → slice_get m.threads t ≡ Some thread → thread.core.over ≡ over → CoreStands job t s thread.core over → next_access job thread.core ≡ Some a → Draws m a (taken job thread.core (answer m.words a)).child
+  draws_core : (t : ℕ) (thread : Thread) (a : Access) (over : Option End) → slice_get m.threads t ≡ Some thread → thread.core.over ≡ over → CoreStands job t s thread.core over →
+      next_access job thread.core ≡ Some a → Draws m a (taken job thread.core (answer m.words a)).child
   unfolding next_access
   draws_core t thread a (Some end) e is r next = (let none : access_of job thread.core (Some end) ≡ Some a = sym (ap (access_of job thread.core) is) ∙ next in cc)
   draws_core t thread a None e is r next =

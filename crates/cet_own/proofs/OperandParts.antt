@@ -24,7 +24,9 @@ use Rattle.cet_page.specs.Trail.{Visit}
 use Rattle.cet_own.proofs.Resting.{Resting, rest_kept, rest_stacked}
 
 module _ (job : JobData) (arch : Arch) where
-  pub load_at_then : {A : Type 0} (Q : List Visit → State → State → A → Type 0) (past : List Visit) (before s : State) (addr count : ℕ) (f : ℕ → Script A) → Resting arch.number untouched (progress past) s.book arch.ssp → ((p : List Visit) (z n : State) → Resting arch.number untouched (progress p) n.book arch.ssp → (v : ℕ) → Claim job arch Q p z n (f v)) → Claim job arch Q past before s (load_at addr count >>= f)
+  pub load_at_then : {A : Type 0} (Q : List Visit → State → State → A → Type 0) (past : List Visit) (before s : State) (addr count : ℕ) (f : ℕ → Script A) →
+      Resting arch.number untouched (progress past) s.book arch.ssp → ((p : List Visit) (z n : State) → Resting arch.number untouched (progress p) n.book arch.ssp → (v : ℕ) →
+      Claim job arch Q p z n (f v)) → Claim job arch Q past before s (load_at addr count >>= f)
   unfolding load_at load_word load_as
   load_at_then Q past before s addr count f rest h =
       claim_bind job arch Q past before s (load_at addr count) f
@@ -37,7 +39,9 @@ module _ (job : JobData) (arch : Arch) where
       )))))
 
   -- a write goes to a word that matters for no stack
-  pub write_place_then : {A : Type 0} (Q : List Visit → State → State → A → Type 0) (past : List Visit) (before s : State) (addr : ℕ) (f : ℕ → Script A) → Resting arch.number untouched (progress past) s.book arch.ssp → ((p : List Visit) (z n : State) → Resting arch.number untouched (progress p) n.book arch.ssp → (word : ℕ) → IsOut word → Claim job arch Q p z n (f word)) → Claim job arch Q past before s (write_place addr >>= f)
+  pub write_place_then : {A : Type 0} (Q : List Visit → State → State → A → Type 0) (past : List Visit) (before s : State) (addr : ℕ) (f : ℕ → Script A) →
+      Resting arch.number untouched (progress past) s.book arch.ssp → ((p : List Visit) (z n : State) → Resting arch.number untouched (progress p) n.book arch.ssp → (word : ℕ) → IsOut word →
+      Claim job arch Q p z n (f word)) → Claim job arch Q past before s (write_place addr >>= f)
   unfolding write_place
   write_place_then Q past before s addr f rest h =
       claim_bind job arch Q past before s (write_place addr) f
@@ -45,7 +49,9 @@ module _ (job : JobData) (arch : Arch) where
       store_look_then job arch (λ p z n x. Claim job arch Q p z n (f x)) past before s addr _ rest (λ now r page v l.
       h _ now now (rest_kept r rest) (word_in page addr) (page_word page addr l))))
 
-  pub store_at_then : {A : Type 0} (Q : List Visit → State → State → A → Type 0) (past : List Visit) (before s : State) (addr value : ℕ) (f : Unit {0} → Script A) → Resting arch.number untouched (progress past) s.book arch.ssp → ((p : List Visit) (z n : State) → Resting arch.number untouched (progress p) n.book arch.ssp → Claim job arch Q p z n (f tt)) → Claim job arch Q past before s (store_at addr value >>= f)
+  pub store_at_then : {A : Type 0} (Q : List Visit → State → State → A → Type 0) (past : List Visit) (before s : State) (addr value : ℕ) (f : Unit {0} → Script A) →
+      Resting arch.number untouched (progress past) s.book arch.ssp → ((p : List Visit) (z n : State) → Resting arch.number untouched (progress p) n.book arch.ssp → Claim job arch Q p z n (f tt)) →
+      Claim job arch Q past before s (store_at addr value >>= f)
   unfolding store_at store_as
   store_at_then Q past before s addr value f rest h =
       claim_bind job arch Q past before s (store_at addr value) f
@@ -54,7 +60,9 @@ module _ (job : JobData) (arch : Arch) where
         λ now r known. (stores word value refl out refl, now, refl, h _ now now (rest_kept r rest1)),
       )))
 
-  pub read_operand_then : {A : Type 0} (Q : List Visit → State → State → A → Type 0) (past : List Visit) (before s : State) (sz : Size) (o : Operand) (next : ℕ) (f : ℕ → Script A) → Resting arch.number untouched (progress past) s.book arch.ssp → ((p : List Visit) (z n : State) → Resting arch.number untouched (progress p) n.book arch.ssp → (v : ℕ) → Claim job arch Q p z n (f v)) → Claim job arch Q past before s (read_operand arch sz o next >>= f)
+  pub read_operand_then : {A : Type 0} (Q : List Visit → State → State → A → Type 0) (past : List Visit) (before s : State) (sz : Size) (o : Operand) (next : ℕ) (f : ℕ → Script A) →
+      Resting arch.number untouched (progress past) s.book arch.ssp → ((p : List Visit) (z n : State) → Resting arch.number untouched (progress p) n.book arch.ssp → (v : ℕ) →
+      Claim job arch Q p z n (f v)) → Claim job arch Q past before s (read_operand arch sz o next >>= f)
   unfolding read_operand ◌>>=◌
   read_operand_then Q past before s sz (operand.Reg r) next f rest h = h past before s rest (register arch r % limit sz)
   read_operand_then Q past before s sz (operand.Imm z) next f rest h = h past before s rest (cast_unsigned (width sz) z)

@@ -103,7 +103,8 @@ holds_pop image words {m = m} {b = b} {next = next} o (plain e es list not_link 
     }) sound
 holds_pop image words {m = m} {b = b} {next = next} o (linked s es l is) sound h =
     subst (λ n. Sound n → Holds image words n) is (λ sound'.
-    let old : (i : ℕ) → Stack words (tops (unlink m s es Lost b)) (top (region b i)) (region b i).entries = λ i. list_kept words words b (unlink m s es Lost b) m i o.shape (none_leads o) (unlink_top l Lost) (λ a lo hi even. refl) (h.stacks i) in
+    let old : (i : ℕ) → Stack words (tops (unlink m s es Lost b)) (top (region b i)) (region b i).entries =
+    λ i. list_kept words words b (unlink m s es Lost b) m i o.shape (none_leads o) (unlink_top l Lost) (λ a lo hi even. refl) (h.stacks i) in
     let room = (o.shape.fits m).room in
     record {
       size = h.size;

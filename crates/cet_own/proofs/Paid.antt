@@ -104,7 +104,9 @@ pub record Pays (job : JobData) (arch : Arch) (past : List Visit) (next : Core) 
   pub count : next.arch.count ≤ arch.count + 1
   pub made : next.arch.made ≡ arch.made
 
-pub came_pays : (job : JobData) (arch : Arch) (held : Option ℕ) (seen : ValsData) (before s : State) (c : Played Finish) → OnCame (rules job arch.number) (During (unheld arch)) (calls.Ends job (unheld arch)) (λ p. Fails job (unheld arch)) (row_trail job arch seen) before s c → OnOver (Ends job (unheld arch)) c → Pays job arch (row_trail job arch seen) (core_by job arch held seen c)
+pub came_pays : (job : JobData) (arch : Arch) (held : Option ℕ) (seen : ValsData) (before s : State) (c : Played Finish) →
+    OnCame (rules job arch.number) (During (unheld arch)) (calls.Ends job (unheld arch)) (λ p. Fails job (unheld arch)) (row_trail job arch seen) before s c → OnOver (Ends job (unheld arch)) c →
+    Pays job arch (row_trail job arch seen) (core_by job arch held seen c)
 came_pays job arch held seen before s (Wants a changes) o k = record { draws = omega arith; nexts = omega arith; count = omega arith; made = refl }
 came_pays job arch held seen before s (Faulted e) o k = record {
   draws = (let l = one_most (drew (row_trail job arch seen)) in omega arith);
@@ -149,14 +151,16 @@ pub record Paid (job : JobData) (words : List ℕ) (threads : List Thread) : Typ
   pub nexts : slice_index words next_word ≤ 1 + sum_by (thread_births job) threads
 
 -- 32 threads of at most 100,001 each
-pub few_sum : (job : JobData) (threads : List Thread) (d : Thread) (f : Thread → ℕ) → length threads ≤ 32 → ((t : ℕ) (thread : Thread) → slice_get threads t ≡ Some thread → f thread ≤ 100001) → sum_by f threads ≤ 3200032
+pub few_sum : (job : JobData) (threads : List Thread) (d : Thread) (f : Thread → ℕ) → length threads ≤ 32 → ((t : ℕ) (thread : Thread) → slice_get threads t ≡ Some thread → f thread ≤ 100001) →
+    sum_by f threads ≤ 3200032
 few_sum job threads d f few each =
     let all : All (λ x. f x ≤ 100001) threads = All-from_get_or (λ x. f x ≤ 100001) threads d (λ i l. each i (get_or threads i d) (slice_get-get_or threads i d l)) in
     let sum = sum_by-le f 100001 threads all in
     omega arith
 
 -- so the counters don't wrap, and the next number is of no thread
-pub counters_tell : (job : JobData) (words : List ℕ) (threads : List Thread) (t : ℕ) (thread : Thread) (b : Book) → IsJob job → Paid job words threads → slice_get threads t ≡ Some thread → ((y : ℕ) → slice_get threads y ≡ None → HasNone y b) → CountersTell words t b
+pub counters_tell : (job : JobData) (words : List ℕ) (threads : List Thread) (t : ℕ) (thread : Thread) (b : Book) → IsJob job → Paid job words threads → slice_get threads t ≡ Some thread →
+    ((y : ℕ) → slice_get threads y ≡ None → HasNone y b) → CountersTell words t b
 counters_tell job words threads t thread b j p found none =
     let limit = j.limit_high in
     let number = p.number in

@@ -34,7 +34,8 @@ record Went (t m k : ℕ) (es : List Entry) (b next : Book) : Type 0 where
   second : book_after t (relist m es b) (Freed k) ≡ Some next
   is : put_stack (relist m es b) k None ≡ next
 
-went : (t m k : ℕ) (es : List Entry) (b next : Book) (changes : List Change) → Owned t m b → (region b m).entries ≡ Frame ∷ es → stack_of b k ≡ Some t → changes ≡ Popped ∷ Freed k ∷ [] → books_after t b changes ≡ Some next → Went t m k es b next
+went : (t m k : ℕ) (es : List Entry) (b next : Book) (changes : List Change) → Owned t m b → (region b m).entries ≡ Frame ∷ es → stack_of b k ≡ Some t → changes ≡ Popped ∷ Freed k ∷ [] →
+    books_after t b changes ≡ Some next → Went t m k es b next
 went t m k es b next changes o list held ev q =
     let r : books_after t b (Popped ∷ Freed k ∷ []) ≡ Some next = subst (λ cs. books_after t b cs ≡ Some next) ev q in
     let s = then_by t (book_after t b Popped) next (Freed k ∷ []) r in
@@ -45,7 +46,9 @@ went t m k es b next changes o list held ev q =
     let held' : stack_of (relist m es b) k ≡ Some t = held in
     record { first = way; second = second; is = (let f = freed_way t k (relist m es b) held' in cc) }
 
-pub pops_frame : {image : ImageData} {t k : ℕ} {past : List Visit} {b : Book} {a : Access} {v : ℕ} {changes : List Change} (m : ℕ) (es : List Entry) → k < 8 → a ≡ access.CompareExchange (token_word k) (token k + 1) (token k) → stack_of b k ≡ Some t → (region b m).holder ≡ Current t → (region b m).entries ≡ Frame ∷ es → changes ≡ Popped ∷ Freed k ∷ [] → Owed image t k past b a v changes
+pub pops_frame : {image : ImageData} {t k : ℕ} {past : List Visit} {b : Book} {a : Access} {v : ℕ} {changes : List Change} (m : ℕ) (es : List Entry) → k < 8 →
+    a ≡ access.CompareExchange (token_word k) (token k + 1) (token k) → stack_of b k ≡ Some t → (region b m).holder ≡ Current t → (region b m).entries ≡ Frame ∷ es → changes ≡ Popped ∷ Freed k ∷ [] →
+    Owed image t k past b a v changes
 pops_frame {image = image} {t = t} {k = k} {b = b} {v = v} {changes = changes} m es l e held current list ev = record {
   notes = λ words is h. notes_gate v e ev (gives_note k v l (is ∙ ap (answer words) e ∙ token_held t k h l held)) (λ note j q. cc);
   below = λ words is h. tells_below t b v e (λ j n. not_below (token_word k) j (λ z. omega arith));

@@ -7,7 +7,8 @@ use Rattle.cet_words.specs.Layout.{exit_word, first_kernel_page, token_word, wor
 use Rattle.cet_isa.specs.declared.threads.Arch.{Arch}
 use Rattle.cet_page.specs.Finish.{IsMade, rax, rdi, rdx, rsi}
 use Rattle.cet_page.specs.Gate.{failed, serve}
-use Rattle.cet_page.specs.Processes.{arch_prctl, arch_shstk_disable, arch_shstk_enable, arch_shstk_lock, arch_shstk_status, bytes_of, exit, exit_group, exit_status, in_one_word, load_last, made_page, process_service, put_status, taken_of, tell_status, thread_pages, write_bytes, write_first, write_of, write_words, wrote}
+use Rattle.cet_page.specs.Processes.{arch_prctl, arch_shstk_disable, arch_shstk_enable, arch_shstk_lock, arch_shstk_status, bytes_of, exit, exit_group, exit_status, in_one_word, load_last}
+use Rattle.cet_page.specs.Processes.{made_page, process_service, put_status, taken_of, tell_status, thread_pages, write_bytes, write_first, write_of, write_words, wrote}
 use Rattle.cet_page.specs.Parts.{clears, load}
 use Rattle.cet_page.specs.Script.{done, ◌>>=◌}
 use Rattle.cet_page.specs.Trail.{Visit}
@@ -70,14 +71,16 @@ module _ (job : JobData) (arch : Arch) (l : own_stack job arch.number < 8) (free
   wrote_claim past before s count bytes within = gate_out_then job arch l (Ends job arch) past before s _ within (λ p z n rest. (rested rest, λ held now. free, tt))
 
   -- by whether the bytes reach into a second word
-  last_claim : (past : List Visit) (before s : State) (addr count last low : ℕ) (c : Bool) → last < first_kernel_page → Inner past s → Claim job arch (Leaves job arch l) past before s ((if c then done 0 else load (word_in last (addr + count - 1))) >>= (λ high. done (wrote arch count (bytes_of low high (addr % 8) count))))
+  last_claim : (past : List Visit) (before s : State) (addr count last low : ℕ) (c : Bool) → last < first_kernel_page → Inner past s →
+      Claim job arch (Leaves job arch l) past before s ((if c then done 0 else load (word_in last (addr + count - 1))) >>= (λ high. done (wrote arch count (bytes_of low high (addr % 8) count))))
   unfolding ◌>>=◌
   last_claim past before s addr count last low true below within = wrote_claim past before s count _ within
   last_claim past before s addr count last low false below within =
       kernel_load_then job arch (Leaves job arch l) past before s gate (word_in last (addr + count - 1)) _ (λ z. omega arith) within (λ now r high within1.
       wrote_claim _ now now count _ within1)
 
-  words_claim : (past : List Visit) (before s : State) (addr count first last : ℕ) → first < first_kernel_page → last < first_kernel_page → Inner past s → Claim job arch (Leaves job arch l) past before s (write_words arch addr count first last)
+  words_claim : (past : List Visit) (before s : State) (addr count first last : ℕ) → first < first_kernel_page → last < first_kernel_page → Inner past s →
+      Claim job arch (Leaves job arch l) past before s (write_words arch addr count first last)
   unfolding write_words load_last
   words_claim past before s addr count first last below below' within =
       kernel_load_then job arch (Leaves job arch l) past before s gate (word_in first addr) _ (λ z. omega arith) within (λ now r low within1.

@@ -48,7 +48,8 @@ own_place {t = t} {m = m} {b = b} o addr inn = record {
 -- ---- the frame's word
 
 -- a word that is no token is written below the top, and no list changes
-holds_marker : (image : ImageData) (words : List ℕ) {t m : ℕ} {b : Book} (o : Owned t m b) (x : ℕ) → (region b m).start + 8 ≤ top (region b m) → x ≢ top (region b m) + 1 → Holds image words b → Holds image (slice_set words (slot (top (region b m) - 8)) x) b
+holds_marker : (image : ImageData) (words : List ℕ) {t m : ℕ} {b : Book} (o : Owned t m b) (x : ℕ) → (region b m).start + 8 ≤ top (region b m) → x ≢ top (region b m) + 1 → Holds image words b →
+    Holds image (slice_set words (slot (top (region b m) - 8)) x) b
 holds_marker image words {m = m} {b = b} o x room no_token h =
     let at = below_top o room in
     let low = at.place.low in
@@ -117,7 +118,8 @@ module _ (image : ImageData) (words : List ℕ) {t m : ℕ} {b : Book} (o : Owne
             (pages_out image words b (slot (top (region b m) - 16)) x (omega arith) h.pages);
         gates = gates_same stored b with_frame refl (gates_out words b (slot (top (region b m) - 16)) x (λ k l. omega arith) h.gates);
         restorers = restorers_out image words (slot (top (region b m) - 16)) x (inl (omega arith)) h.restorers;
-        marks = marks_write words (writes_own (tokens_relist o (Restorer x ∷ Frame ∷ (region b m).entries)) o (relist_holder o (Restorer x ∷ Frame ∷ (region b m).entries) m ∙ o.current) p.0 p.1 (omega arith)) h.size o.shape h.marks;
+        marks = marks_write words (writes_own (tokens_relist o (Restorer x ∷ Frame ∷ (region b m).entries)) o (relist_holder o (Restorer x ∷ Frame ∷ (region b m).entries) m ∙ o.current) p.0 p.1
+            (omega arith)) h.size o.shape h.marks;
         ending = ending_out words (slot (top (region b m) - 16)) x (omega arith) h.ending;
       }
 
@@ -125,7 +127,8 @@ module _ (image : ImageData) (words : List ℕ) {t m : ℕ} {b : Book} (o : Owne
 
 module _ {image : ImageData} {t k : ℕ} {past : List Visit} {b : Book} {a : Access} {v : ℕ} {changes : List Change} where
   -- a word that is no token is stored below the top of the thread's region, and is no entry yet
-  pub stores_marker : (m x : ℕ) → (region b m).holder ≡ Current t → a ≡ access.Store (slot (top (region b m) - 8)) x → (region b m).start + 8 ≤ top (region b m) → x ≢ top (region b m) + 1 → changes ≡ [] → Owed image t k past b a v changes
+  pub stores_marker : (m x : ℕ) → (region b m).holder ≡ Current t → a ≡ access.Store (slot (top (region b m) - 8)) x → (region b m).start + 8 ≤ top (region b m) → x ≢ top (region b m) + 1 →
+      changes ≡ [] → Owed image t k past b a v changes
   stores_marker m x current e room no_token ev = record {
     notes = λ words is h. notes_gate v e ev (λ held. refl) (λ held j q. inl q);
     below = λ words is h.
@@ -147,7 +150,8 @@ module _ {image : ImageData} {t k : ℕ} {past : List Visit} {b : Book} {a : Acc
   }
 
   -- the restorer is stored below the frame's word, which the row has stored
-  pub stores_restorer : (m x : ℕ) → (region b m).holder ≡ Current t → a ≡ access.Store (slot (top (region b m) - 16)) x → (region b m).start + 16 ≤ top (region b m) → left_in past (slot (top (region b m) - 8)) ≡ Some (2 ^ 63 + top (region b m)) → IsReturn x → frame_pushed past ≡ false → changes ≡ Pushed x ∷ [] → Owed image t k past b a v changes
+  pub stores_restorer : (m x : ℕ) → (region b m).holder ≡ Current t → a ≡ access.Store (slot (top (region b m) - 16)) x → (region b m).start + 16 ≤ top (region b m) →
+      left_in past (slot (top (region b m) - 8)) ≡ Some (2 ^ 63 + top (region b m)) → IsReturn x → frame_pushed past ≡ false → changes ≡ Pushed x ∷ [] → Owed image t k past b a v changes
   stores_restorer m x current e room left is_return level ev = record {
     notes = λ words is h. notes_gate v e ev (λ held. refl) (λ held j q. inl q);
     below = λ words is h.

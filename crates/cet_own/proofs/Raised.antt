@@ -39,7 +39,8 @@ holds_raise image words t m =
     (λ _ b mid next o removal rest h. rest (holds_pop image words o removal (sound_removed o removal h.sound) h))
 
 -- where the book has that change
-pub raises : {image : ImageData} {t k : ℕ} {past : List Visit} {b : Book} {a : Access} {v : ℕ} {changes : List Change} → (m n page : ℕ) → (region b m).holder ≡ Current t → first_shadow_page ≤ page → page < first_kernel_page → Free t b → a ≡ access.Look page → changes ≡ Raised n ∷ [] → Owed image t k past b a v changes
+pub raises : {image : ImageData} {t k : ℕ} {past : List Visit} {b : Book} {a : Access} {v : ℕ} {changes : List Change} → (m n page : ℕ) → (region b m).holder ≡ Current t → first_shadow_page ≤ page →
+    page < first_kernel_page → Free t b → a ≡ access.Look page → changes ≡ Raised n ∷ [] → Owed image t k past b a v changes
 raises {image = image} {t = t} {b = b} {v = v} {changes = changes} m n page current low high free e ev = record {
   fits = λ words is h ssp held stands note. of_class class.Raise (Raised n ∷ []) ev refl (ap (λ c. class_at c ssp held v) e ∙ is_look page ssp v held low high (none_held b held free note));
   counts = λ words is h. no_count_by (leaves_by e refl refl) (ap birth ev);

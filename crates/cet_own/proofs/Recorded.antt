@@ -66,7 +66,8 @@ pub record Recorded (job : JobData) (b : Book) (threads : List Thread) : Type 0 
 
 -- ---- an access draws what its changes say
 
-pub row_more : (job : JobData) (core : Core) (a : Access) (own : ℕ → List Change) (v : ℕ) → Waits job core → row_played job core.arch core.vals ≡ Wants a own → drawn (row_trail job core.arch (vals_after core.vals a v)) ≡ draws (own v) (drawn (trail_of job core))
+pub row_more : (job : JobData) (core : Core) (a : Access) (own : ℕ → List Change) (v : ℕ) → Waits job core → row_played job core.arch core.vals ≡ Wants a own →
+    drawn (row_trail job core.arch (vals_after core.vals a v)) ≡ draws (own v) (drawn (trail_of job core))
 row_more job core a own v h w = let r = row_grown job core a own v h w in ap drawn r.1
 
 -- ---- what a thread tells after its access
@@ -80,7 +81,8 @@ told_more : (trace : List Record) (r : Record) → told_in (trace ++ r ∷ []) �
 told_more trace r =
     flat_map-append (λ (x : Record). told x x.what) trace (r ∷ []) ∙ ap (λ (l : List Span). told_in trace ++ l) (append-nil (told r r.what))
 
-onward_came : (job : JobData) (thread : Thread) (held : Option ℕ) (seen : ValsData) (d : Drawn) (child : Option Core) (c : Played Finish) → drawn (row_trail job thread.core.arch seen) ≡ d → CameTells EndTells d c → Onward job d thread (thread_after thread (left_by job thread.core.arch held seen c child))
+onward_came : (job : JobData) (thread : Thread) (held : Option ℕ) (seen : ValsData) (d : Drawn) (child : Option Core) (c : Played Finish) → drawn (row_trail job thread.core.arch seen) ≡ d →
+    CameTells EndTells d c → Onward job d thread (thread_after thread (left_by job thread.core.arch held seen c child))
 onward_came job thread held seen d child (Wants a changes) e o = goes_on refl e
 onward_came job thread held seen d child (Faulted f) e o = ends [] (told_more thread.trace _) refl (tells_nothing refl o)
 onward_came job thread held seen d child (Completed (Noted next r) left values) e o = ends (told r r.what) (told_more thread.trace r) refl o.stack
@@ -88,7 +90,8 @@ onward_came job thread held seen d child (Completed (Posted next) left values) e
 onward_came job thread held seen d child (Completed (Exited next r status) left values) e o = ends (told r r.what) (told_more thread.trace r) refl o.stack
 onward_came job thread held seen d child (Completed Stopped left values) e o = ends [] (sym (append-nil (told_in thread.trace))) refl (tells_nothing refl o)
 
-onward : (job : JobData) (thread : Thread) (a : Access) (own : ℕ → List Change) (v : ℕ) → Waits job thread.core → row_played job thread.core.arch thread.core.vals ≡ Wants a own → Onward job (draws (next_changes job thread.core v) (row_drawn job thread)) thread (thread_after thread (taken job thread.core v))
+onward : (job : JobData) (thread : Thread) (a : Access) (own : ℕ → List Change) (v : ℕ) → Waits job thread.core → row_played job thread.core.arch thread.core.vals ≡ Wants a own →
+    Onward job (draws (next_changes job thread.core v) (row_drawn job thread)) thread (thread_after thread (taken job thread.core v))
 unfolding taken
 onward job thread a own v h w =
     let core = thread.core in
@@ -164,7 +167,8 @@ part_most f (y ∷ xs) (suc t) x e =
     omega arith
 
 -- a thread that was just born has told of nothing, and drawn nothing
-born_sum : (f : Thread → ℕ) (threads : List Thread) (arch : Arch) (o : Option (ℕ × ℕ)) → ((child start : ℕ) → f (record { core = child_core arch child start; trace = [] }) ≡ 0) → sum_by f (with_child threads (born arch o)) ≡ sum_by f threads
+born_sum : (f : Thread → ℕ) (threads : List Thread) (arch : Arch) (o : Option (ℕ × ℕ)) → ((child start : ℕ) → f (record { core = child_core arch child start; trace = [] }) ≡ 0) →
+    sum_by f (with_child threads (born arch o)) ≡ sum_by f threads
 born_sum f threads arch None none = refl
 born_sum f threads arch (Some b) none =
     let x : Thread = record { core = child_core arch b.0 b.1; trace = [] } in
@@ -252,7 +256,9 @@ module _ (job : JobData) (m : Machine) (t : ℕ) (b next : Book) (thread : Threa
 -- ---- a turn
 
 module _ (job : JobData) (m : Machine) (t : ℕ) (b next : Book) (book : IsBook b) (h : Recorded job b m.threads) where
-  recorded_access : (thread : Thread) → slice_get m.threads t ≡ Some thread → Waits job thread.core → (a : Access) (own : ℕ → List Change) → row_played job thread.core.arch thread.core.vals ≡ Wants a own → books_after t b (next_changes job thread.core (answer m.words a)) ≡ Some next → Recorded job next (accessed job m t thread a).threads
+  recorded_access : (thread : Thread) → slice_get m.threads t ≡ Some thread → Waits job thread.core → (a : Access) (own : ℕ → List Change) →
+      row_played job thread.core.arch thread.core.vals ≡ Wants a own → books_after t b (next_changes job thread.core (answer m.words a)) ≡ Some next →
+      Recorded job next (accessed job m t thread a).threads
   recorded_access thread found waits a own w is =
       let v = answer m.words a in
       let changes = next_changes job thread.core v in
@@ -260,7 +266,8 @@ module _ (job : JobData) (m : Machine) (t : ℕ) (b next : Book) (book : IsBook 
       subst (λ c. Recorded job next (with_child (slice_set m.threads t moved) c)) (sym (child_taken job thread.core v a own w))
       (recorded_after job m t b next thread book h found changes moved thread.core.arch (birth changes) is (onward job thread a own v waits w))
 
-  recorded_core : (thread : Thread) (over : Option End) → slice_get m.threads t ≡ Some thread → thread.core.over ≡ over → CoreAt job thread.core over → books_after t b (access_changes job m thread (next_access job thread.core)) ≡ Some next → Recorded job next (act job m t thread (next_access job thread.core)).threads
+  recorded_core : (thread : Thread) (over : Option End) → slice_get m.threads t ≡ Some thread → thread.core.over ≡ over → CoreAt job thread.core over →
+      books_after t b (access_changes job m thread (next_access job thread.core)) ≡ Some next → Recorded job next (act job m t thread (next_access job thread.core)).threads
   unfolding next_access
   recorded_core thread (Some e) found over waits is =
       let none : next_access job thread.core ≡ None = ap (access_of job thread.core) over in
@@ -272,7 +279,8 @@ module _ (job : JobData) (m : Machine) (t : ℕ) (b next : Book) (book : IsBook 
       subst (λ o. Recorded job next (act job m t thread o).threads) (sym some)
       (recorded_access thread found waits w.0 w.1 w.2 (subst (λ o. books_after t b (access_changes job m thread o) ≡ Some next) some is))
 
-  recorded_by : (o : Option Thread) → slice_get m.threads t ≡ o → ((thread : Thread) → slice_get m.threads t ≡ Some thread → IsCore job thread.core) → books_after t b (thread_changes job m o) ≡ Some next → Recorded job next (step_by job m t o).threads
+  recorded_by : (o : Option Thread) → slice_get m.threads t ≡ o → ((thread : Thread) → slice_get m.threads t ≡ Some thread → IsCore job thread.core) →
+      books_after t b (thread_changes job m o) ≡ Some next → Recorded job next (step_by job m t o).threads
   recorded_by None found waits is = subst (λ n. Recorded job n m.threads) (same_book t b next [] refl is) h
   recorded_by (Some thread) found waits is = recorded_core thread thread.core.over found refl (waits thread found) is
 

@@ -87,7 +87,9 @@ module _ {t m s : ℕ} {es : List Entry} {b : Book} (l : Linked t m s es b) (roo
         ending = ending_out words (slot (top (region b s) - 8)) (top (region b s) + 1) (omega arith) h.ending;
       }
 
-pub releases : {image : ImageData} {t k : ℕ} {past : List Visit} {b : Book} {a : Access} {v : ℕ} {changes : List Change} → (m s : ℕ) (es : List Entry) → (region b m).holder ≡ Current t → (region b m).entries ≡ Previous s ∷ es → (region b s).start + 8 ≤ top (region b s) → Free t b → a ≡ access.Store (slot (top (region b s) - 8)) (top (region b s) + 1) → changes ≡ Released ∷ [] → Owed image t k past b a v changes
+pub releases : {image : ImageData} {t k : ℕ} {past : List Visit} {b : Book} {a : Access} {v : ℕ} {changes : List Change} → (m s : ℕ) (es : List Entry) → (region b m).holder ≡ Current t →
+    (region b m).entries ≡ Previous s ∷ es → (region b s).start + 8 ≤ top (region b s) → Free t b → a ≡ access.Store (slot (top (region b s) - 8)) (top (region b s) + 1) → changes ≡ Released ∷ [] →
+    Owed image t k past b a v changes
 releases {image = image} {t = t} {b = b} {a = a} {v = v} m s es current list room free e ev =
     changed Released (unlink m s es Parked b) ev tt
     (λ words is h ssp held stands note.

@@ -1,5 +1,6 @@
 -- What a thread claims of RET: where it completes, it goes where the newest entry lets it. Source: own.
-use Rattle.std.proofs.Common.{◌≡◌, ℕ, ◌+◌, ◌-◌, ◌/◌, ◌^◌, ◌<◌, ◌≤◌, ◌⊎◌, inl, inr, Bool, true, false, ◌&&◌, List, [], ◌∷◌, length, Option, Some, None, refl, sym, ◌∙◌, ap, subst, arith, get_or}
+use Rattle.std.proofs.Common.{◌≡◌, ℕ, ◌+◌, ◌-◌, ◌/◌, ◌^◌, ◌<◌, ◌≤◌, ◌⊎◌, inl, inr, Bool, true, false, ◌&&◌, List, [], ◌∷◌}
+use Rattle.std.proofs.Common.{length, Option, Some, None, refl, sym, ◌∙◌, ap, subst, arith, get_or}
 use Rattle.std.specs.Prelude.{◌==◌, if◌then◌else◌}
 use Rattle.std.proofs.lemmas.Bool.{eqb-true, false≢true}
 use Rattle.std.proofs.lemmas.Bool.Decides.{nat_tests}
@@ -64,7 +65,8 @@ pub record Returning (job : JobData) (m : ℕ) (b : Book) (l : List Entry) (v : 
   pub next : Book
   pub is : book_returned m l b ≡ Some next
 
-returning : (job : JobData) (m : ℕ) (b : Book) (f : ℕ → ℕ) (a v : ℕ) (l : List Entry) → IsJob job → a < shadow_end → 1 ≤ length l → ((s : ℕ) (es : List Entry) → l ≡ Previous s ∷ es → image_end ≤ f s) → HeadWord f a l v → canonical v ≡ true → Returning job m b l v
+returning : (job : JobData) (m : ℕ) (b : Book) (f : ℕ → ℕ) (a v : ℕ) (l : List Entry) → IsJob job → a < shadow_end → 1 ≤ length l →
+    ((s : ℕ) (es : List Entry) → l ≡ Previous s ∷ es → image_end ≤ f s) → HeadWord f a l v → canonical v ≡ true → Returning job m b l v
 returning job m b f a v [] j la some p w c = absurd (omega arith)
 returning job m b f a v (Call x ∷ es) j la some p w c = record { goes = w; next = relist m es b; is = refl }
 returning job m b f a v (Restorer x ∷ es) j la some p w c = record { goes = w; next = relist m es b; is = refl }
@@ -87,7 +89,12 @@ left_top t m s es b o e =
 -- ---- the shadow load, and what follows it
 
 module _ (job : JobData) (j : IsJob job) (arch : Arch) where
-  loaded : (past : List Visit) (now : State) (bytes w word v : ℕ) → Known job.image arch.number past now.book (access.Load w) v → w ≡ slot arch.ssp → Resting arch.number untouched (progress past) now.book arch.ssp → 1 ≤ length (entries_of arch.number now.book) → (c d : Bool) → (word == v) ≡ c → canonical word ≡ d → Owed job.image arch.number (own_stack job arch.number) past now.book (access.Load w) v (if c && d then Returned ∷ [] else []) × (next : State) × (state_after arch.number now (if c && d then Returned ∷ [] else []) ≡ Some next) × Claim job arch (EndsRow job arch) (visit (access.Load w) v (if c && d then Returned ∷ [] else []) ∷ past) now next (if c then (if d then done (returned arch bytes word) else fault general_protection) else fault (return_differs word v))
+  loaded : (past : List Visit) (now : State) (bytes w word v : ℕ) → Known job.image arch.number past now.book (access.Load w) v → w ≡ slot arch.ssp →
+      Resting arch.number untouched (progress past) now.book arch.ssp → 1 ≤ length (entries_of arch.number now.book) → (c d : Bool) → (word == v) ≡ c → canonical word ≡ d →
+      Owed job.image arch.number (own_stack job arch.number) past now.book (access.Load w) v (if c && d then Returned ∷ [] else []) × (next : State) ×
+      (state_after arch.number now (if c && d then Returned ∷ [] else []) ≡ Some next) × Claim job arch (EndsRow job arch)
+      (visit (access.Load w) v (if c && d then Returned ∷ [] else []) ∷ past) now next (if c then (if d then done (returned arch bytes word) else fault general_protection) else fault
+      (return_differs word v))
   loaded past now bytes w word v known ws rest some false d e f = (free_loads w refl rest.free refl, now, refl, (rested rest, λ r. refl, λ z k. absurd (omega arith)))
   loaded past now bytes w word v known ws rest some true false e f = (free_loads w refl rest.free refl, now, refl, (rested rest, λ r. tt, tt))
   loaded past now bytes w word v known ws rest some true true e f =
@@ -114,7 +121,9 @@ module _ (job : JobData) (j : IsJob job) (arch : Arch) where
         ),
       )
 
-  load_claim : (past : List Visit) (before s : State) (bytes w word : ℕ) → w ≡ slot arch.ssp → Resting arch.number untouched (progress past) s.book arch.ssp → 1 ≤ length (entries_of arch.number s.book) → Claim job arch (EndsRow job arch) past before s (load_as (returned_if word) w >>= (λ v. if word == v then (if canonical word then done (returned arch bytes word) else fault general_protection) else fault (return_differs word v)))
+  load_claim : (past : List Visit) (before s : State) (bytes w word : ℕ) → w ≡ slot arch.ssp → Resting arch.number untouched (progress past) s.book arch.ssp →
+      1 ≤ length (entries_of arch.number s.book) → Claim job arch (EndsRow job arch) past before s (load_as (returned_if word) w >>=
+      (λ v. if word == v then (if canonical word then done (returned arch bytes word) else fault general_protection) else fault (return_differs word v)))
   unfolding load_as
   load_claim past before s bytes w word ws rest some =
       claim_bind job arch (EndsRow job arch) past before s (load_as (returned_if word) w) _ (
@@ -138,4 +147,5 @@ module _ (job : JobData) (j : IsJob job) (arch : Arch) where
       let some = entry_at now2.book (current_of arch.number now2.book) i known2.sound.book.shape rest2.stacked.top.has (subst (In (region now2.book i)) at inn) in
       load_then job arch (EndsRow job arch) _ now2 now2 (word_in page (rsp arch)) _ rest2 (λ now3 r3 word.
       let same = own_kept arch.number now2.book now3.book r3 rest2.stacked.top.has in
-      load_claim _ now3 now3 bytes (word_in (first_shadow_page + (arch.ssp - shadow_start) / 4096) arch.ssp) word (shadow_slot arch.ssp (omega arith) (omega arith)) (rest_kept r3 rest2) (subst (λ (r : Region). 1 ≤ length r.entries) (sym same) some)))))
+      load_claim _ now3 now3 bytes (word_in (first_shadow_page + (arch.ssp - shadow_start) / 4096) arch.ssp) word (shadow_slot arch.ssp (omega arith) (omega arith)) (rest_kept r3 rest2)
+      (subst (λ (r : Region). 1 ≤ length r.entries) (sym same) some)))))

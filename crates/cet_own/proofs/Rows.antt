@@ -58,7 +58,9 @@ use Rattle.cet_own.proofs.Resting.{Resting, rest_kept, rest_stacked, rested, row
 -- ---- where instructions lie
 
 -- the bytes that can be fetched are code
-fetched_at : (job : JobData) (addr most n : ℕ) (o : Option ℕ) → IsJob job → code_byte job.image.segments addr ≡ o → n < length (joined o (fetchable job.image.segments (addr + 1) most)) → (n < length (fetchable job.image.segments (addr + 1) most) → (image_start ≤ addr + 1 + n) × (addr + 1 + n < image_end)) → ((m : ℕ) → n ≡ suc m → m < length (fetchable job.image.segments (addr + 1) most) → (image_start ≤ addr + 1 + m) × (addr + 1 + m < image_end)) → (image_start ≤ addr + n) × (addr + n < image_end)
+fetched_at : (job : JobData) (addr most n : ℕ) (o : Option ℕ) → IsJob job → code_byte job.image.segments addr ≡ o → n < length (joined o (fetchable job.image.segments (addr + 1) most)) →
+    (n < length (fetchable job.image.segments (addr + 1) most) → (image_start ≤ addr + 1 + n) × (addr + 1 + n < image_end)) →
+    ((m : ℕ) → n ≡ suc m → m < length (fetchable job.image.segments (addr + 1) most) → (image_start ≤ addr + 1 + m) × (addr + 1 + m < image_end)) → (image_start ≤ addr + n) × (addr + n < image_end)
 fetched_at job addr most n None j e l rest more = absurd (omega arith)
 fetched_at job addr most zero (Some b) j e l rest more = let p = code_place job.image.segments addr b j.image.each e in let lo = p.0 in let hi = p.1 in (omega arith, omega arith)
 fetched_at job addr most (suc m) (Some b) j e l rest more = let p = more m refl (omega arith) in let lo = p.0 in let hi = p.1 in (omega arith, omega arith)
@@ -131,7 +133,8 @@ module _ (job : JobData) (j : IsJob job) (arch : Arch) where
       (λ _. failed_claim job arch below_eight {drawing = false} {numbering = false} past before s errno.NoSys free within)))))
 
   -- the kernel's entry round a piece of work
-  entered_claim : (past : List Visit) (before s : State) (work : Work) → Resting arch.number untouched (progress past) s.book arch.ssp → ((p : List Visit) (z n : State) → Within p n → Claim job arch Leaves p z n work) → Claim job arch (Ends job arch) past before s (entered job arch work)
+  entered_claim : (past : List Visit) (before s : State) (work : Work) → Resting arch.number untouched (progress past) s.book arch.ssp →
+      ((p : List Visit) (z n : State) → Within p n → Claim job arch Leaves p z n work) → Claim job arch (Ends job arch) past before s (entered job arch work)
   unfolding entered
   entered_claim past before s work rest h =
       gate_in_then job arch (stack_below job arch.number j) (Ends job arch) past before s (inside arch (own_stack job arch.number) work) rest
@@ -143,7 +146,8 @@ module _ (job : JobData) (j : IsJob job) (arch : Arch) where
   noted_claim : (past : List Visit) (before s : State) (m : Row) → Claim job arch (EndsRow job arch) past before s m → Claim job arch (Ends job arch) past before s (m >>= noted)
   noted_claim past before s m h = claim_bind job arch (Ends job arch) past before s m noted h
 
-  flow_claim : (past : List Visit) (before s : State) (i : Instr) (len : ℕ) → Resting arch.number untouched (progress past) s.book arch.ssp → decoded (instruction_bytes job arch) ≡ Read i len → Claim job arch (EndsRow job arch) past before s (flow arch i (add64 arch.rip len))
+  flow_claim : (past : List Visit) (before s : State) (i : Instr) (len : ℕ) → Resting arch.number untouched (progress past) s.book arch.ssp → decoded (instruction_bytes job arch) ≡ Read i len →
+      Claim job arch (EndsRow job arch) past before s (flow arch i (add64 arch.rip len))
   flow_claim past before s (instr.CallRel disp) len rest e =
       call_relative_claim job arch past before s disp (add64 arch.rip len) rest (next_place job arch (instr.CallRel disp) len j e) (elsewhere _ e (λ x. cc))
   flow_claim past before s (instr.CallInd target notrack) len rest e =
@@ -158,7 +162,8 @@ module _ (job : JobData) (j : IsJob job) (arch : Arch) where
   flow_claim past before s (instr.Jcc c disp) len rest e = (rested rest, λ held now. elsewhere _ e (λ x. cc), tt)
   flow_claim past before s i len rest e = no_return s _ rest e (λ x. cc)
 
-  family_claim : (past : List Visit) (before s : State) (i : Instr) (len : ℕ) (p : Family) → family_of i ≡ p → IsMade arch.made → Resting arch.number untouched (progress past) s.book arch.ssp → decoded (instruction_bytes job arch) ≡ Read i len → Claim job arch (Ends job arch) past before s (execute_family job arch i (add64 arch.rip len) p)
+  family_claim : (past : List Visit) (before s : State) (i : Instr) (len : ℕ) (p : Family) → family_of i ≡ p → IsMade arch.made → Resting arch.number untouched (progress past) s.book arch.ssp →
+      decoded (instruction_bytes job arch) ≡ Read i len → Claim job arch (Ends job arch) past before s (execute_family job arch i (add64 arch.rip len) p)
   family_claim past before s i len families.Arithmetic f made rest e =
       noted_claim past before s _ (arithmetic_claim job arch (elsewhere _ e (λ r. let t = returns_flow i r in cc)) past before s i (add64 arch.rip len) rest)
   family_claim past before s i len families.Flow f made rest e = noted_claim past before s _ (flow_claim past before s i len rest e)
@@ -172,7 +177,8 @@ module _ (job : JobData) (j : IsJob job) (arch : Arch) where
   missing_claim past before s None addr rest = (rested rest, λ r. tt, tt)
   missing_claim past before s (Some page) addr rest = ((rest_stacked rest), λ now r v known. (looks page refl refl, now, refl, (rested (rest_kept r rest), λ q. tt, tt)))
 
-  fetched_claim : (past : List Visit) (before s : State) (d : Decoding) → IsMade arch.made → Resting arch.number untouched (progress past) s.book arch.ssp → decoded (instruction_bytes job arch) ≡ d → Claim job arch (Ends job arch) past before s (fetched job arch (instruction_bytes job arch) d)
+  fetched_claim : (past : List Visit) (before s : State) (d : Decoding) → IsMade arch.made → Resting arch.number untouched (progress past) s.book arch.ssp → decoded (instruction_bytes job arch) ≡ d →
+      Claim job arch (Ends job arch) past before s (fetched job arch (instruction_bytes job arch) d)
   unfolding missing
   fetched_claim past before s (Read i len) made rest e = family_claim past before s i len (family_of i) refl made rest e
   fetched_claim past before s Short made rest e = missing_claim past before s (page_at (arch.rip + length (instruction_bytes job arch))) (arch.rip + length (instruction_bytes job arch)) rest
@@ -185,7 +191,8 @@ module _ (job : JobData) (j : IsJob job) (arch : Arch) where
       (λ _. fetched_claim past before s (decoded (instruction_bytes job arch)) made rest refl) (λ _. (rested rest, λ r. tt, tt))
 
   -- the delivery of a pending signal, or the instruction
-  after_claim : (past : List Visit) (before s : State) (o : Option ℕ) → IsState arch → ((signal : ℕ) → o ≡ Some signal → (1 ≤ signal) × (signal < 32)) → Resting arch.number untouched (progress past) s.book arch.ssp → Claim job arch (Ends job arch) past before s (after_signals job arch o)
+  after_claim : (past : List Visit) (before s : State) (o : Option ℕ) → IsState arch → ((signal : ℕ) → o ≡ Some signal → (1 ≤ signal) × (signal < 32)) →
+      Resting arch.number untouched (progress past) s.book arch.ssp → Claim job arch (Ends job arch) past before s (after_signals job arch o)
   after_claim past before s None is few rest = instruction_claim past before s is.made rest
   after_claim past before s (Some signal) is few rest =
       entered_claim past before s (pending_delivery arch signal) rest (λ p z n within. pending_delivery_claim job j arch below_eight p z n signal is.number (few signal refl) within)

@@ -24,7 +24,8 @@ use Rattle.cet_own.proofs.Threads.{CoreStands, ThreadStands}
 use Rattle.cet_own.proofs.Turns.{Invariant, safe_at, Turned, TurnedBy, stays, acts, ReadsBelow}
 
 -- a thread's turn, by its end
-turned_core : (job : JobData) (j : IsJob job) (m : Machine) (t : ℕ) (s : State) (thread : Thread) (over : Option End) → Invariant job m s → slice_get m.threads t ≡ Some thread → ThreadStands job t s (Some thread) → thread.core.over ≡ over → CoreStands job t s thread.core over → TurnedBy job m t s thread (next_access job thread.core)
+turned_core : (job : JobData) (j : IsJob job) (m : Machine) (t : ℕ) (s : State) (thread : Thread) (over : Option End) → Invariant job m s → slice_get m.threads t ≡ Some thread →
+    ThreadStands job t s (Some thread) → thread.core.over ≡ over → CoreStands job t s thread.core over → TurnedBy job m t s thread (next_access job thread.core)
 unfolding next_access
 turned_core job j m t s thread (Some e) st found at is h = subst (TurnedBy job m t s thread) (sym (ap (access_of job thread.core) is)) (stays job m t s thread st)
 turned_core job j m t s thread None st found at is h =
@@ -83,7 +84,8 @@ turn job j m t s st =
     record { next = d.next; is = d.is; stands = d.stands; returns = d.returns; restores = d.restores; gates = d.gates }
 
 -- what the invariant tells at each moment, and each turn of itself, holds along a run
-pub along_from : (At : Machine → Book → Type 0) (Turn : Machine → (before after : Book) → ℕ → Type 0) (job : JobData) (j : IsJob job) → ((m : Machine) (s : State) → Invariant job m s → At m s.book) → ((m : Machine) (t : ℕ) (s : State) → (d : Goes job m t s) → Turn m s.book d.next.book t) → (turns : List ℕ) (m : Machine) (s : State) → Invariant job m s → Along At Turn job m s.book turns
+pub along_from : (At : Machine → Book → Type 0) (Turn : Machine → (before after : Book) → ℕ → Type 0) (job : JobData) (j : IsJob job) → ((m : Machine) (s : State) → Invariant job m s → At m s.book) →
+    ((m : Machine) (t : ℕ) (s : State) → (d : Goes job m t s) → Turn m s.book d.next.book t) → (turns : List ℕ) (m : Machine) (s : State) → Invariant job m s → Along At Turn job m s.book turns
 along_from At Turn job j at by [] m s st = at m s st
 along_from At Turn job j at by (t ∷ ts) m s st =
     let d = turn job j m t s st in

@@ -113,7 +113,9 @@ module _ {t s : ℕ} {b : Book} (m : Made t s b) (n p : ℕ) (room : (region b s
         ending = ending_out words (slot p) (p + 9) (omega arith) h.ending;
       }
 
-pub seeds_region : {image : ImageData} {t k : ℕ} {past : List Visit} {b : Book} {a : Access} {v : ℕ} {changes : List Change} → (s n p start : ℕ) → (region b s).holder ≡ Maker t → (region b s).start ≡ start → start + 8 * n + 8 ≤ (region b s).end → p + 8 + 8 * n ≡ (region b s).end → stack_of b k ≡ Some t → a ≡ access.Store (slot p) (p + 9) → changes ≡ Seeded start n ∷ [] → Owed image t k past b a v changes
+pub seeds_region : {image : ImageData} {t k : ℕ} {past : List Visit} {b : Book} {a : Access} {v : ℕ} {changes : List Change} → (s n p start : ℕ) → (region b s).holder ≡ Maker t →
+    (region b s).start ≡ start → start + 8 * n + 8 ≤ (region b s).end → p + 8 + 8 * n ≡ (region b s).end → stack_of b k ≡ Some t → a ≡ access.Store (slot p) (p + 9) → changes ≡ Seeded start n ∷ [] →
+    Owed image t k past b a v changes
 seeds_region {image = image} {t = t} {k = k} {b = b} {v = v} s n p start maker first room at inside e ev =
     changed (Seeded start n) (hand s (replicate n Blank) Parked b) ev tt
     (λ words is h ssp held stands note. of_class class.Seed (Seeded start n ∷ []) ev refl

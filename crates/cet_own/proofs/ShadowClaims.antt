@@ -85,7 +85,8 @@ module _ (job : JobData) (arch : Arch) (free : IsElsewhere job arch) where
   -- ---- RSTORSSP
 
   -- the region is the thread's from the exchange on
-  found_after : {d : Progress} (later : State) (p q : ℕ) → IsParkedAt p (region later.book q) → Owned arch.number (current_of arch.number later.book) later.book → Resting arch.number untouched d later.book arch.ssp → (after : State) × (state_after arch.number later (Acquired p ∷ []) ≡ Some after) × AtRest arch.number after.book p
+  found_after : {d : Progress} (later : State) (p q : ℕ) → IsParkedAt p (region later.book q) → Owned arch.number (current_of arch.number later.book) later.book →
+      Resting arch.number untouched d later.book arch.ssp → (after : State) × (state_after arch.number later (Acquired p ∷ []) ≡ Some after) × AtRest arch.number after.book p
   found_after later p q there o rest =
       let k : Takes arch.number (current_of arch.number later.book) q later.book = record { owned = o; parked = there.parked } in
       let shape = acquire_shape k in (
@@ -113,7 +114,8 @@ module _ (job : JobData) (arch : Arch) (free : IsElsewhere job arch) where
             let up : add64 p 8 ≡ p + 8 = omega arith in
             let token : restore_token_at p ≡ p + 9 = ap restore_token up ∙ restore_token_is (p + 8) (omega arith) ∙ omega arith in
             let value : previous_token arch.ssp ≡ top (region later.book (current_of arch.number later.book)) + 3 = previous_token_is arch.ssp aligned ∙ ap (λ n. n + 3) at in
-            let is : access.CompareExchange (word_in (first_shadow_page + (p - shadow_start) / 4096) p) (restore_token_at p) (previous_token arch.ssp) ≡ access.CompareExchange (slot p) (p + 9) (top (region later.book (current_of arch.number later.book)) + 3)
+            let is : access.CompareExchange (word_in (first_shadow_page + (p - shadow_start) / 4096) p) (restore_token_at p) (previous_token arch.ssp) ≡ access.CompareExchange (slot p) (p + 9)
+            (top (region later.book (current_of arch.number later.book)) + 3)
             = ap (λ n. access.CompareExchange n (restore_token_at p) (previous_token arch.ssp)) word ∙ ap (λ n. access.CompareExchange (slot p) n (previous_token arch.ssp)) token ∙ ap (access.CompareExchange (slot p) (p + 9)) value in
             elim (eqb_tells found (restore_token_at p)) [
               | inl e ↦
@@ -124,14 +126,25 @@ module _ (job : JobData) (arch : Arch) (free : IsElsewhere job arch) where
                     (let f = found_after later p there.0 there.1 o rest2 in f.1),
                     (let f = found_after later p there.0 there.1 o rest2 in (f.2, λ held now'. free, (there.0, there.1.parked, there.1.top_is))),
                   )
-              | inr e ↦ rw e.0 (misses (word_in (first_shadow_page + (p - shadow_start) / 4096) p) (restore_token_at p) (previous_token arch.ssp) refl (omega arith) (omega arith) e.1 rest2.free refl, later, refl, (rested rest2, λ at'. absurd (free at'), λ z k. e.1 (known'.stands p k.0 (p + 9) (top (region later.book (current_of arch.number later.book)) + 3) (record { parked = k.1; top_is = k.2 }) is ∙ sym token)))
+              | inr e ↦ rw e.0 (
+                misses (word_in (first_shadow_page + (p - shadow_start) / 4096) p) (restore_token_at p) (previous_token arch.ssp) refl (omega arith) (omega arith) e.1 rest2.free refl,
+                later,
+                refl,
+                (
+                  rested rest2,
+                  λ at'. absurd (free at'),
+                  λ z k. e.1 (known'.stands p k.0 (p + 9) (top (region later.book (current_of arch.number later.book)) + 3)
+                      (record { parked = k.1; top_is = k.2 }) is ∙ sym token),
+                ),
+              )
             ],
       )))
 
   -- ---- SAVEPREVSSP
 
   -- the store, where the word leads to a region that was left
-  save_claim : (past : List Visit) (before s : State) (word next q : ℕ) (es : List Entry) → Linked arch.number (current_of arch.number s.book) q es s.book → word ≡ top (region s.book q) + 3 → Resting arch.number untouched (progress past) s.book arch.ssp → Claim job arch (EndsRow job arch) past before s (save arch (previous_ssp word) next)
+  save_claim : (past : List Visit) (before s : State) (word next q : ℕ) (es : List Entry) → Linked arch.number (current_of arch.number s.book) q es s.book → word ≡ top (region s.book q) + 3 →
+      Resting arch.number untouched (progress past) s.book arch.ssp → Claim job arch (EndsRow job arch) past before s (save arch (previous_ssp word) next)
   unfolding save store_as
   save_claim past before s word next q es l is rest =
       let even = top_even s.book q l.owned.shape in
@@ -161,7 +174,8 @@ module _ (job : JobData) (arch : Arch) (free : IsElsewhere job arch) where
             let here = top_is k'.0.owned rest2.stacked.top in
             let up : add64 arch.ssp 8 ≡ top (region later.book (current_of arch.number s.book)) + 8 = above_is arch.ssp rest2.stacked.high ∙ ap (λ n. n + 8) here in
             let top' = subst (AtTop arch.number (unlink (current_of arch.number s.book) q es Parked later.book)) (sym up) (released_top k'.0 shape') in
-            let word_is : word_in (first_shadow_page + (saved_at (previous_ssp word) - shadow_start) / 4096) (saved_at (previous_ssp word)) ≡ slot (top (region later.book q) - 8) = shadow_slot (saved_at (previous_ssp word)) low high ∙ ap slot target2 in (
+            let word_is : word_in (first_shadow_page + (saved_at (previous_ssp word) - shadow_start) / 4096) (saved_at (previous_ssp word)) ≡ slot (top (region later.book q) - 8) =
+            shadow_slot (saved_at (previous_ssp word)) low high ∙ ap slot target2 in (
               releases (current_of arch.number s.book) q es k'.0.owned.current k'.0.entries room2 rest2.free
                   (ap (λ n. access.Store n (restore_token (previous_ssp word))) word_is ∙ ap (access.Store (slot (top (region later.book q) - 8))) token2) refl,
               record later { book = unlink (current_of arch.number s.book) q es Parked later.book },
@@ -175,18 +189,21 @@ module _ (job : JobData) (arch : Arch) (free : IsElsewhere job arch) where
       ))
 
   -- the look fails where the word is a call's
-  code_claim : (past : List Visit) (before s : State) (word next : ℕ) → image_start ≤ word → word ≤ image_end → Resting arch.number untouched (progress past) s.book arch.ssp → Claim job arch (EndsRow job arch) past before s (save arch (previous_ssp word) next)
+  code_claim : (past : List Visit) (before s : State) (word next : ℕ) → image_start ≤ word → word ≤ image_end → Resting arch.number untouched (progress past) s.book arch.ssp →
+      Claim job arch (EndsRow job arch) past before s (save arch (previous_ssp word) next)
   unfolding save
   code_claim past before s word next lo hi rest =
       let target : saved_at (previous_ssp word) < shadow_start = omega arith in
       shadow_store_look_then job arch (EndsRow job arch) past before s (saved_at (previous_ssp word)) _ rest (λ now r v low high known i inn. absurd (omega arith))
 
-  led_claim : (past : List Visit) (before s : State) (word next : ℕ) → Leads arch.number (current_of arch.number s.book) word s.book → word / 2 % 2 ≡ 1 → Resting arch.number untouched (progress past) s.book arch.ssp → Claim job arch (EndsRow job arch) past before s (save arch (previous_ssp word) next)
+  led_claim : (past : List Visit) (before s : State) (word next : ℕ) → Leads arch.number (current_of arch.number s.book) word s.book → word / 2 % 2 ≡ 1 →
+      Resting arch.number untouched (progress past) s.book arch.ssp → Claim job arch (EndsRow job arch) past before s (save arch (previous_ssp word) next)
   led_claim past before s word next (nowhere_by_bit e) one rest = absurd (omega arith)
   led_claim past before s word next (to_code lo hi) one rest = code_claim past before s word next lo hi rest
   led_claim past before s word next (to_left q es l is) one rest = save_claim past before s word next q es l is rest
 
-  save_by_claim : (past : List Visit) (before s : State) (word next : ℕ) → Leads arch.number (current_of arch.number s.book) word s.book → Resting arch.number untouched (progress past) s.book arch.ssp → Claim job arch (EndsRow job arch) past before s (save_by arch word next)
+  save_by_claim : (past : List Visit) (before s : State) (word next : ℕ) → Leads arch.number (current_of arch.number s.book) word s.book →
+      Resting arch.number untouched (progress past) s.book arch.ssp → Claim job arch (EndsRow job arch) past before s (save_by arch word next)
   save_by_claim past before s word next leads rest =
       claim_cond job arch (EndsRow job arch) past before s (arch.flags % 2 == 1) _ _ (λ _. (rested rest, λ _. tt, tt))
       (λ _. claim_cond job arch (EndsRow job arch) past before s (is_previous_token word) _ _
@@ -223,7 +240,12 @@ module _ (job : JobData) (arch : Arch) (free : IsElsewhere job arch) where
   -- ---- INCSSPQ
 
   -- by whether the last look passes
-  raised_by : (past : List Visit) (now : State) (count page v next : ℕ) → count < 256 → (first_shadow_page ≤ page) × (page < first_kernel_page) → Known job.image arch.number past now.book (access.Look page) v → Resting arch.number untouched (progress past) now.book arch.ssp → (c : Bool) → (c ≡ true → count ≤ length (entries_of arch.number now.book)) → Owed job.image arch.number (own_stack job arch.number) past now.book (access.Look page) v (if c then Raised count ∷ [] else []) × (later : State) × (state_after arch.number now (if c then Raised count ∷ [] else []) ≡ Some later) × Claim job arch (λ p z n x. Claim job arch (EndsRow job arch) p z n (done (raised arch count next))) (visit (access.Look page) v (if c then Raised count ∷ [] else []) ∷ past) now later (if c then done page else fault (page_fault v kind.ShadowLoad User (add64 arch.ssp (8 * (max count 1 - 1)))))
+  raised_by : (past : List Visit) (now : State) (count page v next : ℕ) → count < 256 → (first_shadow_page ≤ page) × (page < first_kernel_page) →
+      Known job.image arch.number past now.book (access.Look page) v → Resting arch.number untouched (progress past) now.book arch.ssp → (c : Bool) →
+      (c ≡ true → count ≤ length (entries_of arch.number now.book)) → Owed job.image arch.number (own_stack job arch.number) past now.book (access.Look page) v (if c then Raised count ∷ [] else []) ×
+      (later : State) × (state_after arch.number now (if c then Raised count ∷ [] else []) ≡ Some later) ×
+      Claim job arch (λ p z n x. Claim job arch (EndsRow job arch) p z n (done (raised arch count next))) (visit (access.Look page) v (if c then Raised count ∷ [] else []) ∷ past) now later
+      (if c then done page else fault (page_fault v kind.ShadowLoad User (add64 arch.ssp (8 * (max count 1 - 1)))))
   raised_by past now count page v next few within known rest false room = (looks page refl refl, now, refl, (rested rest, λ at'. absurd (free at'), tt))
   raised_by past now count page v next few within known rest true room =
       let has = rest.stacked.top.has in

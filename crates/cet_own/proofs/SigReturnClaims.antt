@@ -92,7 +92,8 @@ module _ (job : JobData) (j : IsJob job) (arch : Arch) (l : own_stack job arch.n
   none_claim past before s within = kill_claim job j arch l past before s segv (by_signal Gp) within
 
   -- by the word at SSP
-  word_claim : (past : List Visit) (before s : State) (frame word : ℕ) (c : Bool) → is_frame_word word ≡ c → frame < first_kernel_word → (2 ^ 63 ≤ word → Pops s.book word) → Inner past s → Claim job arch (Leaves job arch l) past before s (return_by arch (if c then Some (frame, word) else None))
+  word_claim : (past : List Visit) (before s : State) (frame word : ℕ) (c : Bool) → is_frame_word word ≡ c → frame < first_kernel_word → (2 ^ 63 ≤ word → Pops s.book word) → Inner past s →
+      Claim job arch (Leaves job arch l) past before s (return_by arch (if c then Some (frame, word) else None))
   word_claim past before s frame word true e low pops within = return_claim past before s frame word low (pops (let high : nat_le (2 ^ 63) word ≡ true = e in grind (arith, nat_tests))) within
   word_claim past before s frame word false e low pops within = none_claim past before s within
 
@@ -113,6 +114,7 @@ module _ (job : JobData) (j : IsJob job) (arch : Arch) (l : own_stack job arch.n
       let at = within3.stacked.top.at in
       let head = known.head within3.stacked.top.has (ap access.Load (shadow_slot arch.ssp (omega arith) (omega arith) ∙ ap slot at)) in
       word_claim _ n2 n2 frame word (is_frame_word word) refl few (λ big.
-      let f = head_frame n2.book (top (region n2.book (current_of arch.number n2.book))) word (region n2.book (current_of arch.number n2.book)).entries known.sound.book.shape some' (known.sound.returns (current_of arch.number n2.book)) head big in
+      let f = head_frame n2.book (top (region n2.book (current_of arch.number n2.book))) word (region n2.book (current_of arch.number n2.book)).entries known.sound.book.shape some'
+      (known.sound.returns (current_of arch.number n2.book)) head big in
       record { rest = f.rest; list = f.list; value = f.value ∙ ap (λ n. 2 ^ 63 + n + 8) (sym at) }) within3))))
       (λ _. none_claim past before s within)))

@@ -13,7 +13,8 @@ use Rattle.cet_page.specs.Finish.{r10, rdi, rdx, rsi}
 use Rattle.cet_page.specs.Gate.{failed, serve}
 use Rattle.cet_page.specs.Parts.{store, store_as}
 use Rattle.cet_page.specs.Script.{Script, done, ◌>>=◌}
-use Rattle.cet_page.specs.Signals.{action_refused, allowed_flags, asked_action, asked_mask, change_action, change_mask, copy_action, copy_mask, group, has_handler, is_allowed, is_code, is_thread, last_signal, load_action, mask_refused, mask_size, new_action, new_mask, old_action, old_mask, post, rt_sigaction, rt_sigprocmask, set_action, set_handler, tgkill}
+use Rattle.cet_page.specs.Signals.{action_refused, allowed_flags, asked_action, asked_mask, change_action, change_mask, copy_action, copy_mask, group, has_handler, is_allowed, is_code, is_thread, last_signal}
+use Rattle.cet_page.specs.Signals.{load_action, mask_refused, mask_size, new_action, new_mask, old_action, old_mask, post, rt_sigaction, rt_sigprocmask, set_action, set_handler, tgkill}
 use Rattle.cet_page.specs.Structures.{Given, given_span, given_word}
 use Rattle.cet_page.specs.Trail.{Visit, visit}
 use Rattle.cet_page.specs.declared.actions.Action.{Action}
@@ -68,7 +69,8 @@ module _ (job : JobData) (j : IsJob job) (arch : Arch) (l : own_stack job arch.n
 
   -- ---- the words of an action
 
-  action_claim : (Q : List Visit → State → State → Action → Type 0) (past : List Visit) (before s : State) (word : ℕ) → word + 3 < token_word 0 - 1 → Inner past s → ((p : List Visit) (z n : State) (action : Action) → Inner p n → Q p z n action) → Claim job arch Q past before s (load_action word)
+  action_claim : (Q : List Visit → State → State → Action → Type 0) (past : List Visit) (before s : State) (word : ℕ) → word + 3 < token_word 0 - 1 → Inner past s →
+      ((p : List Visit) (z n : State) (action : Action) → Inner p n → Q p z n action) → Claim job arch Q past before s (load_action word)
   unfolding load_action
   action_claim Q past before s word low within h =
       kernel_load_then job arch Q past before s gate word _ (λ z. omega arith) within (λ n1 r1 handler within1.
@@ -77,13 +79,15 @@ module _ (job : JobData) (j : IsJob job) (arch : Arch) (l : own_stack job arch.n
       kernel_load_then job arch Q _ n3 n3 gate (word + 3) _ (λ z. omega arith) within3 (λ n4 r4 mask within4.
       h _ n4 n4 (record { handler = handler; flags = flags; restorer = restorer; mask = mask }) within4))))
 
-  asked_claim : (Q : List Visit → State → State → Option Action → Type 0) (past : List Visit) (before s : State) (o : Option ℕ) → BelowWord first_kernel_word o → Inner past s → ((p : List Visit) (z n : State) (asked : Option Action) → Inner p n → Q p z n asked) → Claim job arch Q past before s (asked_action o)
+  asked_claim : (Q : List Visit → State → State → Option Action → Type 0) (past : List Visit) (before s : State) (o : Option ℕ) → BelowWord first_kernel_word o → Inner past s →
+      ((p : List Visit) (z n : State) (asked : Option Action) → Inner p n → Q p z n asked) → Claim job arch Q past before s (asked_action o)
   unfolding asked_action
   asked_claim Q past before s None low within h = h past before s None within
   asked_claim Q past before s (Some word) low within h =
       claim_bind job arch Q past before s (load_action word) _ (action_claim _ past before s word (omega arith) within (λ p z n action within1. h p z n (Some action) within1))
 
-  copy_claim : (Q : List Visit → State → State → Unit {0} → Type 0) (past : List Visit) (before s : State) (signal : ℕ) (o : Option ℕ) → signal < 64 → BelowWord (first_shadow_word - 3) o → Inner past s → ((p : List Visit) (z n : State) → Inner p n → Q p z n tt) → Claim job arch Q past before s (copy_action signal o)
+  copy_claim : (Q : List Visit → State → State → Unit {0} → Type 0) (past : List Visit) (before s : State) (signal : ℕ) (o : Option ℕ) → signal < 64 → BelowWord (first_shadow_word - 3) o →
+      Inner past s → ((p : List Visit) (z n : State) → Inner p n → Q p z n tt) → Claim job arch Q past before s (copy_action signal o)
   unfolding copy_action
   copy_claim Q past before s signal None few low within h = h past before s within
   copy_claim Q past before s signal (Some word) few low within h =
@@ -91,14 +95,18 @@ module _ (job : JobData) (j : IsJob job) (arch : Arch) (l : own_stack job arch.n
       store_each_claim job arch l {d = untouched} Q p z n word (action.handler ∷ action.flags ∷ action.restorer ∷ action.mask ∷ []) (omega arith) within1 (λ p' z' n' r within2. h p' z' n' within2)))
 
   -- a store to a word of the signal
-  action_store : {A : Type 0} (Q : List Visit → State → State → A → Type 0) (past : List Visit) (before s : State) (word value : ℕ) (f : Unit {0} → Script A) → word < token_word 0 - 1 → ((now : State) → Owed job.image arch.number gate past now.book (access.Store word value) 0 []) → Inner past s → ((now : State) → Inner (visit (access.Store word value) 0 [] ∷ past) now → Claim job arch Q (visit (access.Store word value) 0 [] ∷ past) now now (f tt)) → Claim job arch Q past before s (store word value >>= f)
+  action_store : {A : Type 0} (Q : List Visit → State → State → A → Type 0) (past : List Visit) (before s : State) (word value : ℕ) (f : Unit {0} → Script A) → word < token_word 0 - 1 →
+      ((now : State) → Owed job.image arch.number gate past now.book (access.Store word value) 0 []) → Inner past s →
+      ((now : State) → Inner (visit (access.Store word value) 0 [] ∷ past) now → Claim job arch Q (visit (access.Store word value) 0 [] ∷ past) now now (f tt)) →
+      Claim job arch Q past before s (store word value >>= f)
   unfolding store_as
   action_store Q past before s word value f low owed within h =
       let apart : (word == token_word gate - 1) ≡ false = (let n : word ≢ token_word gate - 1 = omega arith in grind (arith, nat_tests)) in
       claim_bind job arch Q past before s (store word value) f (inside_stacked within, λ now r known. (owed now, now, refl, h now (inside_left (rw apart refl) (inside_kept r within))))
 
   -- the restorer comes first, and the handler last
-  handler_claim : (Q : List Visit → State → State → Unit {0} → Type 0) (past : List Visit) (before s : State) (signal : ℕ) (action : Action) → signal < 64 → 0 < action.restorer → IsRestorer job.image action.restorer → Inner past s → ((p : List Visit) (z n : State) → Inner p n → Q p z n tt) → Claim job arch Q past before s (set_handler signal action)
+  handler_claim : (Q : List Visit → State → State → Unit {0} → Type 0) (past : List Visit) (before s : State) (signal : ℕ) (action : Action) → signal < 64 → 0 < action.restorer →
+      IsRestorer job.image action.restorer → Inner past s → ((p : List Visit) (z n : State) → Inner p n → Q p z n tt) → Claim job arch Q past before s (set_handler signal action)
   unfolding set_handler store_as
   handler_claim Q past before s signal action few some is within h =
       action_store Q past before s (action_word signal + 2) action.restorer _ (omega arith) (λ now. sets_restorer signal action.restorer few some is refl refl) within (λ n1 within1.
@@ -119,13 +127,15 @@ module _ (job : JobData) (j : IsJob job) (arch : Arch) (l : own_stack job arch.n
       ))))
 
   -- 0 or 1
-  plain_claim : (Q : List Visit → State → State → Unit {0} → Type 0) (past : List Visit) (before s : State) (signal value : ℕ) → signal < 64 → value ≤ 1 → Inner past s → ((p : List Visit) (z n : State) → Inner p n → Q p z n tt) → Claim job arch Q past before s (store (action_word signal) value)
+  plain_claim : (Q : List Visit → State → State → Unit {0} → Type 0) (past : List Visit) (before s : State) (signal value : ℕ) → signal < 64 → value ≤ 1 → Inner past s →
+      ((p : List Visit) (z n : State) → Inner p n → Q p z n tt) → Claim job arch Q past before s (store (action_word signal) value)
   unfolding store_as
   plain_claim Q past before s signal value few low within h =
       let apart : (action_word signal == token_word gate - 1) ≡ false = (let n : action_word signal ≢ token_word gate - 1 = omega arith in grind (arith, nat_tests)) in
       (inside_stacked within, λ now r known. (sets_handler signal value few (inl low) refl refl, now, refl, h _ now now (inside_left (rw apart refl) (inside_kept r within))))
 
-  set_claim : (Q : List Visit → State → State → Unit {0} → Type 0) (past : List Visit) (before s : State) (signal : ℕ) (asked : Option Action) → signal < 64 → is_allowed job asked ≡ true → Inner past s → ((p : List Visit) (z n : State) → Inner p n → Q p z n tt) → Claim job arch Q past before s (set_action signal asked)
+  set_claim : (Q : List Visit → State → State → Unit {0} → Type 0) (past : List Visit) (before s : State) (signal : ℕ) (asked : Option Action) → signal < 64 → is_allowed job asked ≡ true →
+      Inner past s → ((p : List Visit) (z n : State) → Inner p n → Q p z n tt) → Claim job arch Q past before s (set_action signal asked)
   unfolding set_action
   set_claim Q past before s signal None few allowed within h = h past before s within
   set_claim Q past before s signal (Some action) few allowed within h =
@@ -144,7 +154,8 @@ module _ (job : JobData) (j : IsJob job) (arch : Arch) (l : own_stack job arch.n
 
   -- ---- rt_sigaction
 
-  change_claim : (past : List Visit) (before s : State) (old : Option ℕ) (asked : Option Action) → rdi arch < 64 → BelowWord (first_shadow_word - 3) old → Inner past s → Claim job arch (Leaves job arch l) past before s (change_action job arch old asked)
+  change_claim : (past : List Visit) (before s : State) (old : Option ℕ) (asked : Option Action) → rdi arch < 64 → BelowWord (first_shadow_word - 3) old → Inner past s →
+      Claim job arch (Leaves job arch l) past before s (change_action job arch old asked)
   unfolding change_action
   change_claim past before s old asked few low within =
       claim_cond job arch (Leaves job arch l) past before s (is_allowed job asked) _ _
@@ -154,7 +165,8 @@ module _ (job : JobData) (j : IsJob job) (arch : Arch) (l : own_stack job arch.n
       (set_claim _ p z n (rdi arch) asked few allowed within1 (λ p' z' n' within2. serves p' z' n' 0 within2)))))
       (λ _. fails past before s errno.Inval within)
 
-  new_claim : (past : List Visit) (before s : State) (new : Option ℕ) (old : Given) → rdi arch < 64 → BelowWord first_kernel_word new → Below (first_shadow_word - 3) old → Inner past s → Claim job arch (Leaves job arch l) past before s (new_action job arch new old)
+  new_claim : (past : List Visit) (before s : State) (new : Option ℕ) (old : Given) → rdi arch < 64 → BelowWord first_kernel_word new → Below (first_shadow_word - 3) old → Inner past s →
+      Claim job arch (Leaves job arch l) past before s (new_action job arch new old)
   unfolding new_action
   new_claim past before s new (Err error) few low low' within = fails past before s error within
   new_claim past before s new (Ok None) few low low' within =
@@ -193,26 +205,30 @@ module _ (job : JobData) (j : IsJob job) (arch : Arch) (l : own_stack job arch.n
   mask_claim : (past : List Visit) (before s : State) (mask : ℕ) → Inner past s → Leaves job arch l past before s (serve (record arch { mask = mask }) 0)
   mask_claim past before s mask within = gate_out_then job arch l (Ends job arch) past before s _ within (λ p z n rest. (rested rest, λ held now. free, tt))
 
-  asked_mask_claim : (Q : List Visit → State → State → ℕ → Type 0) (past : List Visit) (before s : State) (set : Option ℕ) → BelowWord first_kernel_word set → Inner past s → ((p : List Visit) (z n : State) (mask : ℕ) → Inner p n → Q p z n mask) → Claim job arch Q past before s (asked_mask arch set)
+  asked_mask_claim : (Q : List Visit → State → State → ℕ → Type 0) (past : List Visit) (before s : State) (set : Option ℕ) → BelowWord first_kernel_word set → Inner past s →
+      ((p : List Visit) (z n : State) (mask : ℕ) → Inner p n → Q p z n mask) → Claim job arch Q past before s (asked_mask arch set)
   unfolding asked_mask
   asked_mask_claim Q past before s None low within h = h past before s (new_mask arch None) within
   asked_mask_claim Q past before s (Some word) low within h =
       kernel_load_then job arch Q past before s gate word _ (λ z. omega arith) within (λ now r set within1. h _ now now (new_mask arch (Some set)) within1)
 
-  copy_mask_claim : (Q : List Visit → State → State → Unit {0} → Type 0) (past : List Visit) (before s : State) (old : Option ℕ) → BelowWord first_shadow_word old → Inner past s → ((p : List Visit) (z n : State) → Inner p n → Q p z n tt) → Claim job arch Q past before s (copy_mask arch old)
+  copy_mask_claim : (Q : List Visit → State → State → Unit {0} → Type 0) (past : List Visit) (before s : State) (old : Option ℕ) → BelowWord first_shadow_word old → Inner past s →
+      ((p : List Visit) (z n : State) → Inner p n → Q p z n tt) → Claim job arch Q past before s (copy_mask arch old)
   unfolding copy_mask store_as
   copy_mask_claim Q past before s None low within h = h past before s within
   copy_mask_claim Q past before s (Some word) low within h =
       let apart : (word == token_word gate - 1) ≡ false = (let n : word ≢ token_word gate - 1 = omega arith in grind (arith, nat_tests)) in
       (inside_stacked within, λ now r known. (stored word arch.mask refl (low_word word low) refl, now, refl, h _ now now (inside_left (rw apart refl) (inside_kept r within))))
 
-  changed_mask_claim : (past : List Visit) (before s : State) (set : Option ℕ) (old : Option ℕ) → BelowWord first_kernel_word set → BelowWord first_shadow_word old → Inner past s → Claim job arch (Leaves job arch l) past before s (change_mask arch set (Ok old))
+  changed_mask_claim : (past : List Visit) (before s : State) (set : Option ℕ) (old : Option ℕ) → BelowWord first_kernel_word set → BelowWord first_shadow_word old → Inner past s →
+      Claim job arch (Leaves job arch l) past before s (change_mask arch set (Ok old))
   unfolding change_mask
   changed_mask_claim past before s set old low low' within =
       claim_bind job arch (Leaves job arch l) past before s (asked_mask arch set) _ (asked_mask_claim _ past before s set low within (λ p z n mask within1.
       claim_bind job arch (Leaves job arch l) p z n (copy_mask arch old) _ (copy_mask_claim _ p z n old low' within1 (λ p' z' n' within2. mask_claim p' z' n' mask within2))))
 
-  change_mask_claim : (past : List Visit) (before s : State) (set : Option ℕ) (old : Given) → BelowWord first_kernel_word set → Below first_shadow_word old → Inner past s → Claim job arch (Leaves job arch l) past before s (change_mask arch set old)
+  change_mask_claim : (past : List Visit) (before s : State) (set : Option ℕ) (old : Given) → BelowWord first_kernel_word set → Below first_shadow_word old → Inner past s →
+      Claim job arch (Leaves job arch l) past before s (change_mask arch set old)
   unfolding change_mask
   change_mask_claim past before s set (Err error) low low' within = fails past before s error within
   change_mask_claim past before s set (Ok None) low low' within = changed_mask_claim past before s set None low tt within

@@ -104,7 +104,8 @@ module _ (job : JobData) (m : Machine) (s : State) (st : Invariant job m s) wher
   }
 
   -- what stands below the token of a stack that a thread holds
-  below_told : (t k : ℕ) (past : List Visit) → Still m.words t s.book past → stack_of s.book k ≡ Some t → (left : Option ℕ) → left_in past (token_word k - 1) ≡ left → is_some left ≡ true → slice_index m.words (token_word k - 1) ≡ kernel_return
+  below_told : (t k : ℕ) (past : List Visit) → Still m.words t s.book past → stack_of s.book k ≡ Some t → (left : Option ℕ) → left_in past (token_word k - 1) ≡ left → is_some left ≡ true →
+      slice_index m.words (token_word k - 1) ≡ kernel_return
   below_told t k past still own None e q = cc
   below_told t k past still own (Some x) e q =
       let eight = st.holds.sound.book.stacks.eight in

@@ -52,7 +52,8 @@ module _ (job : JobData) (arch : Arch) (free : IsElsewhere job arch) where
   unfolding leave
   leave_claim past before s next rest = load_at_then job arch (EndsRow job arch) past before s _ 8 _ rest (λ p z n rest1 value. (rested rest1, λ held now. free, tt))
 
-  pub jump_indirect_claim : (past : List Visit) (before s : State) (src : Operand) (next : ℕ) → Resting arch.number untouched (progress past) s.book arch.ssp → Claim job arch (EndsRow job arch) past before s (jump_indirect arch src next)
+  pub jump_indirect_claim : (past : List Visit) (before s : State) (src : Operand) (next : ℕ) → Resting arch.number untouched (progress past) s.book arch.ssp →
+      Claim job arch (EndsRow job arch) past before s (jump_indirect arch src next)
   unfolding jump_indirect
   jump_indirect_claim past before s src next rest =
       read_operand_then job arch (EndsRow job arch) past before s size.Qword src next _ rest (λ p z n rest1 target.
@@ -60,29 +61,34 @@ module _ (job : JobData) (arch : Arch) (free : IsElsewhere job arch) where
 
   -- ---- arithmetic and moves
 
-  operated_claim : (past : List Visit) (before s : State) (op : AluOp) (dst : Operand) (c : Computed) (next : ℕ) → Resting arch.number untouched (progress past) s.book arch.ssp → Claim job arch (EndsRow job arch) past before s (operated arch op dst c next)
+  operated_claim : (past : List Visit) (before s : State) (op : AluOp) (dst : Operand) (c : Computed) (next : ℕ) → Resting arch.number untouched (progress past) s.book arch.ssp →
+      Claim job arch (EndsRow job arch) past before s (operated arch op dst c next)
   operated_claim past before s ops.Cmp dst c next rest = (rested rest, λ held now. free, tt)
   operated_claim past before s op (operand.Reg r) c next rest = (rested rest, λ held now. free, tt)
   operated_claim past before s op dst c next rest = invalid s rest
 
-  alu_claim : (past : List Visit) (before s : State) (op : AluOp) (sz : Size) (dst src : Operand) (next : ℕ) → Resting arch.number untouched (progress past) s.book arch.ssp → Claim job arch (EndsRow job arch) past before s (alu arch op sz dst src next)
+  alu_claim : (past : List Visit) (before s : State) (op : AluOp) (sz : Size) (dst src : Operand) (next : ℕ) → Resting arch.number untouched (progress past) s.book arch.ssp →
+      Claim job arch (EndsRow job arch) past before s (alu arch op sz dst src next)
   unfolding alu
   alu_claim past before s op sz dst src next rest =
       read_operand_then job arch (EndsRow job arch) past before s sz dst next _ rest (λ p z n rest1 x.
       read_operand_then job arch (EndsRow job arch) p z n sz src next _ rest1 (λ p' z' n' rest2 y. operated_claim p' z' n' op dst _ next rest2))
 
-  test_claim : (past : List Visit) (before s : State) (sz : Size) (dst src : Operand) (next : ℕ) → Resting arch.number untouched (progress past) s.book arch.ssp → Claim job arch (EndsRow job arch) past before s (test arch sz dst src next)
+  test_claim : (past : List Visit) (before s : State) (sz : Size) (dst src : Operand) (next : ℕ) → Resting arch.number untouched (progress past) s.book arch.ssp →
+      Claim job arch (EndsRow job arch) past before s (test arch sz dst src next)
   unfolding test
   test_claim past before s sz dst src next rest =
       read_operand_then job arch (EndsRow job arch) past before s sz dst next _ rest (λ p z n rest1 x.
       read_operand_then job arch (EndsRow job arch) p z n sz src next _ rest1 (λ p' z' n' rest2 y. (rested rest2, λ held now. free, tt)))
 
-  imul_claim : (past : List Visit) (before s : State) (sz : Size) (r : Reg) (src : Operand) (next : ℕ) → Resting arch.number untouched (progress past) s.book arch.ssp → Claim job arch (EndsRow job arch) past before s (imul arch sz r src next)
+  imul_claim : (past : List Visit) (before s : State) (sz : Size) (r : Reg) (src : Operand) (next : ℕ) → Resting arch.number untouched (progress past) s.book arch.ssp →
+      Claim job arch (EndsRow job arch) past before s (imul arch sz r src next)
   unfolding imul
   imul_claim past before s sz r src next rest =
       read_operand_then job arch (EndsRow job arch) past before s sz src next _ rest (λ p z n rest1 y. (rested rest1, λ held now. free, tt))
 
-  move_claim : (past : List Visit) (before s : State) (sz : Size) (dst src : Operand) (next : ℕ) → Resting arch.number untouched (progress past) s.book arch.ssp → Claim job arch (EndsRow job arch) past before s (move arch sz dst src next)
+  move_claim : (past : List Visit) (before s : State) (sz : Size) (dst src : Operand) (next : ℕ) → Resting arch.number untouched (progress past) s.book arch.ssp →
+      Claim job arch (EndsRow job arch) past before s (move arch sz dst src next)
   unfolding move
   move_claim past before s sz (operand.Reg r) src next rest =
       read_operand_then job arch (EndsRow job arch) past before s sz src next _ rest (λ p z n rest1 value. (rested rest1, λ held now. free, tt))
@@ -102,7 +108,8 @@ module _ (job : JobData) (arch : Arch) (free : IsElsewhere job arch) where
   move_sign_claim past before s r src next rest =
       read_operand_then job arch (EndsRow job arch) past before s size.Dword src next _ rest (λ p z n rest1 value. (rested rest1, λ held now. free, tt))
 
-  move_if_claim : (past : List Visit) (before s : State) (c : Cond) (sz : Size) (r : Reg) (src : Operand) (next : ℕ) → Resting arch.number untouched (progress past) s.book arch.ssp → Claim job arch (EndsRow job arch) past before s (cmov arch c sz r src next)
+  move_if_claim : (past : List Visit) (before s : State) (c : Cond) (sz : Size) (r : Reg) (src : Operand) (next : ℕ) → Resting arch.number untouched (progress past) s.book arch.ssp →
+      Claim job arch (EndsRow job arch) past before s (cmov arch c sz r src next)
   unfolding cmov
   move_if_claim past before s c sz r src next rest =
       read_operand_then job arch (EndsRow job arch) past before s sz src next _ rest (λ p z n rest1 value. (rested rest1, λ held now. free, tt))
@@ -123,7 +130,8 @@ module _ (job : JobData) (arch : Arch) (free : IsElsewhere job arch) where
       write_place_then job arch (EndsRow job arch) past before s _ _ rest (λ p z n rest1 word out.
       fetch_add_then job arch (EndsRow job arch) p z n word _ _ out (rest_stacked rest1) (λ later r' found. (rested (rest_kept r' rest1), λ held now. free, tt)))
 
-  lock_cmpxchg_claim : (past : List Visit) (before s : State) (m : Mem) (r : Reg) (next : ℕ) → Resting arch.number untouched (progress past) s.book arch.ssp → Claim job arch (EndsRow job arch) past before s (lock_cmpxchg arch m r next)
+  lock_cmpxchg_claim : (past : List Visit) (before s : State) (m : Mem) (r : Reg) (next : ℕ) → Resting arch.number untouched (progress past) s.book arch.ssp →
+      Claim job arch (EndsRow job arch) past before s (lock_cmpxchg arch m r next)
   unfolding lock_cmpxchg
   lock_cmpxchg_claim past before s m r next rest =
       write_place_then job arch (EndsRow job arch) past before s _ _ rest (λ p z n rest1 word out.
@@ -131,7 +139,8 @@ module _ (job : JobData) (arch : Arch) (free : IsElsewhere job arch) where
 
   -- ---- the family
 
-  shift_ends : (past : List Visit) (before s : State) (sz : Size) (r : Reg) (c : Computed) (next : ℕ) (b : Bool) → Resting arch.number untouched (progress past) s.book arch.ssp → EndsRow job arch past before s (cond b (assigned arch r (register arch r % limit sz) next) (settled arch r c next))
+  shift_ends : (past : List Visit) (before s : State) (sz : Size) (r : Reg) (c : Computed) (next : ℕ) (b : Bool) → Resting arch.number untouched (progress past) s.book arch.ssp →
+      EndsRow job arch past before s (cond b (assigned arch r (register arch r % limit sz) next) (settled arch r c next))
   shift_ends past before s sz r c next true rest = (rested rest, λ held now. free, tt)
   shift_ends past before s sz r c next false rest = (rested rest, λ held now. free, tt)
 

@@ -1,5 +1,6 @@
 -- What a row has seen of words of its thread's own is still there, whatever the others did since. Source: own.
-use Rattle.std.proofs.Common.{◌⊎◌, ◌≡◌, ◌≢◌, ℕ, ◌+◌, ◌%◌, ◌^◌, ◌<◌, inl, inr, Bool, true, false, List, [], ◌∷◌, length, Some, None, refl, sym, ◌∙◌, ap, subst, arith, get_or-set_other, get_or-set_same, ◌-◌, Option}
+use Rattle.std.proofs.Common.{◌⊎◌, ◌≡◌, ◌≢◌, ℕ, ◌+◌, ◌%◌, ◌^◌, ◌<◌, inl, inr, Bool, true, false, List, [], ◌∷◌, length, Some, None}
+use Rattle.std.proofs.Common.{refl, sym, ◌∙◌, ap, subst, arith, get_or-set_other, get_or-set_same, ◌-◌, Option}
 use Rattle.std.specs.Prelude.{◌||◌, nat_lt, slice_index, slice_set, bit_or, bit_and, ◌==◌, if◌then◌else◌}
 use Rattle.std.proofs.lemmas.Bool.Decides.{eqb_tells, nat_tests}
 use Rattle.std.proofs.lemmas.Bool.{false≢true, eqb-true}
@@ -119,7 +120,8 @@ or_true : (p q : Bool) → (p || q) ≡ true → (p ≡ true) ⊎ (q ≡ true)
 or_true true q e = inl refl
 or_true false q e = inr e
 
-restorer_shown : {image : ImageData} (a : Access) (words : List ℕ) (s : ℕ) → length words ≡ word_count → Restorers image words → s < 64 → shows_restorer a (answer words a) s ≡ true → slice_index (after words a) (restorer_word s) ≢ 0
+restorer_shown : {image : ImageData} (a : Access) (words : List ℕ) (s : ℕ) → length words ≡ word_count → Restorers image words → s < 64 → shows_restorer a (answer words a) s ≡ true →
+    slice_index (after words a) (restorer_word s) ≢ 0
 restorer_shown (access.Load word) words s size h l e =
     let d = and_true (word == action_word s) (nat_lt 1 (slice_index words word)) e in
     let same : word ≡ action_word s = eqb-true word (action_word s) d.0 in
@@ -138,11 +140,13 @@ restorer_shown a words s size h l e = cc
 
 -- ---- after the thread's own access
 
-known_by : (past : List Visit) (w x leaves_word now was : ℕ) (c : Bool) → now ≡ (if c then leaves_word else was) → (left_in past w ≡ Some x → was ≡ x) → (if c then Some leaves_word else left_in past w) ≡ Some x → now ≡ x
+known_by : (past : List Visit) (w x leaves_word now was : ℕ) (c : Bool) → now ≡ (if c then leaves_word else was) → (left_in past w ≡ Some x → was ≡ x) →
+    (if c then Some leaves_word else left_in past w) ≡ Some x → now ≡ x
 known_by past w x leaves_word now was true e h k = e ∙ (let q = k in cc)
 known_by past w x leaves_word now was false e h k = e ∙ h k
 
-own_word : (words : List ℕ) (t : ℕ) (b : Book) (past : List Visit) (a : Access) (w x : ℕ) (taking : Bool) → length words ≡ word_count → (taking ≡ false → OwnWord t b w) → Still words t b past → (if taking then None else (if touches a w then Some (leaves_word a (answer words a)) else left_in past w)) ≡ Some x → slice_index (after words a) w ≡ x
+own_word : (words : List ℕ) (t : ℕ) (b : Book) (past : List Visit) (a : Access) (w x : ℕ) (taking : Bool) → length words ≡ word_count → (taking ≡ false → OwnWord t b w) → Still words t b past →
+    (if taking then None else (if touches a w then Some (leaves_word a (answer words a)) else left_in past w)) ≡ Some x → slice_index (after words a) w ≡ x
 own_word words t b past a w x true size own h e = cc
 own_word words t b past a w x false size own h e =
     let there = word_there t b w (own refl) in
@@ -150,12 +154,15 @@ own_word words t b past a w x false size own h e =
     (left_word a words w (omega arith)) (λ k. h.word w x (own refl) k) e
 
 -- what an access leaves there, by whether it takes a stack and touches the word
-below_by : (left : Option ℕ) (x leaves : ℕ) (taking touching : Bool) → (taking ≡ false → touching ≡ true → leaves ≡ kernel_return) → (taking ≡ false → left ≡ Some x → x ≡ kernel_return) → (if taking then None else (if touching then Some leaves else left)) ≡ Some x → x ≡ kernel_return
+below_by : (left : Option ℕ) (x leaves : ℕ) (taking touching : Bool) → (taking ≡ false → touching ≡ true → leaves ≡ kernel_return) → (taking ≡ false → left ≡ Some x → x ≡ kernel_return) →
+    (if taking then None else (if touching then Some leaves else left)) ≡ Some x → x ≡ kernel_return
 below_by left x leaves true touching own old e = cc
 below_by left x leaves false true own old e = let same : leaves ≡ x = cc in sym same ∙ own refl refl
 below_by left x leaves false false own old e = old refl e
 
-pub still_own : {image : ImageData} (words : List ℕ) (t : ℕ) (b next : Book) (past : List Visit) (a : Access) (cs : List Change) → length words ≡ word_count → Restorers image words → KeepsRestorers words (after words a) → TellsBelow t b a (answer words a) → IsBook b → NoneBorn cs t → books_after t b cs ≡ Some next → Still words t b past → Still (after words a) t next (visit a (answer words a) cs ∷ past)
+pub still_own : {image : ImageData} (words : List ℕ) (t : ℕ) (b next : Book) (past : List Visit) (a : Access) (cs : List Change) → length words ≡ word_count → Restorers image words →
+    KeepsRestorers words (after words a) → TellsBelow t b a (answer words a) → IsBook b → NoneBorn cs t → books_after t b cs ≡ Some next → Still words t b past →
+    Still (after words a) t next (visit a (answer words a) cs ∷ past)
 still_own words t b next past a cs size signals restorers tells book none q h = record {
   below = λ k x l own e.
       let held : takes_any cs ≡ false → stack_of b k ≡ Some t = λ f. (changes_come t t cs b next book q none (nothing_taken t cs f)).holds k own in
@@ -173,7 +180,8 @@ still_own words t b next past a cs size signals restorers tells book none q h = 
 
 -- ---- after another thread's
 
-pub still_kept : (words : List ℕ) (y : ℕ) (b next : Book) (past : List Visit) (a : Access) → Comes y b next → ((w : ℕ) → OwnWord y b w → slice_index (after words a) w ≡ slice_index words w) → KeepsRestorers words (after words a) → (HasClaimed y (claimed_in past) b → HasClaimed y (claimed_in past) next) → Still words y b past → Still (after words a) y next past
+pub still_kept : (words : List ℕ) (y : ℕ) (b next : Book) (past : List Visit) (a : Access) → Comes y b next → ((w : ℕ) → OwnWord y b w → slice_index (after words a) w ≡ slice_index words w) →
+    KeepsRestorers words (after words a) → (HasClaimed y (claimed_in past) b → HasClaimed y (claimed_in past) next) → Still words y b past → Still (after words a) y next past
 still_kept words y b next past a c spares restorers claims h = record {
   below = λ k x l own e. h.below k x l (c.holds k own) e;
   claimed = claims h.claimed;

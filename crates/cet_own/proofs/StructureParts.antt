@@ -52,7 +52,9 @@ module _ (job : JobData) (arch : Arch) (l : own_stack job arch.number < 8) where
   gate = own_stack job arch.number
 
   -- stores of values, the lowest first, below the shadow area
-  pub store_each_claim : {d : Progress} (Q : List Visit → State → State → Unit {0} → Type 0) (past : List Visit) (before s : State) (word : ℕ) (values : List ℕ) → word + length values ≤ first_shadow_word → Within job arch l d past s → ((p : List Visit) (z n : State) → Relies arch.number s.book n.book → Within job arch l d p n → Q p z n tt) → Claim job arch Q past before s (store_each word values)
+  pub store_each_claim : {d : Progress} (Q : List Visit → State → State → Unit {0} → Type 0) (past : List Visit) (before s : State) (word : ℕ) (values : List ℕ) →
+      word + length values ≤ first_shadow_word → Within job arch l d past s → ((p : List Visit) (z n : State) → Relies arch.number s.book n.book → Within job arch l d p n → Q p z n tt) →
+      Claim job arch Q past before s (store_each word values)
   unfolding store_each
   store_each_claim Q past before s word [] few within h = h past before s (relies_same arch.number s.book) within
   store_each_claim {d = d} Q past before s word (value ∷ values) few within h = (
@@ -68,7 +70,9 @@ module _ (job : JobData) (arch : Arch) (l : own_stack job arch.number < 8) where
   )
 
   -- loads of words one after another, below the first supervisor stack's token
-  pub loads_claim : {d : Progress} (Q : List Visit → State → State → List ℕ → Type 0) (past : List Visit) (before s : State) (count word : ℕ) → word + count < token_word 0 → Within job arch l d past s → ((p : List Visit) (z n : State) (values : List ℕ) → Relies arch.number s.book n.book → Within job arch l d p n → Q p z n values) → Claim job arch Q past before s (loads count word)
+  pub loads_claim : {d : Progress} (Q : List Visit → State → State → List ℕ → Type 0) (past : List Visit) (before s : State) (count word : ℕ) → word + count < token_word 0 →
+      Within job arch l d past s → ((p : List Visit) (z n : State) (values : List ℕ) → Relies arch.number s.book n.book → Within job arch l d p n → Q p z n values) →
+      Claim job arch Q past before s (loads count word)
   unfolding loads load_as ◌>>=◌
   loads_claim Q past before s zero word few within h = h past before s [] (relies_same arch.number s.book) within
   loads_claim {d = d} Q past before s (suc count) word few within h =
@@ -79,7 +83,10 @@ module _ (job : JobData) (arch : Arch) (l : own_stack job arch.number < 8) where
 
   -- ---- looks
 
-  pub span_claim : {d : Progress} (Q : List Visit → State → State → Option ℕ → Type 0) (past : List Visit) (before s : State) (kd : Kind) (addr last : ℕ) → Within job arch l d past s → ((p : List Visit) (z n : State) → Within job arch l d p n → Q p z n None) → ((p : List Visit) (z n : State) (page other u v : ℕ) → page_at addr ≡ Some page → page_at (add64 addr last) ≡ Some other → IsEntry job.image page u → IsEntry job.image other v → allows u kd User ≡ true → allows v kd User ≡ true → Within job arch l d p n → Q p z n (Some (word_in page addr))) → Claim job arch Q past before s (span kd addr last)
+  pub span_claim : {d : Progress} (Q : List Visit → State → State → Option ℕ → Type 0) (past : List Visit) (before s : State) (kd : Kind) (addr last : ℕ) → Within job arch l d past s →
+      ((p : List Visit) (z n : State) → Within job arch l d p n → Q p z n None) → ((p : List Visit) (z n : State) (page other u v : ℕ) → page_at addr ≡ Some page →
+      page_at (add64 addr last) ≡ Some other → IsEntry job.image page u → IsEntry job.image other v → allows u kd User ≡ true → allows v kd User ≡ true → Within job arch l d p n →
+      Q p z n (Some (word_in page addr))) → Claim job arch Q past before s (span kd addr last)
   unfolding span
   span_claim {d = d} Q past before s kd addr last within none some =
       probe_known job arch l {d = d} Q past before s kd User addr _ within none (λ p z n page u at r known a within1.
@@ -87,26 +94,34 @@ module _ (job : JobData) (arch : Arch) (l : own_stack job arch.number < 8) where
       some p' z' n' page other u v at at' (known.entry page refl) (known'.entry other refl) a a' within2))
 
   -- of a structure that is stored to
-  pub store_span_claim : {d : Progress} (Q : List Visit → State → State → Option ℕ → Type 0) (past : List Visit) (before s : State) (addr n : ℕ) → n < 512 → Within job arch l d past s → ((p : List Visit) (z m : State) → Within job arch l d p m → Q p z m None) → ((p : List Visit) (z m : State) (word : ℕ) → word + n < first_shadow_word → Within job arch l d p m → Q p z m (Some word)) → Claim job arch Q past before s (span kind.Store addr (8 * n))
+  pub store_span_claim : {d : Progress} (Q : List Visit → State → State → Option ℕ → Type 0) (past : List Visit) (before s : State) (addr n : ℕ) → n < 512 → Within job arch l d past s →
+      ((p : List Visit) (z m : State) → Within job arch l d p m → Q p z m None) → ((p : List Visit) (z m : State) (word : ℕ) → word + n < first_shadow_word → Within job arch l d p m →
+      Q p z m (Some word)) → Claim job arch Q past before s (span kind.Store addr (8 * n))
   store_span_claim {d = d} Q past before s addr n few within none some =
       span_claim {d = d} Q past before s kind.Store addr (8 * n) within none (λ p z m page other u v at at' entry entry' a a' within1.
       some p z m (word_in page addr) (span_low addr page other n few at at' (store_page job.image other v entry' a')) within1)
 
   -- of one that is loaded
-  pub load_span_claim : {d : Progress} (Q : List Visit → State → State → Option ℕ → Type 0) (past : List Visit) (before s : State) (addr last : ℕ) → Within job arch l d past s → ((p : List Visit) (z m : State) → Within job arch l d p m → Q p z m None) → ((p : List Visit) (z m : State) (word : ℕ) → word < first_kernel_word → Within job arch l d p m → Q p z m (Some word)) → Claim job arch Q past before s (span kind.Load addr last)
+  pub load_span_claim : {d : Progress} (Q : List Visit → State → State → Option ℕ → Type 0) (past : List Visit) (before s : State) (addr last : ℕ) → Within job arch l d past s →
+      ((p : List Visit) (z m : State) → Within job arch l d p m → Q p z m None) → ((p : List Visit) (z m : State) (word : ℕ) → word < first_kernel_word → Within job arch l d p m →
+      Q p z m (Some word)) → Claim job arch Q past before s (span kind.Load addr last)
   load_span_claim {d = d} Q past before s addr last within none some =
       span_claim {d = d} Q past before s kind.Load addr last within none (λ p z m page other u v at at' entry entry' a a' within1.
       let low : page < first_kernel_page = load_page job.image page u entry a in
       some p z m (word_in page addr) (omega arith) within1)
 
-  pub store_word_claim : {d : Progress} (Q : List Visit → State → State → Option ℕ → Type 0) (past : List Visit) (before s : State) (addr : ℕ) → Within job arch l d past s → ((p : List Visit) (z m : State) → Within job arch l d p m → Q p z m None) → ((p : List Visit) (z m : State) (word : ℕ) → word < first_shadow_word → Within job arch l d p m → Q p z m (Some word)) → Claim job arch Q past before s (one_word kind.Store addr)
+  pub store_word_claim : {d : Progress} (Q : List Visit → State → State → Option ℕ → Type 0) (past : List Visit) (before s : State) (addr : ℕ) → Within job arch l d past s →
+      ((p : List Visit) (z m : State) → Within job arch l d p m → Q p z m None) → ((p : List Visit) (z m : State) (word : ℕ) → word < first_shadow_word → Within job arch l d p m →
+      Q p z m (Some word)) → Claim job arch Q past before s (one_word kind.Store addr)
   unfolding one_word
   store_word_claim {d = d} Q past before s addr within none some =
       probe_known job arch l {d = d} Q past before s kind.Store User addr _ within none (λ p z m page v at r known a within1.
       let low : page < first_shadow_page = store_page job.image page v (known.entry page refl) a in
       some p z m (word_in page addr) (omega arith) within1)
 
-  pub load_word_claim : {d : Progress} (Q : List Visit → State → State → Option ℕ → Type 0) (past : List Visit) (before s : State) (addr : ℕ) → Within job arch l d past s → ((p : List Visit) (z m : State) → Within job arch l d p m → Q p z m None) → ((p : List Visit) (z m : State) (word : ℕ) → word < first_kernel_word → Within job arch l d p m → Q p z m (Some word)) → Claim job arch Q past before s (one_word kind.Load addr)
+  pub load_word_claim : {d : Progress} (Q : List Visit → State → State → Option ℕ → Type 0) (past : List Visit) (before s : State) (addr : ℕ) → Within job arch l d past s →
+      ((p : List Visit) (z m : State) → Within job arch l d p m → Q p z m None) → ((p : List Visit) (z m : State) (word : ℕ) → word < first_kernel_word → Within job arch l d p m →
+      Q p z m (Some word)) → Claim job arch Q past before s (one_word kind.Load addr)
   unfolding one_word
   load_word_claim {d = d} Q past before s addr within none some =
       probe_known job arch l {d = d} Q past before s kind.Load User addr _ within none (λ p z m page v at r known a within1.
@@ -114,7 +129,10 @@ module _ (job : JobData) (arch : Arch) (l : own_stack job arch.number < 8) where
       some p z m (word_in page addr) (omega arith) within1)
 
   -- a look at a shadow stack passes in regions alone
-  pub shadow_probe_then : {A : Type 0} {d : Progress} (Q : List Visit → State → State → A → Type 0) (past : List Visit) (before s : State) (kd : Kind) (addr : ℕ) (f : Option ℕ → Script A) → shadow_start ≤ addr → addr < shadow_end → Within job arch l d past s → ((p : List Visit) (z n : State) → Within job arch l d p n → Claim job arch Q p z n (f None)) → ((p : List Visit) (z n : State) → Relies arch.number s.book n.book → Shape n.book → (i : ℕ) → In (region n.book i) addr → Within job arch l d p n → Claim job arch Q p z n (f (Some (first_shadow_page + (addr - shadow_start) / 4096)))) → Claim job arch Q past before s (probe kd User addr >>= f)
+  pub shadow_probe_then : {A : Type 0} {d : Progress} (Q : List Visit → State → State → A → Type 0) (past : List Visit) (before s : State) (kd : Kind) (addr : ℕ) (f : Option ℕ → Script A) →
+      shadow_start ≤ addr → addr < shadow_end → Within job arch l d past s → ((p : List Visit) (z n : State) → Within job arch l d p n → Claim job arch Q p z n (f None)) →
+      ((p : List Visit) (z n : State) → Relies arch.number s.book n.book → Shape n.book → (i : ℕ) → In (region n.book i) addr → Within job arch l d p n →
+      Claim job arch Q p z n (f (Some (first_shadow_page + (addr - shadow_start) / 4096)))) → Claim job arch Q past before s (probe kd User addr >>= f)
   shadow_probe_then {d = d} Q past before s kd addr f low high within none some =
       probe_known job arch l {d = d} Q past before s kd User addr f within none (λ p z n page v at r known a within1.
       let is : first_shadow_page + (addr - shadow_start) / 4096 ≡ page = (let e = shadow_page addr low high in cc) in
@@ -123,7 +141,10 @@ module _ (job : JobData) (arch : Arch) (l : own_stack job arch.number < 8) where
 
   -- ---- what a service is given
 
-  given_claim : {d : Progress} (bound : ℕ) (Q : List Visit → State → State → Given → Type 0) (past : List Visit) (before s : State) (addr : ℕ) (found : Script (Option ℕ)) → Within job arch l d past s → ((R : List Visit → State → State → Option ℕ → Type 0) → ((p : List Visit) (z m : State) → Within job arch l d p m → R p z m None) → ((p : List Visit) (z m : State) (word : ℕ) → word < bound → Within job arch l d p m → R p z m (Some word)) → Claim job arch R past before s found) → ((p : List Visit) (z m : State) (g : Given) → Below bound g → Within job arch l d p m → Q p z m g) → Claim job arch Q past before s (given_at addr found)
+  given_claim : {d : Progress} (bound : ℕ) (Q : List Visit → State → State → Given → Type 0) (past : List Visit) (before s : State) (addr : ℕ) (found : Script (Option ℕ)) →
+      Within job arch l d past s → ((R : List Visit → State → State → Option ℕ → Type 0) → ((p : List Visit) (z m : State) → Within job arch l d p m → R p z m None) →
+      ((p : List Visit) (z m : State) (word : ℕ) → word < bound → Within job arch l d p m → R p z m (Some word)) → Claim job arch R past before s found) →
+      ((p : List Visit) (z m : State) (g : Given) → Below bound g → Within job arch l d p m → Q p z m g) → Claim job arch Q past before s (given_at addr found)
   given_claim bound Q past before s addr found within c h =
       claim_cond job arch Q past before s (addr == 0) _ _ (λ _. h past before s (Ok None) tt within)
       (λ _. claim_cond job arch Q past before s (addr % 8 == 0) _ _
@@ -131,24 +152,28 @@ module _ (job : JobData) (arch : Arch) (l : own_stack job arch.number < 8) where
       (c (λ p z m word. Claim job arch Q p z m (done (given word))) (λ p z m within1. h p z m (Err errno.Fault) tt within1) (λ p z m word low within1. h p z m (Ok (Some word)) low within1)))
       (λ _. h past before s (Err errno.Fault) tt within))
 
-  pub given_load_span : {d : Progress} (Q : List Visit → State → State → Given → Type 0) (past : List Visit) (before s : State) (addr last : ℕ) → Within job arch l d past s → ((p : List Visit) (z m : State) (g : Given) → Below first_kernel_word g → Within job arch l d p m → Q p z m g) → Claim job arch Q past before s (given_span kind.Load addr last)
+  pub given_load_span : {d : Progress} (Q : List Visit → State → State → Given → Type 0) (past : List Visit) (before s : State) (addr last : ℕ) → Within job arch l d past s →
+      ((p : List Visit) (z m : State) (g : Given) → Below first_kernel_word g → Within job arch l d p m → Q p z m g) → Claim job arch Q past before s (given_span kind.Load addr last)
   unfolding given_span
   given_load_span {d = d} Q past before s addr last within h =
       given_claim {d = d} first_kernel_word Q past before s addr (span kind.Load addr last) within (λ R none some. load_span_claim {d = d} R past before s addr last within none some) h
 
   -- four words that are stored to
-  pub given_store_span : {d : Progress} (Q : List Visit → State → State → Given → Type 0) (past : List Visit) (before s : State) (addr : ℕ) → Within job arch l d past s → ((p : List Visit) (z m : State) (g : Given) → Below (first_shadow_word - 3) g → Within job arch l d p m → Q p z m g) → Claim job arch Q past before s (given_span kind.Store addr 24)
+  pub given_store_span : {d : Progress} (Q : List Visit → State → State → Given → Type 0) (past : List Visit) (before s : State) (addr : ℕ) → Within job arch l d past s →
+      ((p : List Visit) (z m : State) (g : Given) → Below (first_shadow_word - 3) g → Within job arch l d p m → Q p z m g) → Claim job arch Q past before s (given_span kind.Store addr 24)
   unfolding given_span
   given_store_span {d = d} Q past before s addr within h =
       given_claim {d = d} (first_shadow_word - 3) Q past before s addr (span kind.Store addr 24) within
       (λ R none some. store_span_claim {d = d} R past before s addr 3 (omega arith) within none (λ p z m word low within1. some p z m word (omega arith) within1)) h
 
-  pub given_load_word : {d : Progress} (Q : List Visit → State → State → Given → Type 0) (past : List Visit) (before s : State) (addr : ℕ) → Within job arch l d past s → ((p : List Visit) (z m : State) (g : Given) → Below first_kernel_word g → Within job arch l d p m → Q p z m g) → Claim job arch Q past before s (given_word kind.Load addr)
+  pub given_load_word : {d : Progress} (Q : List Visit → State → State → Given → Type 0) (past : List Visit) (before s : State) (addr : ℕ) → Within job arch l d past s →
+      ((p : List Visit) (z m : State) (g : Given) → Below first_kernel_word g → Within job arch l d p m → Q p z m g) → Claim job arch Q past before s (given_word kind.Load addr)
   unfolding given_word
   given_load_word {d = d} Q past before s addr within h =
       given_claim {d = d} first_kernel_word Q past before s addr (one_word kind.Load addr) within (λ R none some. load_word_claim {d = d} R past before s addr within none some) h
 
-  pub given_store_word : {d : Progress} (Q : List Visit → State → State → Given → Type 0) (past : List Visit) (before s : State) (addr : ℕ) → Within job arch l d past s → ((p : List Visit) (z m : State) (g : Given) → Below first_shadow_word g → Within job arch l d p m → Q p z m g) → Claim job arch Q past before s (given_word kind.Store addr)
+  pub given_store_word : {d : Progress} (Q : List Visit → State → State → Given → Type 0) (past : List Visit) (before s : State) (addr : ℕ) → Within job arch l d past s →
+      ((p : List Visit) (z m : State) (g : Given) → Below first_shadow_word g → Within job arch l d p m → Q p z m g) → Claim job arch Q past before s (given_word kind.Store addr)
   unfolding given_word
   given_store_word {d = d} Q past before s addr within h =
       given_claim {d = d} first_shadow_word Q past before s addr (one_word kind.Store addr) within (λ R none some. store_word_claim {d = d} R past before s addr within none some) h

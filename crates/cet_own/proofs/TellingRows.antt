@@ -185,11 +185,15 @@ module _ {A : Type 0} {Q : Drawn → A → Type 0} {d : Drawn} (f : Unit {0} →
       tells_if_then f (canonical addr) (cond (addr % size == 0) (done tt) (fault misaligned)) (fault general_protection)
       (tells_if_then f (addr % size == 0) (done tt) (fault misaligned) (tells_return f tt h) (tells_fault_then f _ n)) (tells_fault_then f _ n)
 
-look_in_tells : {A : Type 0} (Q : Drawn → A → Type 0) (d : Drawn) (changes : ℕ → List Change) (at : Option ℕ) (kd : Kind) (w : Who) (addr : ℕ) (f : ℕ → Script A) → ((v : ℕ) → draws (changes v) d ≡ d) → d.kept ≡ [] → ((page : ℕ) → Tells Q d (f page)) → Tells Q d (look_in_as changes at kd w addr >>= f)
+look_in_tells : {A : Type 0} (Q : Drawn → A → Type 0) (d : Drawn) (changes : ℕ → List Change) (at : Option ℕ) (kd : Kind) (w : Who) (addr : ℕ) (f : ℕ → Script A) →
+    ((v : ℕ) → draws (changes v) d ≡ d) → d.kept ≡ [] → ((page : ℕ) → Tells Q d (f page)) → Tells Q d (look_in_as changes at kd w addr >>= f)
 unfolding ◌>>=◌ look_in_as
 look_in_tells Q d changes None kd w addr f c n h = tells_fault n
 look_in_tells Q d changes (Some page) kd w addr f c n h =
-    record { tells = λ v. subst (λ x. Telling Q x (cond (allows v kd w) (done page) (fault (page_fault v kd w addr)) >>= f)) (sym (c v)) (tells_if_then f (allows v kd w) (done page) (fault (page_fault v kd w addr)) (tells_return f page (h page)) (tells_fault_then f _ n)).tells }
+    record {
+      tells = λ v. subst (λ x. Telling Q x (cond (allows v kd w) (done page) (fault (page_fault v kd w addr)) >>= f)) (sym (c v))
+          (tells_if_then f (allows v kd w) (done page) (fault (page_fault v kd w addr)) (tells_return f page (h page)) (tells_fault_then f _ n)).tells;
+    }
 
 probe_in_tells : {A : Type 0} (Q : Drawn → A → Type 0) (d : Drawn) (at : Option ℕ) (kd : Kind) (w : Who) (f : Option ℕ → Script A) → ((found : Option ℕ) → Tells Q d (f found)) → Tells Q d (probe_in at kd w >>= f)
 unfolding ◌>>=◌ probe_in
@@ -197,7 +201,8 @@ probe_in_tells Q d None kd w f h = h None
 probe_in_tells Q d (Some page) kd w f h = record { tells = λ v. (h (cond (allows v kd w) (Some page) None)).tells }
 
 module _ {A : Type 0} {Q : Drawn → A → Type 0} {d : Drawn} where
-  tells_look : (changes : ℕ → List Change) (kd : Kind) (w : Who) (addr : ℕ) (f : ℕ → Script A) → ((v : ℕ) → draws (changes v) d ≡ d) → d.kept ≡ [] → ((page : ℕ) → Tells Q d (f page)) → Tells Q d (look_as changes kd w addr >>= f)
+  tells_look : (changes : ℕ → List Change) (kd : Kind) (w : Who) (addr : ℕ) (f : ℕ → Script A) → ((v : ℕ) → draws (changes v) d ≡ d) → d.kept ≡ [] → ((page : ℕ) → Tells Q d (f page)) →
+      Tells Q d (look_as changes kd w addr >>= f)
   unfolding look_as
   tells_look changes kd w addr f c n h = look_in_tells Q d changes (page_at addr) kd w addr f c n h
 
@@ -209,7 +214,31 @@ module _ {A B C : Type 0} {Q : Drawn → A → Type 0} {d : Drawn} where
   tells_assoc : (m : Script C) (h : C → Script B) (f : B → Script A) → Tells Q d (m >>= (λ x. h x >>= f)) → Tells Q d ((m >>= h) >>= f)
   tells_assoc m h f w = record { tells = assoc_telling Q d m h f w.tells }
 
-ruleset tells_parts = (tells_done, tells_fault, tells_if, tells_return, tells_fault_then, tells_if_then, tells_assoc, tells_peek, tells_load, tells_loads, tells_exchange, tells_swap, tells_fetch_add, tells_fetch_or, tells_fetch_and, tells_store, tells_stores, tells_each, tells_tested, tells_look, tells_probe, draws_if, tells_none)
+ruleset tells_parts = (
+  tells_done,
+  tells_fault,
+  tells_if,
+  tells_return,
+  tells_fault_then,
+  tells_if_then,
+  tells_assoc,
+  tells_peek,
+  tells_load,
+  tells_loads,
+  tells_exchange,
+  tells_swap,
+  tells_fetch_add,
+  tells_fetch_or,
+  tells_fetch_and,
+  tells_store,
+  tells_stores,
+  tells_each,
+  tells_tested,
+  tells_look,
+  tells_probe,
+  draws_if,
+  tells_none,
+)
 
 -- ---- operands and the gate
 
@@ -307,7 +336,8 @@ tells_failed : (arch : Arch) (error : Errno) (k : ℕ) → Tells EndTells nothin
 tells_failed arch error k = tells_return _ _ (tells_gate_out _ k _ (tells_done (tells_none refl refl refl)))
 
 -- by whether the draw succeeds
-tells_drawn : (arch : Arch) (d size k : ℕ) (token c : Bool) → Tells EndTells (draws (if c then Claimed (drawn_start d) (pages_of size) token ∷ [] else []) nothing_drawn) ((if c then fill_stack arch d size (pages_of size) token else done (failed arch errno.NoMem)) >>= leave k)
+tells_drawn : (arch : Arch) (d size k : ℕ) (token c : Bool) → Tells EndTells (draws (if c then Claimed (drawn_start d) (pages_of size) token ∷ [] else []) nothing_drawn)
+    ((if c then fill_stack arch d size (pages_of size) token else done (failed arch errno.NoMem)) >>= leave k)
 tells_drawn arch d size k token true = tells_fill arch d size k token
 tells_drawn arch d size k token false = tells_failed arch errno.NoMem k
 
@@ -346,7 +376,8 @@ tells_memory arch k = search (rules, tells_map, tells_mmap, tells_munmap) depth 
 -- ---- clone: the record of a birth tells of the stack that was claimed
 
 -- by whether there is a number left
-tells_numbered : (arch : Arch) (d v k : ℕ) (c : Bool) → Tells EndTells (draws (if c then Born v (drawn_start d) ∷ [] else []) (one_drawn (drawn_start d) thread_pages [])) ((if c then done (bore arch v (drawn_start d)) else give_up arch (drawn_page d)) >>= leave k)
+tells_numbered : (arch : Arch) (d v k : ℕ) (c : Bool) → Tells EndTells (draws (if c then Born v (drawn_start d) ∷ [] else []) (one_drawn (drawn_start d) thread_pages []))
+    ((if c then done (bore arch v (drawn_start d)) else give_up arch (drawn_page d)) >>= leave k)
 unfolding give_up
 tells_numbered arch d v k true =
     let start : drawn_start d + thread_region_size - thread_region_size ≡ drawn_start d = omega arith in

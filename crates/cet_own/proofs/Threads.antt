@@ -91,26 +91,43 @@ thread_relies job t s now (Some thread) r h = (held_relies t s.book now.book thr
 
 -- ---- what the thread itself comes to
 
-recorded_stands : (job : JobData) (next : Arch) (s : State) (b : Bool) → next.held ≡ None → IsJob job → AtRest next.number s.book next.ssp → CoreAt job (record { arch = next; vals = no_vals; over = if b then Some ending.Limit else None }) (if b then Some ending.Limit else None) → CoreStands job next.number s (record { arch = next; vals = no_vals; over = if b then Some ending.Limit else None }) (if b then Some ending.Limit else None)
+recorded_stands : (job : JobData) (next : Arch) (s : State) (b : Bool) → next.held ≡ None → IsJob job → AtRest next.number s.book next.ssp →
+    CoreAt job (record { arch = next; vals = no_vals; over = if b then Some ending.Limit else None }) (if b then Some ending.Limit else None) →
+    CoreStands job next.number s (record { arch = next; vals = no_vals; over = if b then Some ending.Limit else None }) (if b then Some ending.Limit else None)
 recorded_stands job next s true none j rest w = (rest, refl, w, refl)
-recorded_stands job next s false none j rest w = record { waits = w; number = refl; holding = none; own = λ k e. (let z : None ≡ Some k = sym none ∙ e in cc); told = tt; before = s; left = row_claim job j (unheld next) s s (record { number = w.state.number; made = w.state.made }) rest }
+recorded_stands job next s false none j rest w = record {
+  waits = w;
+  number = refl;
+  holding = none;
+  own = λ k e. (let z : None ≡ Some k = sym none ∙ e in cc);
+  told = tt;
+  before = s;
+  left = row_claim job j (unheld next) s s (record { number = w.state.number; made = w.state.made }) rest;
+}
 
 -- the thread and its record, by what its row has come to
 abbrev pub left_by : JobData → Arch → Option ℕ → ValsData → Played Finish → Option Core → After
 left_by job arch held seen c child = record { core = core_by job arch held seen c; noted = noted_by arch c; child = child }
 
-pub came_stands : (job : JobData) (core : Core) (held : Option ℕ) (seen : ValsData) (past : List Visit) (before s : State) (child : Option Core) (c : Played Finish) → Held core.arch.number s.book held → held ≡ held_in (row_trail job core.arch seen) → ((k : ℕ) → held ≡ Some k → k ≡ own_stack job core.arch.number) → AllTold job.image s.book (row_trail job core.arch seen) → IsJob job → Left job (unheld core.arch) before s seen → OnCame (rules job core.arch.number) (During (unheld core.arch)) (Ends job (unheld core.arch)) (λ p. Fails job (unheld core.arch)) past before s c → IsCore job (core_by job core.arch held seen c) → CoreStands job core.arch.number s (core_by job core.arch held seen c) (core_by job core.arch held seen c).over × NotedReturns job (entries_of core.arch.number before.book) core (left_by job core.arch held seen c child) (noted_by core.arch c) × NotedTokens before.book s.book (noted_by core.arch c)
+pub came_stands : (job : JobData) (core : Core) (held : Option ℕ) (seen : ValsData) (past : List Visit) (before s : State) (child : Option Core) (c : Played Finish) →
+    Held core.arch.number s.book held → held ≡ held_in (row_trail job core.arch seen) → ((k : ℕ) → held ≡ Some k → k ≡ own_stack job core.arch.number) →
+    AllTold job.image s.book (row_trail job core.arch seen) → IsJob job → Left job (unheld core.arch) before s seen →
+    OnCame (rules job core.arch.number) (During (unheld core.arch)) (Ends job (unheld core.arch)) (λ p. Fails job (unheld core.arch)) past before s c → IsCore job (core_by job core.arch held seen c) →
+    CoreStands job core.arch.number s (core_by job core.arch held seen c) (core_by job core.arch held seen c).over ×
+    NotedReturns job (entries_of core.arch.number before.book) core (left_by job core.arch held seen c child) (noted_by core.arch c) × NotedTokens before.book s.book (noted_by core.arch c)
 came_stands job core held seen past before s child (Wants a changes) note holding own told j l o w = (record { waits = w; number = refl; holding = holding; own = own; told = told; before = before; left = l }, tt, tt)
 came_stands job core held seen past before s child (Faulted e) note holding own told j l o w =
     (recorded_stands job (kept_by core.arch held (faulted core.arch e)) s (core.arch.count + 1 == job.limit) (free_note core.arch.number s.book held o.0.free note) j o.0 w, λ r. (o.1 r, refl, refl), o.2)
 came_stands job core held seen past before s child (Completed (Noted next r) left values) note holding own told j l o w =
     (recorded_stands job (kept_by core.arch held next) s (next.count == job.limit) (free_note core.arch.number s.book held o.0.free note) j o.0 w, o.1 core.arch.held held, o.2)
-came_stands job core held seen past before s child (Completed (Posted next) left values) note holding own told j l o w = (recorded_stands job (kept_by core.arch held next) s false (free_note core.arch.number s.book held o.0.free note) j o.0 w, tt, tt)
+came_stands job core held seen past before s child (Completed (Posted next) left values) note holding own told j l o w =
+    (recorded_stands job (kept_by core.arch held next) s false (free_note core.arch.number s.book held o.0.free note) j o.0 w, tt, tt)
 came_stands job core held seen past before s child (Completed (Exited next r status) left values) note holding own told j l o w = ((o.0, w, refl), o.1 core.arch.held held, o.2)
 came_stands job core held seen past before s child (Completed Stopped left values) note holding own told j l o w = ((o.0, refl, w, refl), tt, tt)
 
 -- a row that goes on has its trail, and one that is over leaves none
-pub came_still : (job : JobData) (arch : Arch) (held : Option ℕ) (seen : ValsData) (c : Played Finish) (words : List ℕ) (t : ℕ) (b : Book) → Still words t b (trail seen.accesses (row job (unheld arch)) seen.values []) → Still words t b (trail_of job (core_by job arch held seen c))
+pub came_still : (job : JobData) (arch : Arch) (held : Option ℕ) (seen : ValsData) (c : Played Finish) (words : List ℕ) (t : ℕ) (b : Book) →
+    Still words t b (trail seen.accesses (row job (unheld arch)) seen.values []) → Still words t b (trail_of job (core_by job arch held seen c))
 came_still job arch held seen (Wants a changes) words t b h = h
 came_still job arch held seen (Faulted e) words t b h = still_none words t b
 came_still job arch held seen (Completed (Noted next r) left values) words t b h = still_none words t b

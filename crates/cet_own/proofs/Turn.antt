@@ -103,7 +103,10 @@ own_unborn {t = t} {v = v} {a = a} words is counters_tell (bears_child s start e
     subst (λ cs. NoneBorn cs t) (sym ev) (λ z. counters_tell.other (omega arith) (sym z ∙ w), tt)
 own_unborn {t = t} {changes = changes} words is counters_tell (bears_nobody e many once none) = none_born changes t none
 
-led_wants : (job : JobData) (j : IsJob job) (words : List ℕ) (s : State) (core : Core) (a : Access) (own : ℕ → List Change) → CountersTell words core.arch.number s.book → Holds job.image words s.book → Still words core.arch.number s.book (trail_of job core) → Held core.arch.number s.book core.arch.held → InRow job core.arch.number s core → row_played job core.arch core.vals ≡ Wants a own → IsCore job (answered job core (answer words a) (Wants a own)).core → LedBy job words s core a (own (answer words a)) (answered job core (answer words a) (Wants a own))
+led_wants : (job : JobData) (j : IsJob job) (words : List ℕ) (s : State) (core : Core) (a : Access) (own : ℕ → List Change) → CountersTell words core.arch.number s.book →
+    Holds job.image words s.book → Still words core.arch.number s.book (trail_of job core) → Held core.arch.number s.book core.arch.held → InRow job core.arch.number s core →
+    row_played job core.arch core.vals ≡ Wants a own → IsCore job (answered job core (answer words a) (Wants a own)).core →
+    LedBy job words s core a (own (answer words a)) (answered job core (answer words a) (Wants a own))
 led_wants job j words s core a own few h still held r w is_core =
     let changes = own (answer words a) in
     let holding = held_after changes core.arch.held in
@@ -163,16 +166,37 @@ led_wants job j words s core a own few h still held r w is_core =
       restores = k.2;
     }
 
-led_come : (job : JobData) (j : IsJob job) (words : List ℕ) (s : State) (core : Core) (a : Access) (own : ℕ → List Change) → CountersTell words core.arch.number s.book → Holds job.image words s.book → Still words core.arch.number s.book (trail_of job core) → Held core.arch.number s.book core.arch.held → InRow job core.arch.number s core → row_played job core.arch core.vals ≡ Wants a own → LedBy job words s core a (own (answer words a)) (taken job core (answer words a))
+led_come : (job : JobData) (j : IsJob job) (words : List ℕ) (s : State) (core : Core) (a : Access) (own : ℕ → List Change) → CountersTell words core.arch.number s.book → Holds job.image words s.book →
+    Still words core.arch.number s.book (trail_of job core) → Held core.arch.number s.book core.arch.held → InRow job core.arch.number s core → row_played job core.arch core.vals ≡ Wants a own →
+    LedBy job words s core a (own (answer words a)) (taken job core (answer words a))
 unfolding taken
 led_come job j words s core a own few h still held r w =
     let is_core : IsCore job (answered job core (answer words a) (Wants a own)).core = subst (λ c. IsCore job (answered job core (answer words a) c).core) w (taken_is job core (answer words a) r.waits) in
     subst (λ c. LedBy job words s core a (own (answer words a)) (answered job core (answer words a) c)) (sym w) (led_wants job j words s core a own few h still held r w is_core)
 
 -- an access of a thread that waits for it
-pub led : (job : JobData) (j : IsJob job) (words : List ℕ) (t : ℕ) (s : State) (core : Core) (a : Access) (own : ℕ → List Change) → CountersTell words t s.book → Holds job.image words s.book → Still words t s.book (trail_of job core) → Held t s.book core.arch.held → InRow job t s core → row_played job core.arch core.vals ≡ Wants a own → Led job words t s core a
+pub led : (job : JobData) (j : IsJob job) (words : List ℕ) (t : ℕ) (s : State) (core : Core) (a : Access) (own : ℕ → List Change) → CountersTell words t s.book → Holds job.image words s.book →
+    Still words t s.book (trail_of job core) → Held t s.book core.arch.held → InRow job t s core → row_played job core.arch core.vals ≡ Wants a own → Led job words t s core a
 led job j words t s core a own few h still held r w =
     let same : own (answer words a) ≡ next_changes job core (answer words a) = sym (ap (λ c. changes_of c (answer words a)) w) in
     subst (λ n. Led job words n s core a) r.number
-    (let d = subst (λ l. LedBy job words s core a l (taken job core (answer words a))) same (led_come job j words s core a own (subst (λ n. CountersTell words n s.book) (sym r.number) few) h (subst (λ n. Still words n s.book (trail_of job core)) (sym r.number) still) (subst (λ n. Held n s.book core.arch.held) (sym r.number) held) (subst (λ n. InRow job n s core) (sym r.number) r) w) in
-    record { next = d.next; owed = d.owed; is = d.is; holds = d.holds; others = d.others; still = d.still; spared = d.spared; held = d.held; draws = d.draws; nexts = d.nexts; made = d.made; count = d.count; stands = d.stands; returns = d.returns; restores = d.restores })
+    (let d = subst (λ l. LedBy job words s core a l (taken job core (answer words a))) same
+    (led_come job j words s core a own (subst (λ n. CountersTell words n s.book) (sym r.number) few) h (subst (λ n. Still words n s.book (trail_of job core)) (sym r.number) still)
+    (subst (λ n. Held n s.book core.arch.held) (sym r.number) held) (subst (λ n. InRow job n s core) (sym r.number) r) w) in
+    record {
+      next = d.next;
+      owed = d.owed;
+      is = d.is;
+      holds = d.holds;
+      others = d.others;
+      still = d.still;
+      spared = d.spared;
+      held = d.held;
+      draws = d.draws;
+      nexts = d.nexts;
+      made = d.made;
+      count = d.count;
+      stands = d.stands;
+      returns = d.returns;
+      restores = d.restores;
+    })

@@ -1,6 +1,7 @@
 -- One turn keeps the invariant: of the thread that acts, of one that it bears, and of all others. Source: own.
 use Rattle.cet_own.specs.Gates.{ThreadGates}
-use Rattle.std.proofs.Common.{[], ◌∷◌, ◌++◌, ◌⊎◌, length-append, ◌≡◌, ◌≢◌, ℕ, ◌<◌, ◌≤◌, inl, inr, List, length, Option, Some, None, refl, sym, ◌∙◌, ap, subst, arith, length-set, get_or-set_same, true}
+use Rattle.std.proofs.Common.{[], ◌∷◌, ◌++◌, ◌⊎◌, length-append, ◌≡◌, ◌≢◌, ℕ, ◌<◌, ◌≤◌, inl, inr, List, length, Option, Some}
+use Rattle.std.proofs.Common.{None, refl, sym, ◌∙◌, ap, subst, arith, length-set, get_or-set_same, true}
 use Rattle.std.specs.Prelude.{slice_get, slice_set, slice_index, sum_by, min, ◌+◌, ◌%◌, ◌^◌, ◌-◌, ◌==◌}
 use Rattle.std.proofs.lemmas.List.Sums.{sum_by-append}
 use Rattle.std.proofs.lemmas.Bool.{cases_lt}
@@ -169,7 +170,8 @@ pub record Enlisted (job : JobData) (now : List ℕ) (s next : State) (old new :
 
 module _ (job : JobData) (j : IsJob job) (now : List ℕ) (s next : State) (old : List Thread) (t : ℕ) (thread : Thread) (inside : t < length old) where
   -- no thread is born
-  enlisted_none : (changes : List Change) → birth changes ≡ None → ((y : ℕ) → t ≢ y → NoneBorn changes y → Relies y s.book next.book) → 1 ≤ slice_index now next_word → length old ≡ min (slice_index now next_word) 32 → Enlisted job now s next old (slice_set old t thread) t thread changes
+  enlisted_none : (changes : List Change) → birth changes ≡ None → ((y : ℕ) → t ≢ y → NoneBorn changes y → Relies y s.book next.book) → 1 ≤ slice_index now next_word →
+      length old ≡ min (slice_index now next_word) 32 → Enlisted job now s next old (slice_set old t thread) t thread changes
   enlisted_none changes none rely least number = record {
     here = get_same old t thread inside;
     others = λ y n. inl (get_other old t y thread n, none_born changes y none);
@@ -181,7 +183,9 @@ module _ (job : JobData) (j : IsJob job) (now : List ℕ) (s next : State) (old 
   }
 
   -- thread v is born, and stands last in the list
-  enlisted_born : (arch : Arch) (v start : ℕ) → v ≡ length old → v < 32 → slice_index now next_word ≡ v + 1 → ((y : ℕ) → t ≢ y → NoneBorn (Born v start ∷ []) y → Relies y s.book next.book) → IsNewborn job next v (record { core = child_core arch v start; trace = [] }) → Enlisted job now s next old (slice_set old t thread ++ record { core = child_core arch v start; trace = [] } ∷ []) t thread (Born v start ∷ [])
+  enlisted_born : (arch : Arch) (v start : ℕ) → v ≡ length old → v < 32 → slice_index now next_word ≡ v + 1 → ((y : ℕ) → t ≢ y → NoneBorn (Born v start ∷ []) y → Relies y s.book next.book) →
+      IsNewborn job next v (record { core = child_core arch v start; trace = [] }) → Enlisted job now s next old
+      (slice_set old t thread ++ record { core = child_core arch v start; trace = [] } ∷ []) t thread (Born v start ∷ [])
   enlisted_born arch v start at few counter rely newcomer =
       let x : Thread = record { core = child_core arch v start; trace = [] } in
       let set = slice_set old t thread in
@@ -208,7 +212,10 @@ module _ (job : JobData) (j : IsJob job) (now : List ℕ) (s next : State) (old 
       }
 
   -- which of the two is told by the counters
-  enlisted : (words : List ℕ) (a : Access) (arch : Arch) (past : List Visit) (changes : List Change) → now ≡ after words a → length words ≡ word_count → Shape s.book → books_after t s.book changes ≡ Some next.book → 1 ≤ slice_index words next_word → slice_index words next_word + 1 < 2 ^ 64 → length old ≡ min (slice_index words next_word) 32 → ((y : ℕ) → t ≢ y → NoneBorn changes y → Relies y s.book next.book) → ChildAt job (child_of arch changes) → CountsBy t past s.book a (answer words a) changes → Enlisted job now s next old (with_child (slice_set old t thread) (child_of arch changes)) t thread changes
+  enlisted : (words : List ℕ) (a : Access) (arch : Arch) (past : List Visit) (changes : List Change) → now ≡ after words a → length words ≡ word_count → Shape s.book →
+      books_after t s.book changes ≡ Some next.book → 1 ≤ slice_index words next_word → slice_index words next_word + 1 < 2 ^ 64 → length old ≡ min (slice_index words next_word) 32 →
+      ((y : ℕ) → t ≢ y → NoneBorn changes y → Relies y s.book next.book) → ChildAt job (child_of arch changes) → CountsBy t past s.book a (answer words a) changes →
+      Enlisted job now s next old (with_child (slice_set old t thread) (child_of arch changes)) t thread changes
   enlisted words a arch past changes left size shape is least room number rely waits (no_count d n none) =
       let same = ap (λ (l : List ℕ). slice_index l next_word) left ∙ unaltered a words next_word n in
       subst (λ o. Enlisted job now s next old (with_child (slice_set old t thread) (born arch o)) t thread changes) (sym none)
@@ -244,7 +251,8 @@ data Whose (job : JobData) (s next : State) (old : List Thread) (t : ℕ) (threa
   other : t ≢ y → slice_get old y ≡ Some x → NoneBorn changes y → Whose job s next old t thread changes y x
   newcomer : IsNewborn job next y x → Whose job s next old t thread changes y x
 
-whose : {job : JobData} {now : List ℕ} {s next : State} {old new : List Thread} {t : ℕ} {thread : Thread} {changes : List Change} (p : Enlisted job now s next old new t thread changes) (y : ℕ) (x : Thread) → slice_get new y ≡ Some x → Whose job s next old t thread changes y x
+whose : {job : JobData} {now : List ℕ} {s next : State} {old new : List Thread} {t : ℕ} {thread : Thread} {changes : List Change} (p : Enlisted job now s next old new t thread changes) (y : ℕ)
+    (x : Thread) → slice_get new y ≡ Some x → Whose job s next old t thread changes y x
 whose {new = new} {t = t} {thread = thread} p y x e = elim (eqb_tells y t) [
   | inl u ↦
       let here = p.here in
@@ -263,7 +271,8 @@ module _ (job : JobData) (j : IsJob job) (m : Machine) (t : ℕ) (s : State) (th
   abbrev pub changes_now : List Change
   changes_now = next_changes job thread.core (answer m.words a)
 
-  stands_after : (new : List Thread) (d : Led job m.words t s thread.core a) → thread.core.arch.count < job.limit → Enlisted job (after m.words a) s d.next m.threads new t moved changes_now → Invariant job (machine (after m.words a) new) d.next
+  stands_after : (new : List Thread) (d : Led job m.words t s thread.core a) → thread.core.arch.count < job.limit → Enlisted job (after m.words a) s d.next m.threads new t moved changes_now →
+      Invariant job (machine (after m.words a) new) d.next
   stands_after new d low p =
       let inside = slice_get_within m.threads t thread e in
       record {
@@ -308,7 +317,8 @@ module _ (job : JobData) (j : IsJob job) (m : Machine) (t : ℕ) (s : State) (th
       count_by d low y x (other n q none) = st.paid.counts y x q
       count_by d low y x (newcomer c) = let zero = c.count in omega arith
 
-      made_by : {new : List Thread} (d : Led job m.words t s thread.core a) → Enlisted job (after m.words a) s d.next m.threads new t moved changes_now → (y : ℕ) (x : Thread) → Whose job s d.next m.threads t moved changes_now y x → HasMade x.core.arch.made d.next.book
+      made_by : {new : List Thread} (d : Led job m.words t s thread.core a) → Enlisted job (after m.words a) s d.next m.threads new t moved changes_now → (y : ℕ) (x : Thread) →
+          Whose job s d.next m.threads t moved changes_now y x → HasMade x.core.arch.made d.next.book
       made_by d p y x (own u is) = subst (λ (z : Thread). HasMade z.core.arch.made d.next.book) is (subst (λ n. HasMade n d.next.book) (sym d.made) (p.bounds thread.core.arch.made (st.made t thread e)))
       made_by d p y x (other n q none) = p.bounds x.core.arch.made (st.made y x q)
       made_by d p y x (newcomer c) = c.made
@@ -321,11 +331,13 @@ module _ (job : JobData) (j : IsJob job) (m : Machine) (t : ℕ) (s : State) (th
       let size = st.holds.size in
       let bore = child_taken job thread.core (answer m.words a) a changes w in
       let waits = subst (ChildAt job) bore (child_at job thread.core (answer m.words a) r.waits) in
-      let p = enlisted job j (after m.words a) s d.next m.threads t moved inside m.words a thread.core.arch (trail_of job thread.core) changes_now refl size st.holds.sound.book.shape d.is st.paid.least before.nexts st.paid.number d.others waits (d.owed.counts m.words refl st.holds) in
+      let p = enlisted job j (after m.words a) s d.next m.threads t moved inside m.words a thread.core.arch
+      (trail_of job thread.core) changes_now refl size st.holds.sound.book.shape d.is st.paid.least before.nexts st.paid.number d.others waits (d.owed.counts m.words refl st.holds) in
       record {
         next = d.next;
         is = d.is;
-        stands = subst (λ o. Invariant job (machine (after m.words a) (with_child (slice_set m.threads t moved) o)) d.next) (sym bore) (stands_after (with_child (slice_set m.threads t moved) (child_of thread.core.arch changes_now)) d r.waits.count p);
+        stands = subst (λ o. Invariant job (machine (after m.words a) (with_child (slice_set m.threads t moved) o)) d.next) (sym bore)
+            (stands_after (with_child (slice_set m.threads t moved) (child_of thread.core.arch changes_now)) d r.waits.count p);
         returns = d.returns;
         restores = d.restores;
         reads = λ k l own e'.

@@ -50,7 +50,8 @@ append_was : {r : Region} {b : Book} → Appends r b → Was b (append r b)
 append_was {b = b} a = append_all a (λ i r. IsKept r.holder → IsKept (region b i).holder) (λ k. absurd (new_kept a k)) (λ i n k. k)
 
 -- a region of this start gets a holder
-hand_was : {s start : ℕ} {es : List Entry} {g : Holder} {b : Book} → Hands s es g b → (region b s).start ≡ start → (i : ℕ) → IsKept (region (hand s es g b) i).holder → IsKept (region b i).holder ⊎ ((i < length b.regions) × (start ≡ (region b i).start))
+hand_was : {s start : ℕ} {es : List Entry} {g : Holder} {b : Book} → Hands s es g b → (region b s).start ≡ start → (i : ℕ) → IsKept (region (hand s es g b) i).holder →
+    IsKept (region b i).holder ⊎ ((i < length b.regions) × (start ≡ (region b i).start))
 hand_was {start = start} {b = b} h at =
     hand_all h (λ i r. IsKept r.holder → IsKept (region b i).holder ⊎ ((i < length b.regions) × (start ≡ (region b i).start))) (λ _. inr (h.there, sym at)) (λ i n k. inl k)
 

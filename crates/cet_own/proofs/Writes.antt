@@ -47,7 +47,8 @@ word_of_same f g a (Previous s) h = ap (λ n. n + 3) (h s (grind (arith, nat_tes
 word_of_same f g a Blank h = refl
 
 -- a list stands in other words and by other tops, where its words and the tops that it names are as they were
-pub stack_agrees : (words words' : List ℕ) (f g : ℕ → ℕ) (a : ℕ) (es : List Entry) → a % 8 ≡ 0 → ((x : ℕ) → a ≤ x → x < a + 8 * length es → x % 8 ≡ 0 → slot_word words' x ≡ slot_word words x) → ((s : ℕ) → links s es ≢ 0 → g s ≡ f s) → Stack words f a es → Stack words' g a es
+pub stack_agrees : (words words' : List ℕ) (f g : ℕ → ℕ) (a : ℕ) (es : List Entry) → a % 8 ≡ 0 → ((x : ℕ) → a ≤ x → x < a + 8 * length es → x % 8 ≡ 0 → slot_word words' x ≡ slot_word words x) →
+    ((s : ℕ) → links s es ≢ 0 → g s ≡ f s) → Stack words f a es → Stack words' g a es
 stack_agrees words words' f g a [] even w t h = tt
 stack_agrees words words' f g a (e ∷ es) even w t h = (
   w a (omega arith) (omega arith) even ∙ h.0 ∙ sym (word_of_same f g a e (λ s p. t s (let q : one (is_previous s e) ≡ 1 = rw p refl in omega arith))),
@@ -55,7 +56,9 @@ stack_agrees words words' f g a (e ∷ es) even w t h = (
 )
 
 -- The old lists stand by the new tops, where only the top of region m may have changed, and no entry leads to m.
-pub list_kept : (words words' : List ℕ) (b next : Book) (m i : ℕ) → Shape b → ((x : ℕ) → links m (region b x).entries ≡ 0) → ((s : ℕ) → s ≢ m → tops next s ≡ tops b s) → ((a : ℕ) → top (region b i) ≤ a → a < (region b i).end → a % 8 ≡ 0 → slot_word words' a ≡ slot_word words a) → Stack words (tops b) (top (region b i)) (region b i).entries → Stack words' (tops next) (top (region b i)) (region b i).entries
+pub list_kept : (words words' : List ℕ) (b next : Book) (m i : ℕ) → Shape b → ((x : ℕ) → links m (region b x).entries ≡ 0) → ((s : ℕ) → s ≢ m → tops next s ≡ tops b s) →
+    ((a : ℕ) → top (region b i) ≤ a → a < (region b i).end → a % 8 ≡ 0 → slot_word words' a ≡ slot_word words a) → Stack words (tops b) (top (region b i)) (region b i).entries →
+    Stack words' (tops next) (top (region b i)) (region b i).entries
 list_kept words words' b next m i shape none same w h =
     let o = (shape.fits i).room in
     stack_agrees words words' (tops b) (tops next) (top (region b i)) (region b i).entries (top_even b i shape)
@@ -96,14 +99,16 @@ slot_out words w a x out pa =
     get_or-set_other words w (slot a) x 0 other
 
 -- a write below the top of region k leaves the words of every list
-pub list_free : (words : List ℕ) (b : Book) (p x k i a : ℕ) → Shape b → Place p → In (region b k) p → p < top (region b k) → top (region b i) ≤ a → a < (region b i).end → a % 8 ≡ 0 → slot_word (slice_set words (slot p) x) a ≡ slot_word words a
+pub list_free : (words : List ℕ) (b : Book) (p x k i a : ℕ) → Shape b → Place p → In (region b k) p → p < top (region b k) → top (region b i) ≤ a → a < (region b i).end → a % 8 ≡ 0 →
+    slot_word (slice_set words (slot p) x) a ≡ slot_word words a
 list_free words b p x k i a s pp ip free lo hi even =
     let o = (s.fits i).room in
     let inn : In (region b i) a = record { low = omega arith; high = hi } in
     let n : a ≢ p = λ u. (let q : i ≡ k = in_one b i k p s (subst (In (region b i)) u inn) ip in let lo' : top (region b k) ≤ a = subst (λ n. top (region b n) ≤ a) q lo in omega arith) in
     slot_other words p a x pp (in_place b i a s inn even) n
 
-pub list_out : (words : List ℕ) (b : Book) (w x i a : ℕ) → Shape b → (w < first_shadow_word) ⊎ (first_kernel_word ≤ w) → top (region b i) ≤ a → a < (region b i).end → a % 8 ≡ 0 → slot_word (slice_set words w x) a ≡ slot_word words a
+pub list_out : (words : List ℕ) (b : Book) (w x i a : ℕ) → Shape b → (w < first_shadow_word) ⊎ (first_kernel_word ≤ w) → top (region b i) ≤ a → a < (region b i).end → a % 8 ≡ 0 →
+    slot_word (slice_set words w x) a ≡ slot_word words a
 list_out words b w x i a s out lo hi even =
     let o = (s.fits i).room in
     let inn : In (region b i) a = record { low = omega arith; high = hi } in

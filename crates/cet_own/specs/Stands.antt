@@ -1,6 +1,7 @@
 -- The ownership invariant: what holds of words, threads and book at each moment of each run. It is the only definition that
 -- has both words and lists. Source: own.
-use Rattle.std.specs.Prelude.{◌≡◌, ◌≢◌, ℕ, ◌+◌, ◌-◌, ◌*◌, ◌%◌, ◌<◌, ◌≤◌, ◌⊎◌, ◌↔◌, true, List, [], ◌∷◌, length, slice_index, slice_get, sum_by, min, bit_or, if◌then◌else◌, Option, Some, None, is_some}
+use Rattle.std.specs.Prelude.{◌≡◌, ◌≢◌, ℕ, ◌+◌, ◌-◌, ◌*◌, ◌%◌, ◌<◌, ◌≤◌, ◌⊎◌, ◌↔◌, true, List, [], ◌∷◌, length, slice_index}
+use Rattle.std.specs.Prelude.{slice_get, sum_by, min, bit_or, if◌then◌else◌, Option, Some, None, is_some}
 use Rattle.cet_words.specs.Entries.{entry_of}
 use Rattle.cet_words.specs.Bytes.{code_byte}
 use Rattle.cet_words.specs.Job.{JobData, ImageData}
@@ -149,7 +150,8 @@ pub record SupervisorTokens (job : JobData) (m : Machine) (b : Book) : Type 0 wh
   -- a supervisor stack's token is busy where the stack has a holder
   pub token : (k : ℕ) → k < 8 → slice_index m.words (token_word k) ≡ token k + busy (stack_of b k)
   -- and below the token of a stack that a thread holds stands the kernel's return address, from its store there on
-  pub below : (t : ℕ) (thread : Thread) → slice_get m.threads t ≡ Some thread → (k : ℕ) → stack_of b k ≡ Some t → is_some (left_in (trail_of job thread.core) (token_word k - 1)) ≡ true → slice_index m.words (token_word k - 1) ≡ kernel_return
+  pub below : (t : ℕ) (thread : Thread) → slice_get m.threads t ≡ Some thread → (k : ℕ) → stack_of b k ≡ Some t → is_some (left_in (trail_of job thread.core) (token_word k - 1)) ≡ true →
+      slice_index m.words (token_word k - 1) ≡ kernel_return
 
 pub record SteadyRow (job : JobData) (words : List ℕ) (b : Book) (t : ℕ) (core : Core) : Type 0 where
   -- what a row has read or written in a word of its thread's own is still there

@@ -23,7 +23,8 @@ pub child_at : (job : JobData) (core : Core) (answer : ℕ) → Waits job core �
 child_at job core answer h = at_child job (taken job core answer).child (child_waits job core answer h)
 
 -- the child is that of the changes that come with the access
-pub child_taken : (job : JobData) (core : Core) (answer : ℕ) (a : Access) (own : ℕ → List Change) → row_played job core.arch core.vals ≡ Wants a own → (taken job core answer).child ≡ child_of core.arch (next_changes job core answer)
+pub child_taken : (job : JobData) (core : Core) (answer : ℕ) (a : Access) (own : ℕ → List Change) → row_played job core.arch core.vals ≡ Wants a own →
+    (taken job core answer).child ≡ child_of core.arch (next_changes job core answer)
 unfolding taken
 child_taken job core answer a own e =
     ap (λ c. (answered job core answer c).child) e ∙ sym (ap (λ c. child_of core.arch (changes_of c answer)) e)

@@ -39,7 +39,8 @@ exchange_part : (job : JobData) (arch : Arch) (work : Work) (entry : ℕ) → pl
 unfolding entered gate_in read_entry compare_exchange_as ◌>>=◌
 exchange_part job arch work entry = refl
 
-found_part : (job : JobData) (arch : Arch) (work : Work) (entry found : ℕ) (b : Bool) → (found == token (stack_of job arch)) ≡ b → play (entered job arch work) (suc (suc zero)) (entry ∷ found ∷ []) ≡ found_by arch (stack_of job arch) found b
+found_part : (job : JobData) (arch : Arch) (work : Work) (entry found : ℕ) (b : Bool) → (found == token (stack_of job arch)) ≡ b →
+    play (entered job arch work) (suc (suc zero)) (entry ∷ found ∷ []) ≡ found_by arch (stack_of job arch) found b
 unfolding entered gate_in read_entry store_as compare_exchange_as ◌>>=◌ found_by
 found_part job arch work entry found true e =
     ap (λ (b : Bool). play (cond b (store (token_word (stack_of job arch) - 1) kernel_return >>= (λ _. done None)) (done (Some found)) >>= inside arch (stack_of job arch) work) zero []) e
@@ -49,7 +50,8 @@ found_part job arch work entry found false e =
 -- ---- the row of a thread there
 
 -- a pending signal enters the kernel in place of the instruction
-signal_part : (job : JobData) (arch : Arch) (signal pending n : ℕ) (values : List ℕ) → arch.due ≡ None → due_signal job arch ≡ None → pending_signal pending arch.mask ≡ Some signal → play (row job arch) (suc (suc n)) (0 ∷ pending ∷ values) ≡ play (entered job arch (pending_delivery arch signal)) n values
+signal_part : (job : JobData) (arch : Arch) (signal pending n : ℕ) (values : List ℕ) → arch.due ≡ None → due_signal job arch ≡ None → pending_signal pending arch.mask ≡ Some signal →
+    play (row job arch) (suc (suc n)) (0 ∷ pending ∷ values) ≡ play (entered job arch (pending_delivery arch signal)) n values
 unfolding boundary load_as ◌>>=◌
 signal_part job arch signal pending n values due unposted unmasked =
     ap (λ (d : Option Fault). play (row_from job arch d) (suc (suc n)) (0 ∷ pending ∷ values)) due

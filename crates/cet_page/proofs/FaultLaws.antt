@@ -48,7 +48,8 @@ keeps_words : (a : Access) (v : ℕ) (changes : List Change) → writes a v ≡ 
 keeps_words a v changes e words h = unwritten_words words a (ap (writes a) h ∙ e)
 
 -- a script that has come to a fault has changed no word, where nothing before it has
-clean_from : {A : Type 0} (P : A → Type 0) (wrote : Bool) (s : Script A) (n k i : ℕ) (values : List ℕ) (past : List Visit) (e : Fault) → Walks n k wrote P s → play s i values ≡ Faulted e → All KeepsWords past → All KeepsWords (trail i s values past)
+clean_from : {A : Type 0} (P : A → Type 0) (wrote : Bool) (s : Script A) (n k i : ℕ) (values : List ℕ) (past : List Visit) (e : Fault) → Walks n k wrote P s → play s i values ≡ Faulted e →
+    All KeepsWords past → All KeepsWords (trail i s values past)
 clean_from P wrote (done x) n k i values past e h p c = cc
 clean_from P wrote (fault f) n k zero values past e h p c = c
 clean_from P wrote (fault f) n k (suc i) values past e h p c = c
@@ -83,7 +84,9 @@ same_access job core None a b own w h =
     let o : wanted (row_played job core.arch core.vals) ≡ Some b = ap wanted w in
     cc
 
-came_faults : (job : JobData) (core : Core) (answer : ℕ) (b : Access) (own : ℕ → List Change) (r : Record) (name : FaultName) (c : Played Finish) → Waits job core → row_played job core.arch core.vals ≡ Wants b own → row_played job core.arch (vals_after core.vals b answer) ≡ c → OnOver (Ends job (unheld core.arch)) c → noted_by core.arch c ≡ Some r → r.what ≡ what.Fault name → Faults job core (core_by job core.arch (held_after (own answer) core.arch.held) (vals_after core.vals b answer) c) answer r
+came_faults : (job : JobData) (core : Core) (answer : ℕ) (b : Access) (own : ℕ → List Change) (r : Record) (name : FaultName) (c : Played Finish) → Waits job core →
+    row_played job core.arch core.vals ≡ Wants b own → row_played job core.arch (vals_after core.vals b answer) ≡ c → OnOver (Ends job (unheld core.arch)) c → noted_by core.arch c ≡ Some r →
+    r.what ≡ what.Fault name → Faults job core (core_by job core.arch (held_after (own answer) core.arch.held) (vals_after core.vals b answer) c) answer r
 unfolding next_access
 came_faults job core answer b own r name (Wants a changes) h w e o n f = cc
 came_faults job core answer b own r name (Faulted x) h w e o n f = record {
@@ -102,23 +105,28 @@ came_faults job core answer b own r name (Faulted x) h w e o n f = record {
       let clean = fault_clean (Ends job start) (row job start) 0 0 (vals_after core.vals b answer).accesses (vals_after core.vals b answer).values x (walk_row job start).walks e in
       subst (λ y. All KeepsWords (row_trail job core.arch (vals_after core.vals y answer))) (sym (same_access job core core.over a b own w next)) clean;
 }
-came_faults job core answer b own r name (Completed (Noted next noted) left values) h w e o n f = let t : tells noted.what ≡ false = (let same : noted ≡ r = cc in ap (λ (x : Record). tells x.what) same ∙ ap tells f) in let u = o.tells in cc
+came_faults job core answer b own r name (Completed (Noted next noted) left values) h w e o n f = let t : tells noted.what ≡ false =
+    (let same : noted ≡ r = cc in ap (λ (x : Record). tells x.what) same ∙ ap tells f) in let u = o.tells in cc
 came_faults job core answer b own r name (Completed (Posted next) left values) h w e o n f = cc
-came_faults job core answer b own r name (Completed (Exited next noted status) left values) h w e o n f = let t : tells noted.what ≡ false = (let same : noted ≡ r = cc in ap (λ (x : Record). tells x.what) same ∙ ap tells f) in let u = o.tells in cc
+came_faults job core answer b own r name (Completed (Exited next noted status) left values) h w e o n f = let t : tells noted.what ≡ false =
+    (let same : noted ≡ r = cc in ap (λ (x : Record). tells x.what) same ∙ ap tells f) in let u = o.tells in cc
 came_faults job core answer b own r name (Completed Stopped left values) h w e o n f = cc
 
-answered_faults : (job : JobData) (core : Core) (answer : ℕ) (r : Record) (name : FaultName) (c : Played Finish) → Waits job core → row_played job core.arch core.vals ≡ c → (answered job core answer c).noted ≡ Some r → r.what ≡ what.Fault name → Faults job core (answered job core answer c).core answer r
+answered_faults : (job : JobData) (core : Core) (answer : ℕ) (r : Record) (name : FaultName) (c : Played Finish) → Waits job core → row_played job core.arch core.vals ≡ c →
+    (answered job core answer c).noted ≡ Some r → r.what ≡ what.Fault name → Faults job core (answered job core answer c).core answer r
 answered_faults job core answer r name (Wants b own) h w n f =
     let seen = vals_after core.vals b answer in
     came_faults job core answer b own r name (row_played job core.arch seen) h w refl (over_play (Ends job (unheld core.arch)) false (row job (unheld core.arch)) 0 0 seen.accesses seen.values (walk_row job (unheld core.arch)).walks) n f
 answered_faults job core answer r name (Faulted e) h w n f = cc
 answered_faults job core answer r name (Completed x left values) h w n f = cc
 
-taken_faults : (job : JobData) (core : Core) (answer : ℕ) (r : Record) (name : FaultName) → Waits job core → (taken job core answer).noted ≡ Some r → r.what ≡ what.Fault name → Faults job core (taken job core answer).core answer r
+taken_faults : (job : JobData) (core : Core) (answer : ℕ) (r : Record) (name : FaultName) → Waits job core → (taken job core answer).noted ≡ Some r → r.what ≡ what.Fault name →
+    Faults job core (taken job core answer).core answer r
 unfolding taken
 taken_faults job core answer r name h n f = answered_faults job core answer r name (row_played job core.arch core.vals) h refl n f
 
 -- the same of a thread and a record by other names
-pub faults_of : (job : JobData) (core new : Core) (answer : ℕ) (noted : Option Record) → IsCore job core → core.over ≡ None → new ≡ (taken job core answer).core → noted ≡ (taken job core answer).noted → (r : Record) (name : FaultName) → noted ≡ Some r → r.what ≡ what.Fault name → Faults job core new answer r
+pub faults_of : (job : JobData) (core new : Core) (answer : ℕ) (noted : Option Record) → IsCore job core → core.over ≡ None → new ≡ (taken job core answer).core →
+    noted ≡ (taken job core answer).noted → (r : Record) (name : FaultName) → noted ≡ Some r → r.what ≡ what.Fault name → Faults job core new answer r
 faults_of job core new answer noted state going e n r name s f =
     subst (λ c. Faults job core c answer r) (sym e) (taken_faults job core answer r name (waiting job core state going) (sym n ∙ s) f)

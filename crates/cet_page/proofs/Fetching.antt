@@ -21,18 +21,22 @@ unfolding fetchable
 no_room segments addr left e = rw e refl
 
 -- the byte at `at` goes to its place
-pub fetch_more : (segments : List Segment) (addr at b : ℕ) (buffer : List ℕ) → at < length buffer → code_byte segments (addr + at) ≡ Some b → take at buffer ++ fetchable segments (addr + at) (length buffer - at) ≡ fetchable segments addr (length buffer) → take (at + 1) (set buffer at b) ++ fetchable segments (addr + (at + 1)) (length (set buffer at b) - (at + 1)) ≡ fetchable segments addr (length (set buffer at b))
+pub fetch_more : (segments : List Segment) (addr at b : ℕ) (buffer : List ℕ) → at < length buffer → code_byte segments (addr + at) ≡ Some b →
+    take at buffer ++ fetchable segments (addr + at) (length buffer - at) ≡ fetchable segments addr (length buffer) →
+    take (at + 1) (set buffer at b) ++ fetchable segments (addr + (at + 1)) (length (set buffer at b) - (at + 1)) ≡ fetchable segments addr (length (set buffer at b))
 fetch_more segments addr at b buffer l h e =
     let more = next_byte segments (addr + at) (length buffer - at) (length buffer - (at + 1)) (addr + (at + 1)) b (omega arith) (omega arith) h in
     let all : take at buffer ++ (b ∷ fetchable segments (addr + (at + 1)) (length buffer - (at + 1))) ≡ fetchable segments addr (length buffer) = ap (λ rest. take at buffer ++ rest) (sym more) ∙ e in
     rw (length-set buffer at b, take_more_set buffer at b l, append_assoc) all
 
-pub fetch_none : (segments : List Segment) (addr at : ℕ) (buffer : List ℕ) → at < length buffer → code_byte segments (addr + at) ≡ None → take at buffer ++ fetchable segments (addr + at) (length buffer - at) ≡ fetchable segments addr (length buffer) → take at buffer ≡ fetchable segments addr (length buffer)
+pub fetch_none : (segments : List Segment) (addr at : ℕ) (buffer : List ℕ) → at < length buffer → code_byte segments (addr + at) ≡ None →
+    take at buffer ++ fetchable segments (addr + at) (length buffer - at) ≡ fetchable segments addr (length buffer) → take at buffer ≡ fetchable segments addr (length buffer)
 fetch_none segments addr at buffer l h e =
     let none = no_byte segments (addr + at) (length buffer - at) (length buffer - at - 1) (omega arith) h in
     sym (append-nil (take at buffer)) ∙ ap (λ rest. take at buffer ++ rest) (sym none) ∙ e
 
-pub fetch_full : (segments : List Segment) (addr at : ℕ) (buffer : List ℕ) → length buffer ≤ at → at ≤ length buffer → take at buffer ++ fetchable segments (addr + at) (length buffer - at) ≡ fetchable segments addr (length buffer) → take (length buffer) buffer ≡ fetchable segments addr (length buffer)
+pub fetch_full : (segments : List Segment) (addr at : ℕ) (buffer : List ℕ) → length buffer ≤ at → at ≤ length buffer →
+    take at buffer ++ fetchable segments (addr + at) (length buffer - at) ≡ fetchable segments addr (length buffer) → take (length buffer) buffer ≡ fetchable segments addr (length buffer)
 fetch_full segments addr at buffer l m e =
     let none = no_room segments (addr + at) (length buffer - at) (omega arith) in
     let same : length buffer ≡ at = omega arith in

@@ -11,7 +11,8 @@ use Rattle.cet_page.specs.declared.finishes.Leaving.{Leaving}
 use Rattle.cet_page.specs.declared.finishes.Leaving.TheVariants as leaving
 
 -- what comes of the way out is the same, whatever ends with it
-pub comes_out : (ends : Leaving) (k n : ℕ) (values : List ℕ) (result : Result (Unit {0}) Suspended) (left : ℕ) (rest : List ℕ) → Refines (play (gate_out leaving.Back k) n values) result left rest → Refines (play (gate_out ends k) n values) result left rest
+pub comes_out : (ends : Leaving) (k n : ℕ) (values : List ℕ) (result : Result (Unit {0}) Suspended) (left : ℕ) (rest : List ℕ) → Refines (play (gate_out leaving.Back k) n values) result left rest →
+    Refines (play (gate_out ends k) n values) result left rest
 unfolding gate_out ◌>>=◌ load_as compare_exchange_as
 comes_out leaving.Back k n values result left rest h = h
 comes_out ends k zero values result left rest h = h

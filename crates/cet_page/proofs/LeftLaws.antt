@@ -18,11 +18,15 @@ use Rattle.cet_page.proofs.WithinLaws.{spent}
 use Rattle.cet_page.specs.declared.finishes.Finish.{Finish}
 use Rattle.cet_page.specs.declared.finishes.Finish.TheVariants.{Noted, Posted, Exited, Stopped}
 
-falls_recorded : (job : JobData) (next : Arch) (b : Bool) (count posted n : ℕ) → next.count ≡ count + 1 → next.posted ≡ posted → count < job.limit → n < 4096 → left_of job (record { arch = next; vals = no_vals; over = if b then Some ending.Limit else None }) (if b then Some ending.Limit else None) < 4096 * (job.limit - count) + 4096 * (length job.signals - posted) + (4096 - n)
+falls_recorded : (job : JobData) (next : Arch) (b : Bool) (count posted n : ℕ) → next.count ≡ count + 1 → next.posted ≡ posted → count < job.limit → n < 4096 →
+    left_of job (record { arch = next; vals = no_vals; over = if b then Some ending.Limit else None }) (if b then Some ending.Limit else None) < 4096 * (job.limit - count) + 4096 *
+    (length job.signals - posted) + (4096 - n)
 falls_recorded job next true count posted n e p c l = omega arith
 falls_recorded job next false count posted n e p c l = omega arith
 
-falls_by : (job : JobData) (arch : Arch) (held : Option ℕ) (seen : ValsData) (n : ℕ) → arch.count < job.limit → n < 4096 → seen.accesses ≡ n + 1 → (r : Played Finish) → OnOver (Ends job (unheld arch)) r → left_of job (core_by job arch held seen r) (core_by job arch held seen r).over < 4096 * (job.limit - arch.count) + 4096 * (length job.signals - arch.posted) + (4096 - n)
+falls_by : (job : JobData) (arch : Arch) (held : Option ℕ) (seen : ValsData) (n : ℕ) → arch.count < job.limit → n < 4096 → seen.accesses ≡ n + 1 → (r : Played Finish) →
+    OnOver (Ends job (unheld arch)) r → left_of job (core_by job arch held seen r) (core_by job arch held seen r).over < 4096 * (job.limit - arch.count) + 4096 * (length job.signals - arch.posted) +
+    (4096 - n)
 falls_by job arch held seen n c l e (Wants a changes) k = omega arith
 falls_by job arch held seen n c l e (Faulted f) k = falls_recorded job (kept_by arch held (faulted arch f)) (arch.count + 1 == job.limit) arch.count arch.posted n refl refl c l
 falls_by job arch held seen n c l e (Completed (Noted next noted) left values) k = falls_recorded job (kept_by arch held next) (next.count == job.limit) arch.count arch.posted n k.count k.posted c l
@@ -34,13 +38,16 @@ falls_by job arch held seen n c l e (Completed (Posted next) left values) k =
 falls_by job arch held seen n c l e (Completed (Exited next noted status) left values) k = omega arith
 falls_by job arch held seen n c l e (Completed Stopped left values) k = omega arith
 
-falls_answered : (job : JobData) (core : Core) (answer : ℕ) → Waits job core → (r : Played Finish) (a : Access) (changes : ℕ → List Change) → r ≡ Wants a changes → left_of job (answered job core answer r).core (answered job core answer r).core.over < 4096 * (job.limit - core.arch.count) + 4096 * (length job.signals - core.arch.posted) + (4096 - core.vals.accesses)
+falls_answered : (job : JobData) (core : Core) (answer : ℕ) → Waits job core → (r : Played Finish) (a : Access) (changes : ℕ → List Change) → r ≡ Wants a changes →
+    left_of job (answered job core answer r).core (answered job core answer r).core.over < 4096 * (job.limit - core.arch.count) + 4096 * (length job.signals - core.arch.posted) +
+    (4096 - core.vals.accesses)
 falls_answered job core answer h (Wants b own) a changes w =
     let seen = vals_after core.vals b answer in
     let arch = unheld core.arch in
     let r = spent_fits (Ends job arch) false (row job arch) 0 0 core.vals.accesses core.vals.values h.waits.0 h.waits.1 (walk_row job arch).walks (spent job core h) h.waits.2 in
     let fewer : core.vals.accesses < 4096 = omega arith in
-    falls_by job core.arch (held_after (own answer) core.arch.held) seen core.vals.accesses h.count fewer refl (row_played job core.arch seen) (over_play (Ends job arch) false (row job arch) 0 0 seen.accesses seen.values (walk_row job arch).walks)
+    falls_by job core.arch (held_after (own answer) core.arch.held) seen core.vals.accesses h.count fewer refl (row_played job core.arch seen)
+    (over_play (Ends job arch) false (row job arch) 0 0 seen.accesses seen.values (walk_row job arch).walks)
 falls_answered job core answer h (Faulted f) a changes w = cc
 falls_answered job core answer h (Completed x left values) a changes w = cc
 

@@ -75,7 +75,8 @@ unfolding taken
 number_taken job core answer = number_answered job core answer (row_played job core.arch core.vals)
 
 -- a thread has moved on, and kept its number
-set_there : (threads : List Thread) (t k : ℕ) (was x thread : Thread) (child : Option Core) → slice_get threads t ≡ Some was → x.core.arch.number ≡ was.core.arch.number → slice_get threads k ≡ Some thread → IsThere (with_child (slice_set threads t x) child) k thread.core.arch.number
+set_there : (threads : List Thread) (t k : ℕ) (was x thread : Thread) (child : Option Core) → slice_get threads t ≡ Some was → x.core.arch.number ≡ was.core.arch.number →
+    slice_get threads k ≡ Some thread → IsThere (with_child (slice_set threads t x) child) k thread.core.arch.number
 set_there threads t k was x thread child at same e = elim (eqb_tells k t) [
   | inl u ↦
       let old : slice_get threads t ≡ Some thread = subst (λ n. slice_get threads n ≡ Some thread) u.1 e in

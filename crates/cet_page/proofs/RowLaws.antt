@@ -16,7 +16,9 @@ use Rattle.cet_page.specs.Posting.{due_signal, pending_signal}
 use Rattle.cet_page.specs.Row.{row, row_from, between, after_signals, execute, fetched, address_after, instruction, boundary, instruction_bytes, next_address}
 use Rattle.cet_page.specs.PartsOfRow.{PartsOfRow}
 
-instruction_part : (job : JobData) (arch : Arch) (i : Instr) (len pending n : ℕ) (values : List ℕ) → arch.due ≡ None → due_signal job arch ≡ None → pending_signal pending arch.mask ≡ None → canonical arch.rip ≡ true → decoded (instruction_bytes job arch) ≡ Read i len → play (row job arch) (suc (suc n)) (0 ∷ pending ∷ values) ≡ play (execute job arch i (next_address job arch)) n values
+instruction_part : (job : JobData) (arch : Arch) (i : Instr) (len pending n : ℕ) (values : List ℕ) → arch.due ≡ None → due_signal job arch ≡ None → pending_signal pending arch.mask ≡ None →
+    canonical arch.rip ≡ true → decoded (instruction_bytes job arch) ≡ Read i len → play (row job arch) (suc (suc n)) (0 ∷ pending ∷ values) ≡ play
+    (execute job arch i (next_address job arch)) n values
 unfolding boundary instruction load_as ◌>>=◌
 instruction_part job arch i len pending n values due unposted unmasked rip reads =
     let bytes = instruction_bytes job arch in
@@ -27,7 +29,8 @@ instruction_part job arch i len pending n values due unposted unmasked rip reads
     ∙ ap (λ (d : Decoding). play (fetched job arch bytes d) n values) reads
     ∙ ap (λ (d : Decoding). play (execute job arch i (address_after arch d)) n values) (sym reads)
 
-kernel_part : (job : JobData) (arch : Arch) (work : Work) (entry n : ℕ) (values : List ℕ) → play (entered job arch work) (suc (suc (suc n))) (entry ∷ token (stack_of job arch) ∷ values) ≡ play (work >>= leave (stack_of job arch)) n values
+kernel_part : (job : JobData) (arch : Arch) (work : Work) (entry n : ℕ) (values : List ℕ) →
+    play (entered job arch work) (suc (suc (suc n))) (entry ∷ token (stack_of job arch) ∷ values) ≡ play (work >>= leave (stack_of job arch)) n values
 unfolding entered gate_in read_entry compare_exchange_as store_as ◌>>=◌
 kernel_part job arch work entry n values =
     let k = stack_of job arch in

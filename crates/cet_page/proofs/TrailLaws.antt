@@ -16,7 +16,8 @@ one_more : (l vs all : List ℕ) (v : ℕ) → all ≡ (l ++ v ∷ []) ++ vs →
 one_more l vs all v e = e ∙ append_assoc l (v ∷ []) vs
 
 -- a trail that goes the way of the script shows as many accesses, and the answers kept of them
-shows : {A : Type 0} (P : A → Type 0) (wrote : Bool) (s : Script A) (n k i : ℕ) (vs : List ℕ) (past : List Visit) → Walks n k wrote P s → Spent s i vs → ((vals_of (trail i s vs past)).accesses ≡ (vals_of past).accesses + i) × ((vals_of (trail i s vs past)).values ≡ (vals_of past).values ++ vs)
+shows : {A : Type 0} (P : A → Type 0) (wrote : Bool) (s : Script A) (n k i : ℕ) (vs : List ℕ) (past : List Visit) → Walks n k wrote P s → Spent s i vs →
+    ((vals_of (trail i s vs past)).accesses ≡ (vals_of past).accesses + i) × ((vals_of (trail i s vs past)).values ≡ (vals_of past).values ++ vs)
 shows P wrote s n k zero [] past h w = (omega arith, sym (append-nil (vals_of past).values))
 shows P wrote s n k zero (v ∷ vs) past h w = absurd w
 shows P wrote (done x) n k (suc i) vs past h w = absurd w
@@ -49,7 +50,8 @@ too_many l v vs e =
 one_less : (l vs all : List ℕ) (v : ℕ) → all ≡ l ++ v ∷ vs → all ≡ (l ++ v ∷ []) ++ vs
 one_less l vs all v e = e ∙ sym (append_assoc l (v ∷ []) vs)
 
-shown : {A : Type 0} (P : A → Type 0) (wrote : Bool) (s : Script A) (n k i : ℕ) (vs : List ℕ) (past : List Visit) → Walks n k wrote P s → (vals_of (trail i s vs past)).accesses ≡ (vals_of past).accesses + i → (vals_of (trail i s vs past)).values ≡ (vals_of past).values ++ vs → Spent s i vs
+shown : {A : Type 0} (P : A → Type 0) (wrote : Bool) (s : Script A) (n k i : ℕ) (vs : List ℕ) (past : List Visit) → Walks n k wrote P s →
+    (vals_of (trail i s vs past)).accesses ≡ (vals_of past).accesses + i → (vals_of (trail i s vs past)).values ≡ (vals_of past).values ++ vs → Spent s i vs
 shown P wrote s n k zero [] past h c l = tt
 shown P wrote s n k zero (v ∷ vs) past h c l = too_many (vals_of past).values v vs l
 shown P wrote (done x) n k (suc i) vs past h c l = too_few (vals_of past).accesses i c
@@ -68,7 +70,8 @@ trail_spent P s n k seen h e = shown P false s n k seen.accesses seen.values [] 
 -- ---- one access more
 
 -- it stands first
-pub trail_more : {A : Type 0} (P : A → Type 0) (wrote : Bool) (s : Script A) (n k i : ℕ) (vs : List ℕ) (past : List Visit) (a : Access) (own : ℕ → List Change) (v : ℕ) → Walks n k wrote P s → Spent s i vs → play s i vs ≡ Wants a own → (w : ℕ) × (trail (suc i) s (kept_after vs a v) past ≡ visit a w (own v) ∷ trail i s vs past)
+pub trail_more : {A : Type 0} (P : A → Type 0) (wrote : Bool) (s : Script A) (n k i : ℕ) (vs : List ℕ) (past : List Visit) (a : Access) (own : ℕ → List Change) (v : ℕ) → Walks n k wrote P s →
+    Spent s i vs → play s i vs ≡ Wants a own → (w : ℕ) × (trail (suc i) s (kept_after vs a v) past ≡ visit a w (own v) ∷ trail i s vs past)
 trail_more P wrote (done x) n k i vs past a own v f h w = cc
 trail_more P wrote (fault e) n k i vs past a own v f h w = cc
 trail_more P wrote (ask b changes c) n k zero [] past a own v f h w =

@@ -133,7 +133,8 @@ pub record Walk {A : Type 0} (used kept : ℕ) (wrote : Bool) (P : A → Type 0)
 
 -- ---- one lemma for each part, with what follows it
 
-stores_walk : {A : Type 0} (used kept : ℕ) (wrote : Bool) (P : A → Type 0) (f : Unit {0} → Script A) (count word value step all : ℕ) → used + count ≡ all → ((w : Bool) → Walks all kept w P (f tt)) → Walks used kept wrote P (stores count word value step >>= f)
+stores_walk : {A : Type 0} (used kept : ℕ) (wrote : Bool) (P : A → Type 0) (f : Unit {0} → Script A) (count word value step all : ℕ) → used + count ≡ all → ((w : Bool) → Walks all kept w P (f tt)) →
+    Walks used kept wrote P (stores count word value step >>= f)
 unfolding ◌>>=◌ stores
 stores_walk used kept wrote P f zero word value step all e h = let same : all ≡ used = omega arith in subst (λ n. Walks n kept wrote P (f tt)) same (h wrote)
 stores_walk used kept wrote P f (suc count) word value step all e h = (no_birth [] refl, stores_walk (used + 1) kept true P f count (word + 1) (value + step) step all (omega arith) h)
@@ -209,16 +210,19 @@ module _ {A : Type 0} {used kept : ℕ} {wrote : Bool} {P : A → Type 0} (f : �
   walk_read_entry page h = record { walks = (refl, λ v. (no_birth [] refl, (h v).walks)) }
 
   -- changes that leave the supervisor stack alone
-  pub walk_load : (changes : ℕ → List Change) (word : ℕ) → ((v : ℕ) → BirthFits (changes v)) → ((v : ℕ) → moves (changes v) ≡ false) → ((v : ℕ) → Walk (used + 1) (kept + 1) (wrote || false) P (f v)) → Walk used kept wrote P (load_as changes word >>= f)
+  pub walk_load : (changes : ℕ → List Change) (word : ℕ) → ((v : ℕ) → BirthFits (changes v)) → ((v : ℕ) → moves (changes v) ≡ false) → ((v : ℕ) → Walk (used + 1) (kept + 1) (wrote || false) P (f v)) →
+      Walk used kept wrote P (load_as changes word >>= f)
   unfolding ◌>>=◌ load_as
   walk_load changes word c m h = record { walks = (refl, λ v. (c v, subst (λ w. Walks (used + 1) (kept + 1) w P (f v)) (unmoved wrote (moves (changes v)) false (m v)) (h v).walks)) }
 
-  pub walk_compare_exchange : (changes : ℕ → List Change) (word expected value : ℕ) → ((v : ℕ) → BirthFits (changes v)) → ((v : ℕ) → moves (changes v) ≡ false) → ((v : ℕ) → Walk (used + 1) (kept + 1) (wrote || (v == expected)) P (f v)) → Walk used kept wrote P (compare_exchange_as changes word expected value >>= f)
+  pub walk_compare_exchange : (changes : ℕ → List Change) (word expected value : ℕ) → ((v : ℕ) → BirthFits (changes v)) → ((v : ℕ) → moves (changes v) ≡ false) →
+      ((v : ℕ) → Walk (used + 1) (kept + 1) (wrote || (v == expected)) P (f v)) → Walk used kept wrote P (compare_exchange_as changes word expected value >>= f)
   unfolding ◌>>=◌ compare_exchange_as
   walk_compare_exchange changes word expected value c m h = record { walks = (refl, λ v. (c v, subst (λ w. Walks (used + 1) (kept + 1) w P (f v)) (unmoved wrote (moves (changes v)) (v == expected) (m v)) (h v).walks)) }
 
   -- any changes, where what follows may have been written before or not
-  pub walk_exchange_any : (changes : ℕ → List Change) (word expected value : ℕ) → ((v : ℕ) → BirthFits (changes v)) → ((w : Bool) (v : ℕ) → Walk (used + 1) (kept + 1) w P (f v)) → Walk used kept wrote P (compare_exchange_as changes word expected value >>= f)
+  pub walk_exchange_any : (changes : ℕ → List Change) (word expected value : ℕ) → ((v : ℕ) → BirthFits (changes v)) → ((w : Bool) (v : ℕ) → Walk (used + 1) (kept + 1) w P (f v)) →
+      Walk used kept wrote P (compare_exchange_as changes word expected value >>= f)
   unfolding ◌>>=◌ compare_exchange_as
   walk_exchange_any changes word expected value c h = record { walks = (refl, λ v. (c v, (h _ v).walks)) }
 
@@ -226,7 +230,8 @@ module _ {A : Type 0} {used kept : ℕ} {wrote : Bool} {P : A → Type 0} (f : �
   unfolding ◌>>=◌ swap
   walk_swap word value h = record { walks = (refl, λ v. (no_birth [] refl, (h v).walks)) }
 
-  pub walk_fetch_add : (changes : ℕ → List Change) (word value : ℕ) → ((v : ℕ) → BirthFits (changes v)) → ((v : ℕ) → moves (changes v) ≡ false) → ((v : ℕ) → Walk (used + 1) (kept + 1) (wrote || true) P (f v)) → Walk used kept wrote P (fetch_add_as changes word value >>= f)
+  pub walk_fetch_add : (changes : ℕ → List Change) (word value : ℕ) → ((v : ℕ) → BirthFits (changes v)) → ((v : ℕ) → moves (changes v) ≡ false) →
+      ((v : ℕ) → Walk (used + 1) (kept + 1) (wrote || true) P (f v)) → Walk used kept wrote P (fetch_add_as changes word value >>= f)
   unfolding ◌>>=◌ fetch_add_as
   walk_fetch_add changes word value c m h = record { walks = (refl, λ v. (c v, subst (λ w. Walks (used + 1) (kept + 1) w P (f v)) (unmoved wrote (moves (changes v)) true (m v)) (h v).walks)) }
 
@@ -239,7 +244,8 @@ module _ {A : Type 0} {used kept : ℕ} {wrote : Bool} {P : A → Type 0} (f : U
   pub walk_stores : (count word value step : ℕ) → ((w : Bool) → Walk (used + count) kept w P (f tt)) → Walk used kept wrote P (stores count word value step >>= f)
   walk_stores count word value step h = record { walks = stores_walk used kept wrote P f count word value step (used + count) refl (λ w. (h w).walks) }
 
-each_walk : {A : Type 0} (used kept : ℕ) (wrote : Bool) (P : A → Type 0) (f : Unit {0} → Script A) (word : ℕ) (values : List ℕ) (all : ℕ) → used + length values ≡ all → ((w : Bool) → Walks all kept w P (f tt)) → Walks used kept wrote P (store_each word values >>= f)
+each_walk : {A : Type 0} (used kept : ℕ) (wrote : Bool) (P : A → Type 0) (f : Unit {0} → Script A) (word : ℕ) (values : List ℕ) (all : ℕ) → used + length values ≡ all →
+    ((w : Bool) → Walks all kept w P (f tt)) → Walks used kept wrote P (store_each word values >>= f)
 unfolding ◌>>=◌ store_each
 each_walk used kept wrote P f word [] all e h = let same : all ≡ used = omega arith in subst (λ n. Walks n kept wrote P (f tt)) same (h wrote)
 each_walk used kept wrote P f word (value ∷ values) all e h = (no_birth [] refl, each_walk (used + 1) kept true P f (word + 1) values all (omega arith) h)
@@ -255,17 +261,29 @@ module _ {A : Type 0} {used kept : ℕ} {wrote : Bool} {P : A → Type 0} (f : U
       let m : count ≤ most = leb-true count most l in
       walk_stores f count word value step (λ w. record { walks = walks_fewer (used + most) kept (used + count) kept w P (f tt) (omega arith) (omega arith) (let g = h w in g.walks) })
 
-checked_walk : {A : Type 0} (used kept : ℕ) (P : A → Type 0) (b : Bool) (page : ℕ) (e : Fault) (f : ℕ → Script A) → Walk (used + 1) (kept + 1) false P (f page) → Walk (used + 1) (kept + 1) false P (cond b (done page) (fault e) >>= f)
+checked_walk : {A : Type 0} (used kept : ℕ) (P : A → Type 0) (b : Bool) (page : ℕ) (e : Fault) (f : ℕ → Script A) → Walk (used + 1) (kept + 1) false P (f page) →
+    Walk (used + 1) (kept + 1) false P (cond b (done page) (fault e) >>= f)
 checked_walk used kept P true page e f h = walk_return f page h
 checked_walk used kept P false page e f h = walk_fault_then f e (walks_fit (used + 1) (kept + 1) false P (f page) h.walks) refl
 
-look_in_walk : {A : Type 0} (used kept : ℕ) (P : A → Type 0) (changes : ℕ → List Change) (at : Option ℕ) (kd : Kind) (w : Who) (addr : ℕ) (f : ℕ → Script A) → ((v : ℕ) → BirthFits (changes v)) → ((v : ℕ) → moves (changes v) ≡ false) → ((page : ℕ) → Walk (used + 1) (kept + 1) false P (f page)) → Walk used kept false P (look_in_as changes at kd w addr >>= f)
+look_in_walk : {A : Type 0} (used kept : ℕ) (P : A → Type 0) (changes : ℕ → List Change) (at : Option ℕ) (kd : Kind) (w : Who) (addr : ℕ) (f : ℕ → Script A) → ((v : ℕ) → BirthFits (changes v)) →
+    ((v : ℕ) → moves (changes v) ≡ false) → ((page : ℕ) → Walk (used + 1) (kept + 1) false P (f page)) → Walk used kept false P (look_in_as changes at kd w addr >>= f)
 unfolding ◌>>=◌ look_in_as
 look_in_walk used kept P changes None kd w addr f c m h = let p = h 0 in walk_fault (fits_fewer (used + 1) (kept + 1) used kept (omega arith) (omega arith) (walks_fit (used + 1) (kept + 1) false P (f 0) p.walks)) refl
 look_in_walk used kept P changes (Some page) kd w addr f c m h =
-    record { walks = (refl, λ v. (c v, subst (λ wrote. Walks (used + 1) (kept + 1) wrote P (cond (allows v kd w) (done page) (fault (page_fault v kd w addr)) >>= f)) (unmoved false (moves (changes v)) false (m v)) (checked_walk used kept P (allows v kd w) page (page_fault v kd w addr) f (h page)).walks)) }
+    record {
+      walks = (
+        refl,
+        λ v. (
+          c v,
+          subst (λ wrote. Walks (used + 1) (kept + 1) wrote P (cond (allows v kd w) (done page) (fault (page_fault v kd w addr)) >>= f))
+              (unmoved false (moves (changes v)) false (m v)) (checked_walk used kept P (allows v kd w) page (page_fault v kd w addr) f (h page)).walks,
+        ),
+      );
+    }
 
-probe_in_walk : {A : Type 0} (used kept : ℕ) (wrote : Bool) (P : A → Type 0) (at : Option ℕ) (kd : Kind) (w : Who) (f : Option ℕ → Script A) → ((found : Option ℕ) → Walk (used + 1) (kept + 1) (wrote || false) P (f found)) → Walk used kept wrote P (probe_in at kd w >>= f)
+probe_in_walk : {A : Type 0} (used kept : ℕ) (wrote : Bool) (P : A → Type 0) (at : Option ℕ) (kd : Kind) (w : Who) (f : Option ℕ → Script A) →
+    ((found : Option ℕ) → Walk (used + 1) (kept + 1) (wrote || false) P (f found)) → Walk used kept wrote P (probe_in at kd w >>= f)
 unfolding ◌>>=◌ probe_in
 probe_in_walk used kept wrote P None kd w f h =
     let p = h None in
@@ -281,7 +299,8 @@ module _ {A : Type 0} {used kept : ℕ} {P : A → Type 0} where
       (λ _. walk_if_then f (addr % size == 0) (done tt) (fault misaligned) (λ _. walk_return f tt h) (λ _. walk_fault_then f _ e refl))
       (λ _. walk_fault_then f _ e refl)
 
-  pub walk_look : (changes : ℕ → List Change) (kd : Kind) (w : Who) (addr : ℕ) (f : ℕ → Script A) → ((v : ℕ) → BirthFits (changes v)) → ((v : ℕ) → moves (changes v) ≡ false) → ((page : ℕ) → Walk (used + 1) (kept + 1) false P (f page)) → Walk used kept false P (look_as changes kd w addr >>= f)
+  pub walk_look : (changes : ℕ → List Change) (kd : Kind) (w : Who) (addr : ℕ) (f : ℕ → Script A) → ((v : ℕ) → BirthFits (changes v)) → ((v : ℕ) → moves (changes v) ≡ false) →
+      ((page : ℕ) → Walk (used + 1) (kept + 1) false P (f page)) → Walk used kept false P (look_as changes kd w addr >>= f)
   unfolding look_as
   walk_look changes kd w addr f c m h = look_in_walk used kept P changes (page_at addr) kd w addr f c m h
 
@@ -301,7 +320,28 @@ module _ {A B C : Type 0} {used kept : ℕ} {wrote : Bool} {P : A → Type 0} wh
   pub walk_assoc : (m : Script C) (h : C → Script B) (f : B → Script A) → Walk used kept wrote P (m >>= (λ x. h x >>= f)) → Walk used kept wrote P ((m >>= h) >>= f)
   walk_assoc m h f w = record { walks = assoc_walks used kept wrote P m h f w.walks }
 
-pub ruleset walk_parts = (walk_done, walk_fault, walk_if, walk_return, walk_fault_then, walk_if_then, walk_assoc, walk_read_entry, walk_load, walk_compare_exchange, walk_swap, walk_fetch_add, walk_store, walk_stores, walk_check_address, walk_look, walk_probe, no_birth, birth_if, moves_if)
+pub ruleset walk_parts = (
+  walk_done,
+  walk_fault,
+  walk_if,
+  walk_return,
+  walk_fault_then,
+  walk_if_then,
+  walk_assoc,
+  walk_read_entry,
+  walk_load,
+  walk_compare_exchange,
+  walk_swap,
+  walk_fetch_add,
+  walk_store,
+  walk_stores,
+  walk_check_address,
+  walk_look,
+  walk_probe,
+  no_birth,
+  birth_if,
+  moves_if,
+)
 
 -- ---- operands
 
@@ -320,8 +360,14 @@ module _ {A : Type 0} {used kept : ℕ} {P : A → Type 0} where
 
   pub walk_read : (arch : Arch) (s : Size) (o : Operand) (next : ℕ) (f : ℕ → Script A) → ((v : ℕ) → Walk (used + 1 + 1) (kept + 1 + 1) false P (f v)) → Walk used kept false P (read_operand arch s o next >>= f)
   unfolding read_operand
-  walk_read arch s (operand.Reg r) next f h = walk_return f (register arch r % limit s) (record { walks = walks_fewer (used + 1 + 1) (kept + 1 + 1) used kept false P (f (register arch r % limit s)) (omega arith) (omega arith) (let g = h (register arch r % limit s) in g.walks) })
-  walk_read arch s (operand.Imm z) next f h = walk_return f (cast_unsigned (width s) z) (record { walks = walks_fewer (used + 1 + 1) (kept + 1 + 1) used kept false P (f (cast_unsigned (width s) z)) (omega arith) (omega arith) (let g = h (cast_unsigned (width s) z) in g.walks) })
+  walk_read arch s (operand.Reg r) next f h = walk_return f (register arch r % limit s) (record {
+    walks =
+        walks_fewer (used + 1 + 1) (kept + 1 + 1) used kept false P (f (register arch r % limit s)) (omega arith) (omega arith) (let g = h (register arch r % limit s) in g.walks);
+  })
+  walk_read arch s (operand.Imm z) next f h = walk_return f (cast_unsigned (width s) z) (record {
+    walks =
+        walks_fewer (used + 1 + 1) (kept + 1 + 1) used kept false P (f (cast_unsigned (width s) z)) (omega arith) (omega arith) (let g = h (cast_unsigned (width s) z) in g.walks);
+  })
   walk_read arch s (operand.Mem m) next f h = walk_load_at _ _ f h
 
 -- ---- the gate, where nothing faults
@@ -334,7 +380,8 @@ none_freed (leaving.Ended status) k = no_birth (Ended ∷ Freed k ∷ []) refl
 
 -- From here on it isn't known whether the exchanges have written.
 module _ {A : Type 0} {used kept : ℕ} {wrote : Bool} {P : A → Type 0} where
-  pub walk_gate_in : (k : ℕ) (f : Option ℕ → Script A) → ((w : Bool) → Walk (used + 1 + 1 + 1) (kept + 1 + 1) w P (f None)) → ((w : Bool) (found : ℕ) → Walk (used + 1 + 1) (kept + 1 + 1) w P (f (Some found))) → Walk used kept wrote P (gate_in k >>= f)
+  pub walk_gate_in : (k : ℕ) (f : Option ℕ → Script A) → ((w : Bool) → Walk (used + 1 + 1 + 1) (kept + 1 + 1) w P (f None)) →
+      ((w : Bool) (found : ℕ) → Walk (used + 1 + 1) (kept + 1 + 1) w P (f (Some found))) → Walk used kept wrote P (gate_in k >>= f)
   unfolding gate_in
   walk_gate_in k f free busy = search (walk_parts, walk_exchange_any) depth 20
 
@@ -344,7 +391,8 @@ module _ {A : Type 0} {used kept : ℕ} {wrote : Bool} {P : A → Type 0} where
 
 -- ---- the services on signals: loads of several words, and structures, where nothing faults
 
-loads_walk : {A : Type 0} (used kept : ℕ) (wrote : Bool) (P : A → Type 0) (f : List ℕ → Script A) (count word u k : ℕ) → used + count ≡ u → kept + count ≡ k → ((values : List ℕ) → Walks u k wrote P (f values)) → Walks used kept wrote P (loads count word >>= f)
+loads_walk : {A : Type 0} (used kept : ℕ) (wrote : Bool) (P : A → Type 0) (f : List ℕ → Script A) (count word u k : ℕ) → used + count ≡ u → kept + count ≡ k →
+    ((values : List ℕ) → Walks u k wrote P (f values)) → Walks used kept wrote P (loads count word >>= f)
 unfolding ◌>>=◌ loads
 loads_walk used kept wrote P f zero word u k e d h =
     let same : u ≡ used = omega arith in
@@ -386,7 +434,8 @@ module _ {A B : Type 0} {used kept : ℕ} {w : Bool} {P : A → Type 0} where
 
 -- what follows nothing comes after as many accesses at most as what follows something
 module _ {A B C : Type 0} {used kept : ℕ} {P : A → Type 0} where
-  pub walk_if_found : {wrote : Bool} (o : Option C) (g : C → Script (Option B)) (f : Option B → Script A) → Walk used kept wrote P (f None) → ((x : C) → Walk used kept wrote P (g x >>= f)) → Walk used kept wrote P (if_found o g >>= f)
+  pub walk_if_found : {wrote : Bool} (o : Option C) (g : C → Script (Option B)) (f : Option B → Script A) → Walk used kept wrote P (f None) → ((x : C) → Walk used kept wrote P (g x >>= f)) →
+      Walk used kept wrote P (if_found o g >>= f)
   walk_if_found None g f n h = walk_return f None n
   walk_if_found (Some x) g f n h = h x
 
@@ -394,7 +443,10 @@ module _ {A : Type 0} {used kept : ℕ} {wrote : Bool} {P : A → Type 0} where
   pub walk_span : (kd : Kind) (addr last : ℕ) (f : Option ℕ → Script A) → ((w : Bool) (found : Option ℕ) → Walk (used + 1 + 1) (kept + 1 + 1) w P (f found)) → Walk used kept wrote P (span kd addr last >>= f)
   unfolding span
   walk_span kd addr last f h =
-      let fewer : (w : Bool) (n : ℕ) → Walk (used + 1) (kept + 1) w P (f None) = λ w n. record { walks = walks_fewer (used + 1 + 1) (kept + 1 + 1) (used + 1) (kept + 1) w P (f None) (omega arith) (omega arith) (let g = h w None in g.walks) } in
+      let fewer : (w : Bool) (n : ℕ) → Walk (used + 1) (kept + 1) w P (f None) = λ w n. record {
+        walks =
+            walks_fewer (used + 1 + 1) (kept + 1 + 1) (used + 1) (kept + 1) w P (f None) (omega arith) (omega arith) (let g = h w None in g.walks);
+      } in
       search (walk_parts, walk_if_found, fewer, h) depth 20
 
 pub ruleset walk_rules = (walk_parts, walk_store_each, walk_stores_most, walk_load_at, walk_write_place, walk_store_at, walk_read, walk_gate_in, walk_gate_out)
@@ -416,7 +468,8 @@ Spent (tell word value changes s) (suc n) vs = Spent s n vs
 
 module _ {A : Type 0} (P : A → Type 0) where
   -- one access more
-  pub spent_more : (wrote : Bool) (s : Script A) (n k i : ℕ) (vs : List ℕ) (a : Access) (own : ℕ → List Change) (v : ℕ) → Walks n k wrote P s → Spent s i vs → play s i vs ≡ Wants a own → Spent s (suc i) (kept_after vs a v)
+  pub spent_more : (wrote : Bool) (s : Script A) (n k i : ℕ) (vs : List ℕ) (a : Access) (own : ℕ → List Change) (v : ℕ) → Walks n k wrote P s → Spent s i vs → play s i vs ≡ Wants a own →
+      Spent s (suc i) (kept_after vs a v)
   spent_more wrote (done x) n k i vs a own v f h w = cc
   spent_more wrote (fault e) n k i vs a own v f h w = cc
   spent_more wrote (ask b changes c) n k zero [] a own v f h w =
@@ -436,7 +489,8 @@ module _ {A : Type 0} (P : A → Type 0) where
   spent_more wrote (tell word value changes s) n k (suc i) vs a own v f h w = spent_more true s (n + 1) k i vs a own v f.1 h w
 
   -- no more accesses and answers than there may be
-  pub spent_fits : (wrote : Bool) (s : Script A) (n k i : ℕ) (vs : List ℕ) (a : Access) (own : ℕ → List Change) → Walks n k wrote P s → Spent s i vs → play s i vs ≡ Wants a own → (n + i < most_accesses) × (k + length vs ≤ most_kept)
+  pub spent_fits : (wrote : Bool) (s : Script A) (n k i : ℕ) (vs : List ℕ) (a : Access) (own : ℕ → List Change) → Walks n k wrote P s → Spent s i vs → play s i vs ≡ Wants a own →
+      (n + i < most_accesses) × (k + length vs ≤ most_kept)
   spent_fits wrote (done x) n k i vs a own f h w = cc
   spent_fits wrote (fault e) n k i vs a own f h w = cc
   spent_fits wrote (ask b changes c) n k zero [] a own f h w =
@@ -522,7 +576,8 @@ keep_none : (a : Access) (v : ℕ) → keeps a ≡ false → kept_after [] a v �
 keep_none a v e = rw e refl
 
 -- A script that an access has brought to a fault had written nothing before it, and the access left the supervisor stack alone.
-pub still_at : {A : Type 0} (P : A → Type 0) (wrote : Bool) (s : Script A) (n k i : ℕ) (vs : List ℕ) (a : Access) (own : ℕ → List Change) (v : ℕ) (e : Fault) → Walks n k wrote P s → Spent s i vs → play s i vs ≡ Wants a own → play s (suc i) (kept_after vs a v) ≡ Faulted e → moves (own v) ≡ false
+pub still_at : {A : Type 0} (P : A → Type 0) (wrote : Bool) (s : Script A) (n k i : ℕ) (vs : List ℕ) (a : Access) (own : ℕ → List Change) (v : ℕ) (e : Fault) → Walks n k wrote P s → Spent s i vs →
+    play s i vs ≡ Wants a own → play s (suc i) (kept_after vs a v) ≡ Faulted e → moves (own v) ≡ false
 still_at P wrote (done x) n k i vs a own v e f h w p = cc
 still_at P wrote (fault x) n k i vs a own v e f h w p = cc
 still_at P wrote (ask b changes c) n k zero [] a own v e f h w p =

@@ -55,7 +55,8 @@ use Rattle.cet_page.specs.declared.actions.FramePlaces.{FramePlaces}
 use Rattle.cet_page.specs.Fetch.{missing, missing_in}
 use Rattle.cet_page.specs.Posting.{due_by, due_signal, listed, posting}
 use Rattle.cet_page.specs.Row.{after_signals, between, execute_family, fetched, instruction, boundary, row, row_from}
-use Rattle.cet_page.proofs.Walk.{BirthFits, Walks, Walk, acted, walk_fault, walk_return, walk_assoc, walk_if_then, walk_fewer, walk_less, walk_less_one, walk_if_found, walk_span, walk_loads, walk_fetch_or, walk_fetch_and, no_birth, birth_if, walk_rules, walk_done}
+use Rattle.cet_page.proofs.Walk.{BirthFits, Walks, Walk, acted, walk_fault, walk_return, walk_assoc, walk_if_then, walk_fewer, walk_less, walk_less_one}
+use Rattle.cet_page.proofs.Walk.{walk_if_found, walk_span, walk_loads, walk_fetch_or, walk_fetch_and, no_birth, birth_if, walk_rules, walk_done}
 use Rattle.cet_page.specs.declared.finishes.Finish.{Finish}
 use Rattle.cet_page.specs.declared.finishes.Finish.TheVariants.{Noted, Posted, Exited, Stopped}
 
@@ -154,7 +155,8 @@ walk_mmap arch k w = walk_mmap_by arch k w (rsi arch) (map_refused (rdi arch) (r
 few_unmapped : (address length page : ℕ) → unmapped_page address length ≡ Some page → nat_le (pages_of length) area_pages ≡ true
 few_unmapped address length page e = grind (arith, nat_tests)
 
-walk_munmap_by : (arch : Arch) (k : ℕ) (w : Bool) (length : ℕ) (o : Option ℕ) → ((page : ℕ) → o ≡ Some page → nat_le (pages_of length) area_pages ≡ true) → Walk 5 4 w (Finishes arch) (munmap_by arch length o >>= leave_kernel k)
+walk_munmap_by : (arch : Arch) (k : ℕ) (w : Bool) (length : ℕ) (o : Option ℕ) → ((page : ℕ) → o ≡ Some page → nat_le (pages_of length) area_pages ≡ true) →
+    Walk 5 4 w (Finishes arch) (munmap_by arch length o >>= leave_kernel k)
 unfolding unmap_pages
 walk_munmap_by arch k w length None few = search rules depth 99 fits 9000
 walk_munmap_by arch k w length (Some page) few = let fits : nat_le (pages_of length) area_pages ≡ true = few page refl in search rules depth 99 fits 9000
@@ -242,7 +244,8 @@ walk_new_action job arch k w new (Err error) = search rules depth 99 fits 9000
 walk_new_action job arch k w None (Ok old) = walk_assoc _ _ _ (walk_return _ None (walk_fewer _ _ _ refl refl (walk_change_action job arch k w old None)))
 walk_new_action job arch k w (Some word) (Ok old) = search (rules, walk_change_action) depth 99 fits 9000
 
-walk_given_span : {A : Type 0} {used kept : ℕ} {w : Bool} {P : A → Type 0} (kd : Kind) (addr last : ℕ) (f : Given → Script A) → ((w : Bool) (g : Given) → Walk (used + 1 + 1) (kept + 1 + 1) w P (f g)) → Walk used kept w P (given_span kd addr last >>= f)
+walk_given_span : {A : Type 0} {used kept : ℕ} {w : Bool} {P : A → Type 0} (kd : Kind) (addr last : ℕ) (f : Given → Script A) →
+    ((w : Bool) (g : Given) → Walk (used + 1 + 1) (kept + 1 + 1) w P (f g)) → Walk used kept w P (given_span kd addr last >>= f)
 unfolding given_span
 walk_given_span {used = used} {kept = kept} {P = P} kd addr last f h =
     let fewer : (w : Bool) (g : Given) → Walk used kept w P (f g) = λ w g. walk_less f g h in
@@ -257,7 +260,8 @@ walk_rt_sigaction : (job : JobData) (arch : Arch) (k : ℕ) (w : Bool) → Walk 
 unfolding rt_sigaction
 walk_rt_sigaction job arch k w = search (rules, walk_given_span, walk_old_action) depth 99 fits 9000
 
-walk_given_word : {A : Type 0} {used kept : ℕ} {w : Bool} {P : A → Type 0} (kd : Kind) (addr : ℕ) (f : Given → Script A) → ((w : Bool) (g : Given) → Walk (used + 1) (kept + 1) w P (f g)) → Walk used kept w P (given_word kd addr >>= f)
+walk_given_word : {A : Type 0} {used kept : ℕ} {w : Bool} {P : A → Type 0} (kd : Kind) (addr : ℕ) (f : Given → Script A) → ((w : Bool) (g : Given) → Walk (used + 1) (kept + 1) w P (f g)) →
+    Walk used kept w P (given_word kd addr >>= f)
 unfolding given_word one_word
 walk_given_word {used = used} {kept = kept} {P = P} kd addr f h =
     let fewer : (w : Bool) (g : Given) → Walk used kept w P (f g) = λ w g. walk_less_one f g h in

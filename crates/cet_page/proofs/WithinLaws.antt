@@ -35,7 +35,8 @@ fresh_core job next l s c = record { state = s; count = c; limit = l; vals = ref
 pub first_waits : (job : JobData) → IsJob job → IsCore job (first_core job)
 first_waits job j = fresh_core job _ j.limit_high (record { number = omega arith; made = first_made }) (let l = j.limit_low in omega arith)
 
-recorded_at : (job : JobData) (next : Arch) (b : Bool) → (next.count == job.limit) ≡ b → job.limit ≤ 100000 → IsState next → next.count ≤ job.limit → CoreAt job (record { arch = next; vals = no_vals; over = if b then Some ending.Limit else None }) (if b then Some ending.Limit else None)
+recorded_at : (job : JobData) (next : Arch) (b : Bool) → (next.count == job.limit) ≡ b → job.limit ≤ 100000 → IsState next → next.count ≤ job.limit →
+    CoreAt job (record { arch = next; vals = no_vals; over = if b then Some ending.Limit else None }) (if b then Some ending.Limit else None)
 recorded_at job next true e l s c = record { state = s; count = c; vals = refl }
 recorded_at job next false e l s c = let lt : next.count < job.limit = grind (arith, nat_tests, e, c) in fresh_core job next l s lt
 
@@ -45,7 +46,8 @@ recorded_is job next l s c = recorded_at job next (next.count == job.limit) refl
 state_kept : (arch next : Arch) (held : Option ℕ) → next.made ≡ arch.made → IsState arch → IsState (kept_by arch held next)
 state_kept arch next held e s = record { number = s.number; made = subst IsMade (sym e) s.made }
 
-core_kept : (job : JobData) (arch : Arch) (held : Option ℕ) (seen : ValsData) → job.limit ≤ 100000 → IsState arch → arch.count < job.limit → vals_of (row_trail job arch seen) ≡ seen → (r : Played Finish) → row_played job arch seen ≡ r → OnOver (Ends job (unheld arch)) r → IsCore job (core_by job arch held seen r)
+core_kept : (job : JobData) (arch : Arch) (held : Option ℕ) (seen : ValsData) → job.limit ≤ 100000 → IsState arch → arch.count < job.limit → vals_of (row_trail job arch seen) ≡ seen →
+    (r : Played Finish) → row_played job arch seen ≡ r → OnOver (Ends job (unheld arch)) r → IsCore job (core_by job arch held seen r)
 core_kept job arch held seen l s c p (Wants a changes) e k = record { state = record { number = s.number; made = s.made }; count = c; limit = l; vals = p; waits = (a, changes, e) }
 core_kept job arch held seen l s c p (Faulted f) e k = recorded_is job (kept_by arch held (faulted arch f)) l (record { number = s.number; made = s.made }) (omega arith)
 core_kept job arch held seen l s c p (Completed (Noted next noted) left values) e k =
@@ -64,14 +66,16 @@ pub spent : (job : JobData) (core : Core) → Waits job core → Spent (row job 
 spent job core h = let arch = unheld core.arch in trail_spent (Ends job arch) (row job arch) 0 0 core.vals (walk_row job arch).walks h.vals
 
 -- one access more stands first in the trail of the row
-pub row_grown : (job : JobData) (core : Core) (a : Access) (own : ℕ → List Change) (v : ℕ) → Waits job core → row_played job core.arch core.vals ≡ Wants a own → (w : ℕ) × (row_trail job core.arch (vals_after core.vals a v) ≡ visit a w (own v) ∷ trail_of job core)
+pub row_grown : (job : JobData) (core : Core) (a : Access) (own : ℕ → List Change) (v : ℕ) → Waits job core → row_played job core.arch core.vals ≡ Wants a own →
+    (w : ℕ) × (row_trail job core.arch (vals_after core.vals a v) ≡ visit a w (own v) ∷ trail_of job core)
 row_grown job core a own v h w =
     let arch = unheld core.arch in
     let r = trail_more (Ends job arch) false (row job arch) 0 0 core.vals.accesses core.vals.values [] a own v (walk_row job arch).walks (spent job core h) w in
     (r.0, rw add-one r.1)
 
 -- the same of one access more
-pub shows_next : (job : JobData) (core : Core) (a : Access) (own : ℕ → List Change) (answer : ℕ) → Waits job core → row_played job core.arch core.vals ≡ Wants a own → vals_of (row_trail job core.arch (vals_after core.vals a answer)) ≡ vals_after core.vals a answer
+pub shows_next : (job : JobData) (core : Core) (a : Access) (own : ℕ → List Change) (answer : ℕ) → Waits job core → row_played job core.arch core.vals ≡ Wants a own →
+    vals_of (row_trail job core.arch (vals_after core.vals a answer)) ≡ vals_after core.vals a answer
 shows_next job core a own answer h e =
     let seen = vals_after core.vals a answer in
     let arch = unheld core.arch in
@@ -79,7 +83,8 @@ shows_next job core a own answer h e =
     let more : Spent (row job arch) seen.accesses seen.values = rw add-one (spent_more (Ends job arch) false (row job arch) 0 0 core.vals.accesses core.vals.values a own answer o (spent job core h) e) in
     trail_shows (Ends job arch) (row job arch) 0 0 seen.accesses seen.values o more
 
-answered_is : (job : JobData) (core : Core) (answer : ℕ) → Waits job core → (r : Played Finish) → row_played job core.arch core.vals ≡ r → (a : Access) (changes : ℕ → List Change) → r ≡ Wants a changes → IsCore job (answered job core answer r).core
+answered_is : (job : JobData) (core : Core) (answer : ℕ) → Waits job core → (r : Played Finish) → row_played job core.arch core.vals ≡ r → (a : Access) (changes : ℕ → List Change) →
+    r ≡ Wants a changes → IsCore job (answered job core answer r).core
 answered_is job core answer h (Wants b own) e a changes w =
     let seen = vals_after core.vals b answer in
     let arch = unheld core.arch in

@@ -1,6 +1,7 @@
 -- What the operations compute: a value and the status flags. Source: Intel SDM volume 1 (EFLAGS register, status flags) and the
 -- pages of volume 2; own are that flags which the manual leaves undefined are 0, and SF of IMUL too.
-use Rattle.std.specs.Prelude.{ℕ, ◌+◌, ◌-◌, ◌*◌, ◌/◌, ◌%◌, ◌^◌, ◌==◌, ◌&&◌, Bool, false, not, nat_le, nat_lt, bit_and, bit_or, bit_xor, count_ones, ℤ, pos, neg_ℤ, ◌+ℤ◌, ◌-ℤ◌, ◌*ℤ◌, int_le, int_lt}
+use Rattle.std.specs.Prelude.{ℕ, ◌+◌, ◌-◌, ◌*◌, ◌/◌, ◌%◌, ◌^◌, ◌==◌, ◌&&◌, Bool, false, not, nat_le, nat_lt, bit_and}
+use Rattle.std.specs.Prelude.{bit_or, bit_xor, count_ones, ℤ, pos, neg_ℤ, ◌+ℤ◌, ◌-ℤ◌, ◌*ℤ◌, int_le, int_lt}
 use Rattle.std.specs.Int.{Width, w32, w64, cast_unsigned, cast_signed, int_shr}
 use Rattle.cet_isa.specs.declared.instructions.AluOp.{AluOp}
 use Rattle.cet_isa.specs.declared.instructions.AluOp.TheVariants as ops

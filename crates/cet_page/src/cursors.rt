@@ -6,7 +6,8 @@ ghost use Rattle.cet_words.specs.Layout.{word_in, page_count, word_count};
 ghost use Rattle.cet_page.specs.Script.{play, ask, tell, done, no_changes};
 ghost use Rattle.cet_page.specs.Plays.{Refines, RefinesBy, Asks, Marks};
 ghost use Rattle.cet_words.specs.Change.{Change};
-ghost use Rattle.cet_page.specs.Parts.{general_protection, invalid_opcode, check_address, check_address_as, look, look_as, look_in_as, probe, probe_in, read_entry, load, loads, store, stores, store_each, compare_exchange, swap, fetch_add, fetch_or, fetch_and};
+ghost use Rattle.cet_page.specs.Parts.{general_protection, invalid_opcode, check_address, check_address_as, look, look_as, look_in_as, probe, probe_in, read_entry};
+ghost use Rattle.cet_page.specs.Parts.{load, loads, store, stores, store_each, compare_exchange, swap, fetch_add, fetch_or, fetch_and};
 
 use crate::checks::{Kind, Who, check, page_fault};
 use cet_isa::{Fault, FaultName, is_canonical};

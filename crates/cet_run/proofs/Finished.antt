@@ -44,7 +44,8 @@ all_ended m h t thread e =
 -- ---- one outcome
 
 -- what the words show of the book, with ends and process, is the outcome by that book
-outcome_read : (m : Machine) (b : Book) (outs : List ThreadOut) (stacks : List StackReport) (process : ProcessEnd) (exit : ℕ) → exit ≡ slice_index m.words exit_word → outs ≡ map thread_out m.threads → stacks ≡ map (λ i. shown_region b (region b i)) (told_numbers b m.threads) → process ≡ process_end exit outs → shown_with outs stacks process ≡ outcome_of m b
+outcome_read : (m : Machine) (b : Book) (outs : List ThreadOut) (stacks : List StackReport) (process : ProcessEnd) (exit : ℕ) → exit ≡ slice_index m.words exit_word → outs ≡ map thread_out m.threads →
+    stacks ≡ map (λ i. shown_region b (region b i)) (told_numbers b m.threads) → process ≡ process_end exit outs → shown_with outs stacks process ≡ outcome_of m b
 outcome_read m b outs stacks process exit e o s p =
     let ends : process ≡ process_end (slice_index m.words exit_word) (map thread_out m.threads) = p ∙ ap (process_end exit) o ∙ ap (λ n. process_end n (map thread_out m.threads)) e in
     let shown : stacks ≡ shown_stacks b m.threads = s ∙ map-map (λ i. shown_region b (region b i)) (λ (r : Span). starting_at r.start b) (told_spans m.threads) in
@@ -74,7 +75,9 @@ module _ (job : JobData) (start : Machine) (turns words : List ℕ) (outs : List
   left_exit = subst (λ l. IsExitWord (slice_index l exit_word)) (sym left.words_left) (exit_run job start turns is left.starts)
 
   -- an outcome of which this is read is that of the run
-  pub left_run : (stacks : List StackReport) (process : ProcessEnd) (exit : ℕ) → exit ≡ slice_index words exit_word → process ≡ process_end exit outs → ((b : Book) (numbers : List ℕ) → InStep job.image words b → Covers b numbers (told_by outs) pointers → stacks ≡ map (λ i. shown_region b (region b i)) numbers) → SafeRun job (IsThis start turns) (shown_with outs stacks process)
+  pub left_run : (stacks : List StackReport) (process : ProcessEnd) (exit : ℕ) → exit ≡ slice_index words exit_word → process ≡ process_end exit outs →
+      ((b : Book) (numbers : List ℕ) → InStep job.image words b → Covers b numbers (told_by outs) pointers → stacks ≡ map (λ i. shown_region b (region b i)) numbers) →
+      SafeRun job (IsThis start turns) (shown_with outs stacks process)
   left_run stacks process exit e p read =
       let step = subst (λ l. InStep job.image l last.book) (sym left.words_left) last.covered.in_step in
       let covers =
@@ -115,7 +118,8 @@ by_schedule job start turns Schedule outcome h r = record {
 }
 
 -- what is left of a run that ended in this machine
-pub finished_left : (job : JobData) (start : Machine) (turns words : List ℕ) (threads : List Thread) (outs : List ThreadOut) (pointers : List (ℕ × ℕ)) → Finishes job start turns (machine words threads) → outs ≡ map thread_out threads → pointers ≡ kept_pointers threads → IsLeft job start turns words outs pointers
+pub finished_left : (job : JobData) (start : Machine) (turns words : List ℕ) (threads : List Thread) (outs : List ThreadOut) (pointers : List (ℕ × ℕ)) →
+    Finishes job start turns (machine words threads) → outs ≡ map thread_out threads → pointers ≡ kept_pointers threads → IsLeft job start turns words outs pointers
 finished_left job start turns words threads outs pointers f o p = record {
   starts = f.starts;
   complete = subst IsComplete (sym f.ran) f.complete;

@@ -75,7 +75,8 @@ put_from : (n : ℕ) (s : Span) (rs : List Span) → n ≤ s.start → AllFrom n
 put_from n s [] l h = (l, tt)
 put_from n s (r ∷ rs) l h = put_by n s r rs (put_in s rs) (nat_le s.start r.start) l h (put_from n s rs l h.1)
 
-rises_by : (s r : Span) (rs rest : List Span) (b : Bool) → nat_le s.start r.start ≡ b → Rises (r ∷ rs) → AllFrom r.start rs → Rises rest → (r.start ≤ s.start → AllFrom r.start rest) → Rises (if b then s ∷ r ∷ rs else r ∷ rest)
+rises_by : (s r : Span) (rs rest : List Span) (b : Bool) → nat_le s.start r.start ≡ b → Rises (r ∷ rs) → AllFrom r.start rs → Rises rest → (r.start ≤ s.start → AllFrom r.start rest) →
+    Rises (if b then s ∷ r ∷ rs else r ∷ rest)
 rises_by s r rs rest true e h above k from = let l = leb-true s.start r.start e in ((l, from_less s.start r.start rs l above), h)
 rises_by s r rs rest false e h above k from = let l = leb-false s.start r.start e in (from (omega arith), k)
 
@@ -95,7 +96,8 @@ apart x s r true false ss e f l = refl
 apart x s r false true ss e f l = refl
 apart x s r false false ss e f l = refl
 
-kept_by : (x s r : Span) (rs rest : List Span) (b : Bool) → nat_le s.start r.start ≡ b → filter (tie x) rest ≡ filter (tie x) (s ∷ rs) → filter (tie x) (if b then s ∷ r ∷ rs else r ∷ rest) ≡ filter (tie x) (s ∷ r ∷ rs)
+kept_by : (x s r : Span) (rs rest : List Span) (b : Bool) → nat_le s.start r.start ≡ b → filter (tie x) rest ≡ filter (tie x) (s ∷ rs) →
+    filter (tie x) (if b then s ∷ r ∷ rs else r ∷ rest) ≡ filter (tie x) (s ∷ r ∷ rs)
 kept_by x s r rs rest true e h = refl
 kept_by x s r rs rest false e h =
     ap (λ l. cond (tie x r) (r ∷ l) l) h
@@ -146,7 +148,8 @@ one_list (y ∷ ys) (z ∷ zs) g h same =
     let high = first_low z y zs ys h (sym (same y)) in
     let here : tie y z ≡ true = same_tie y z (omega arith) in
     let first : y ≡ z = head_same y z (filter (tie y) ys) (filter (tie y) zs) (sym (first_is y ys) ∙ same y ∙ ap (λ b. cond b (z ∷ filter (tie y) zs) (filter (tie y) zs)) here) in
-    let rest : (x : Span) → filter (tie x) ys ≡ filter (tie x) zs = λ x. tail_by (tie x y) y (filter (tie x) ys) (filter (tie x) zs) (same x ∙ ap (λ (s : Span). cond (tie x s) (s ∷ filter (tie x) zs) (filter (tie x) zs)) (sym first)) in
+    let rest : (x : Span) → filter (tie x) ys ≡ filter (tie x) zs = λ x. tail_by (tie x y) y (filter (tie x) ys) (filter (tie x) zs) (same x ∙
+    ap (λ (s : Span). cond (tie x s) (s ∷ filter (tie x) zs) (filter (tie x) zs)) (sym first)) in
     ap (λ s. s ∷ ys) first ∙ ap (λ l. z ∷ l) (one_list ys zs g.1 h.1 rest)
 
 -- ---- a sort

@@ -1,5 +1,6 @@
 -- The numbers of the live threads, thread by thread.
-use Rattle.std.proofs.Common.{◌≡◌, ℕ, zero, suc, ◌+◌, ◌/◌, ◌%◌, ◌^◌, ◌<◌, ◌≤◌, Bool, true, false, List, [], ◌∷◌, ◌++◌, length, take, drop, Option, Some, None, refl, ap, sym, ◌∙◌, subst, arith, get_or}
+use Rattle.std.proofs.Common.{◌≡◌, ℕ, zero, suc, ◌+◌, ◌/◌, ◌%◌, ◌^◌, ◌<◌, ◌≤◌, Bool, true, false, List, [], ◌∷◌, ◌++◌, length}
+use Rattle.std.proofs.Common.{take, drop, Option, Some, None, refl, ap, sym, ◌∙◌, subst, arith, get_or}
 use Rattle.std.specs.Prelude.{IsSome, cond, is_some, not, option_map, slice_get, slice_set}
 use Rattle.std.specs.Option.{option_or}
 use Rattle.std.proofs.lemmas.List.{append_assoc, get_or-set_same, length-map, map-append, map-set, set_split, take_more}
@@ -51,7 +52,9 @@ pub record IsPlaced (threads : List Thread) (n place t : ℕ) : Type 0 where
   before : take place (live_from threads n) ≡ live_from (take at threads) n
   after : drop (suc place) (live_from threads n) ≡ live_from (drop (suc at) threads) (t + 1)
 
-pub placed_by : (y : Thread) (ys : List Thread) (n place t : ℕ) (over : Option End) → y.core.over ≡ over → slice_get (cond (goes_on over) (n ∷ live_from ys (n + 1)) (live_from ys (n + 1))) place ≡ Some t → ((i : ℕ) → slice_get (live_from ys (n + 1)) i ≡ Some t → IsPlaced ys (n + 1) i t) → IsPlaced (y ∷ ys) n place t
+pub placed_by : (y : Thread) (ys : List Thread) (n place t : ℕ) (over : Option End) → y.core.over ≡ over →
+    slice_get (cond (goes_on over) (n ∷ live_from ys (n + 1)) (live_from ys (n + 1))) place ≡ Some t → ((i : ℕ) → slice_get (live_from ys (n + 1)) i ≡ Some t → IsPlaced ys (n + 1) i t) →
+    IsPlaced (y ∷ ys) n place t
 placed_by y ys n zero t None o e later =
     let same : n ≡ t = cc in
     let number : t ≡ n + 0 = omega arith in
@@ -222,7 +225,8 @@ head_drop (suc i) [] = refl
 head_drop (suc i) (x ∷ l) = head_drop i l
 
 -- Robin, by the place in the order of the live threads
-pub robin_is : (threads : List Thread) (last : Option ℕ) (place : ℕ) → drop place (live_from threads 0) ≡ live_from (drop (after_last last) threads) (after_last last) → next_turn threads last ≡ option_or (slice_get (live_from threads 0) place) (slice_get (live_from threads 0) 0)
+pub robin_is : (threads : List Thread) (last : Option ℕ) (place : ℕ) → drop place (live_from threads 0) ≡ live_from (drop (after_last last) threads) (after_last last) →
+    next_turn threads last ≡ option_or (slice_get (live_from threads 0) place) (slice_get (live_from threads 0) 0)
 robin_is threads last place e =
     ap (λ o. option_or o (first_live threads 0)) (first_head (drop (after_last last) threads) (after_last last) ∙ ap (λ l. slice_get l 0) (sym e) ∙ head_drop place (live_from threads 0))
     ∙ ap (option_or (slice_get (live_from threads 0) place)) (first_head threads 0)
@@ -251,17 +255,20 @@ over_some (Some x) b e h = refl
 thread_at : (all_traced : List TracedThreadData) (t : ℕ) (o : Option TracedThreadData) → o ≡ slice_get all_traced t → slice_get (threads_of all_traced) t ≡ option_map thread_of o
 thread_at all_traced t o e = slice_get-map thread_of all_traced t ∙ ap (option_map thread_of) (sym e)
 
-pub going_at : (all_traced : List TracedThreadData) (t : ℕ) (traced : TracedThreadData) (over : Option End) (b : Bool) → t < length all_traced → traced ≡ get_or all_traced t traced → over ≡ traced.cpu.core.over → is_some over ≡ not b → b ≡ true → IsGoing (threads_of all_traced) t
+pub going_at : (all_traced : List TracedThreadData) (t : ℕ) (traced : TracedThreadData) (over : Option End) (b : Bool) → t < length all_traced → traced ≡ get_or all_traced t traced →
+    over ≡ traced.cpu.core.over → is_some over ≡ not b → b ≡ true → IsGoing (threads_of all_traced) t
 going_at all_traced t traced over b l i o e h = (thread_of traced, thread_at all_traced t (Some traced) (sym (slice_get_read all_traced (length all_traced) t traced refl l i)), sym o ∙ over_none over b e h)
 
-pub still_at : (all_traced : List TracedThreadData) (t : ℕ) (traced : TracedThreadData) (over : Option End) (b : Bool) → t < length all_traced → traced ≡ get_or all_traced t traced → over ≡ traced.cpu.core.over → is_some over ≡ not b → b ≡ false → IsStill (threads_of all_traced) t
+pub still_at : (all_traced : List TracedThreadData) (t : ℕ) (traced : TracedThreadData) (over : Option End) (b : Bool) → t < length all_traced → traced ≡ get_or all_traced t traced →
+    over ≡ traced.cpu.core.over → is_some over ≡ not b → b ≡ false → IsStill (threads_of all_traced) t
 still_at all_traced t traced over b l i o e h = subst NotGoing (sym (thread_at all_traced t (Some traced) (sym (slice_get_read all_traced (length all_traced) t traced refl l i)))) (subst IsSome o (over_some over b e h))
 
 pub still_past : (all_traced : List TracedThreadData) (t : ℕ) → length all_traced ≤ t → IsStill (threads_of all_traced) t
 still_past all_traced t l = subst NotGoing (sym (thread_at all_traced t None (sym (slice_get_past all_traced t l)))) tt
 
 -- one number more
-pub live_more : (all_traced : List TracedThreadData) (at : ℕ) (traced : TracedThreadData) (old new : List ℕ) → at < length all_traced → traced ≡ get_or all_traced at traced → new ≡ old ++ cond (goes_on traced.cpu.core.over) (at ∷ []) [] → old ≡ live_from (threads_of (take at all_traced)) 0 → new ≡ live_from (threads_of (take (at + 1) all_traced)) 0
+pub live_more : (all_traced : List TracedThreadData) (at : ℕ) (traced : TracedThreadData) (old new : List ℕ) → at < length all_traced → traced ≡ get_or all_traced at traced →
+    new ≡ old ++ cond (goes_on traced.cpu.core.over) (at ∷ []) [] → old ≡ live_from (threads_of (take at all_traced)) 0 → new ≡ live_from (threads_of (take (at + 1) all_traced)) 0
 live_more all_traced at traced old new l i n o =
     let long : 0 + length (threads_of (take at all_traced)) ≡ at = let m = length-map (take at all_traced) thread_of in let k = take_length all_traced at l in omega arith in
     n
@@ -274,7 +281,8 @@ live_more all_traced at traced old new l i n o =
     )
 
 -- a live one comes last
-pub live_born : (all_traced all_traced' : List TracedThreadData) (live live' : List ℕ) (traced : TracedThreadData) (n : ℕ) → traced.cpu.core.over ≡ None → live ≡ live_from (threads_of all_traced) 0 → n ≡ length all_traced → live' ≡ live ++ n ∷ [] → all_traced' ≡ all_traced ++ traced ∷ [] → live' ≡ live_from (threads_of all_traced') 0
+pub live_born : (all_traced all_traced' : List TracedThreadData) (live live' : List ℕ) (traced : TracedThreadData) (n : ℕ) → traced.cpu.core.over ≡ None → live ≡ live_from (threads_of all_traced) 0 →
+    n ≡ length all_traced → live' ≡ live ++ n ∷ [] → all_traced' ≡ all_traced ++ traced ∷ [] → live' ≡ live_from (threads_of all_traced') 0
 live_born all_traced all_traced' live live' traced n o l k e f =
     e
     ∙ ap (λ x. x ++ n ∷ []) l
@@ -284,7 +292,8 @@ live_born all_traced all_traced' live live' traced n o l k e f =
     ∙ ap (λ x. live_from (threads_of x) 0) (sym f)
 
 -- the list stays where the thread of the turn goes on
-pub live_kept : (all_traced : List TracedThreadData) (live : List ℕ) (t : ℕ) (traced : TracedThreadData) (over : Option End) → LiveBefore all_traced live t → t < length all_traced → traced ≡ get_or all_traced t traced → over ≡ traced.cpu.core.over → is_some over ≡ false → live ≡ live_from (threads_of all_traced) 0
+pub live_kept : (all_traced : List TracedThreadData) (live : List ℕ) (t : ℕ) (traced : TracedThreadData) (over : Option End) → LiveBefore all_traced live t → t < length all_traced →
+    traced ≡ get_or all_traced t traced → over ≡ traced.cpu.core.over → is_some over ≡ false → live ≡ live_from (threads_of all_traced) 0
 live_kept all_traced live t traced over h l i o e =
     let x = h.set.traced in
     let n : over ≡ None = over_none over true e refl in

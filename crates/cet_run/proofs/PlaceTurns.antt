@@ -11,7 +11,8 @@ use Rattle.cet_run.specs.Turns.{IsGoing, IsStill, IsTurned, TurnedAt}
 use Rattle.cet_run.proofs.LiveThreads.{live_at, next_goes, next_stays}
 
 -- the number at a place of the list of the live ones
-pub place_live : (all_traced : List TracedThreadData) (live : List ℕ) (place at : ℕ) → live ≡ live_from (threads_of all_traced) 0 → place < length live → at ≡ get_or live place at → slice_get (live_from (threads_of all_traced) 0) place ≡ Some at
+pub place_live : (all_traced : List TracedThreadData) (live : List ℕ) (place at : ℕ) → live ≡ live_from (threads_of all_traced) 0 → place < length live → at ≡ get_or live place at →
+    slice_get (live_from (threads_of all_traced) 0) place ≡ Some at
 place_live all_traced live place at numbers l is = ap (λ xs. slice_get xs place) (sym numbers) ∙ slice_get_read live (length live) place at refl l is
 
 pub place_inside : (all_traced : List TracedThreadData) (live : List ℕ) (place at : ℕ) → live ≡ live_from (threads_of all_traced) 0 → place < length live → at ≡ get_or live place at → at < length all_traced
@@ -24,8 +25,10 @@ pub place_going : (all_traced : List TracedThreadData) (live : List ℕ) (place 
 place_going all_traced live place at numbers l is = (live_at (threads_of all_traced) place at (place_live all_traced live place at numbers l is)).going
 
 -- the thread goes on, or has ended now
-pub turned_goes : (job : JobData) (m m' : Machine) (place at : ℕ) → slice_get (live_from m.threads 0) place ≡ Some at → m' ≡ step job m at → IsTurned m.threads m'.threads at → IsGoing m'.threads at → TurnedAt job m m' place (place + 1)
+pub turned_goes : (job : JobData) (m m' : Machine) (place at : ℕ) → slice_get (live_from m.threads 0) place ≡ Some at → m' ≡ step job m at → IsTurned m.threads m'.threads at → IsGoing m'.threads at →
+    TurnedAt job m m' place (place + 1)
 turned_goes job m m' place at is stepped turned going = record { thread = at; at = is; step = stepped; later = next_goes m.threads m'.threads place at is turned going }
 
-pub turned_stays : (job : JobData) (m m' : Machine) (place at : ℕ) → slice_get (live_from m.threads 0) place ≡ Some at → m' ≡ step job m at → IsTurned m.threads m'.threads at → IsStill m'.threads at → TurnedAt job m m' place place
+pub turned_stays : (job : JobData) (m m' : Machine) (place at : ℕ) → slice_get (live_from m.threads 0) place ≡ Some at → m' ≡ step job m at → IsTurned m.threads m'.threads at → IsStill m'.threads at →
+    TurnedAt job m m' place place
 turned_stays job m m' place at is stepped turned still = record { thread = at; at = is; step = stepped; later = next_stays m.threads m'.threads place at is turned still }

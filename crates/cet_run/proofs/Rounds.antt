@@ -19,7 +19,9 @@ leads_none : {A : Type 0} (Schedule : Machine → A → List ℕ → Type 0) (jo
 leads_none Schedule job start first = record { ran = refl; more = λ rest r. r }
 
 -- one turn more
-leads_more : {A : Type 0} (Schedule : Machine → A → List ℕ → Type 0) (job : JobData) (start now next : Machine) (first state after : A) (turns : List ℕ) (t : ℕ) → Leads Schedule job start now first state turns → next ≡ step job now t → ((rest : List ℕ) → Schedule (step job now t) after rest → Schedule now state (t ∷ rest)) → Leads Schedule job start next first after (turns ++ t ∷ [])
+leads_more : {A : Type 0} (Schedule : Machine → A → List ℕ → Type 0) (job : JobData) (start now next : Machine) (first state after : A) (turns : List ℕ) (t : ℕ) →
+    Leads Schedule job start now first state turns → next ≡ step job now t → ((rest : List ℕ) → Schedule (step job now t) after rest → Schedule now state (t ∷ rest)) →
+    Leads Schedule job start next first after (turns ++ t ∷ [])
 leads_more Schedule job start now next first state after turns t h e by = record {
   ran = run_append job start turns (t ∷ []) ∙ ap (λ m. step job m t) h.ran ∙ sym e;
   more = λ rest r. subst (Schedule start first) (sym (append_assoc turns (t ∷ []) rest)) (h.more (t ∷ rest) (by rest (subst (λ m. Schedule m after rest) e r)));
@@ -37,7 +39,8 @@ pub record Rounds (job : JobData) (start now : Machine) (place : ℕ) : Type 0 w
 pub rounds_start : (job : JobData) (start : Machine) → Rounds job start start 0
 rounds_start job start = record { turns = []; last = None; leads = leads_none (IsRobin job) job start None; places = refl }
 
-pub rounds_more : (job : JobData) (start now next : Machine) (from place to : ℕ) → Rounds job start now from → option_or (slice_get (live_from now.threads 0) from) (slice_get (live_from now.threads 0) 0) ≡ slice_get (live_from now.threads 0) place → TurnedAt job now next place to → Rounds job start next to
+pub rounds_more : (job : JobData) (start now next : Machine) (from place to : ℕ) → Rounds job start now from →
+    option_or (slice_get (live_from now.threads 0) from) (slice_get (live_from now.threads 0) 0) ≡ slice_get (live_from now.threads 0) place → TurnedAt job now next place to → Rounds job start next to
 rounds_more job start now next from place to r is turned =
     let turn : next_turn now.threads r.last ≡ Some turned.thread = robin_is now.threads r.last from r.places ∙ is ∙ turned.at in
     record {
@@ -65,7 +68,8 @@ pub record Mixes (job : JobData) (start now : Machine) (seed number : ℕ) : Typ
 pub mixes_start : (job : JobData) (start : Machine) (seed : ℕ) → Mixes job start start seed seed
 mixes_start job start seed = record { turns = []; leads = leads_none (IsMix job) job start seed }
 
-pub mixes_more : (job : JobData) (start now next : Machine) (seed number place to : ℕ) → Mixes job start now seed number → place ≡ mixed number / 2 ^ 33 % length (live_from now.threads 0) → TurnedAt job now next place to → Mixes job start next seed (mixed number)
+pub mixes_more : (job : JobData) (start now next : Machine) (seed number place to : ℕ) → Mixes job start now seed number → place ≡ mixed number / 2 ^ 33 % length (live_from now.threads 0) →
+    TurnedAt job now next place to → Mixes job start next seed (mixed number)
 mixes_more job start now next seed number place to r is turned =
     let turn = mix_is (live_from now.threads 0) (mixed number) place turned.thread is turned.at in
     record {
@@ -81,6 +85,7 @@ mixes_end job start now seed number r none = record {
 }
 
 -- the same with Mix's next number by another name
-pub mixes_on : (job : JobData) (start now next : Machine) (seed number after place to : ℕ) → Mixes job start now seed number → after ≡ mixed number → place ≡ after / 2 ^ 33 % length (live_from now.threads 0) → TurnedAt job now next place to → Mixes job start next seed after
+pub mixes_on : (job : JobData) (start now next : Machine) (seed number after place to : ℕ) → Mixes job start now seed number → after ≡ mixed number →
+    place ≡ after / 2 ^ 33 % length (live_from now.threads 0) → TurnedAt job now next place to → Mixes job start next seed after
 mixes_on job start now next seed number after place to r e is turned =
     subst (Mixes job start next seed) (sym e) (mixes_more job start now next seed number place to r (is ∙ ap (λ x. x / 2 ^ 33 % length (live_from now.threads 0)) e) turned)

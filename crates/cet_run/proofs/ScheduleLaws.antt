@@ -13,7 +13,8 @@ use Rattle.cet_run.specs.Schedule.{IsComplete, IsFull, IsMix, IsRobin, after_las
 abbrev HasEnded : Thread → Type 0
 HasEnded thread = IsSome thread.core.over
 
-ended_by : (thread : Thread) (threads : List Thread) (n : ℕ) (over : Option End) → thread.core.over ≡ over → cond (goes_on over) (Some n) (first_live threads (n + 1)) ≡ None → HasEnded thread × (first_live threads (n + 1) ≡ None)
+ended_by : (thread : Thread) (threads : List Thread) (n : ℕ) (over : Option End) → thread.core.over ≡ over → cond (goes_on over) (Some n) (first_live threads (n + 1)) ≡ None →
+    HasEnded thread × (first_live threads (n + 1) ≡ None)
 ended_by thread threads n None q e = cc
 ended_by thread threads n (Some x) q e = (subst IsSome (sym q) refl, e)
 
@@ -42,7 +43,8 @@ pub full_complete : (job : JobData) (m : Machine) (given turns : List ℕ) → I
 full_complete job m given turns f =
     subst IsComplete (sym (ap (run job m) f.whole ∙ run_on job m given f.rest)) (robin_complete job (run job m given) None f.rest f.robin)
 
-dead_by : (thread : Thread) (threads : List Thread) (n : ℕ) (over : Option End) → thread.core.over ≡ over → cond (goes_on over) (n ∷ live_from threads (n + 1)) (live_from threads (n + 1)) ≡ [] → HasEnded thread × (live_from threads (n + 1) ≡ [])
+dead_by : (thread : Thread) (threads : List Thread) (n : ℕ) (over : Option End) → thread.core.over ≡ over → cond (goes_on over) (n ∷ live_from threads (n + 1)) (live_from threads (n + 1)) ≡ [] →
+    HasEnded thread × (live_from threads (n + 1) ≡ [])
 dead_by thread threads n None q e = cc
 dead_by thread threads n (Some x) q e = (subst IsSome (sym q) refl, e)
 

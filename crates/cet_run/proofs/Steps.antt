@@ -29,13 +29,16 @@ use Rattle.cet_run.specs.Turns.{IsGoing, IsStill, IsTurned, NotGoing, Reached, t
 
 -- ---- one access
 
-turn_step : (job : JobData) (words words' : List ℕ) (threads : List Thread) (t : ℕ) (thread thread' : Thread) (a : Access) (child : Option Core) → slice_get threads t ≡ Some thread → next_access job thread.core ≡ Some a → words' ≡ after words a → thread' ≡ thread_after thread (taken job thread.core (answer words a)) → child ≡ (taken job thread.core (answer words a)).child → machine words' (with_child (slice_set threads t thread') child) ≡ step job (machine words threads) t
+turn_step : (job : JobData) (words words' : List ℕ) (threads : List Thread) (t : ℕ) (thread thread' : Thread) (a : Access) (child : Option Core) → slice_get threads t ≡ Some thread →
+    next_access job thread.core ≡ Some a → words' ≡ after words a → thread' ≡ thread_after thread (taken job thread.core (answer words a)) → child ≡ (taken job thread.core (answer words a)).child →
+    machine words' (with_child (slice_set threads t thread') child) ≡ step job (machine words threads) t
 unfolding step
 turn_step job words words' threads t thread thread' a child i n w e c =
     let made : machine words' (with_child (slice_set threads t thread') child) ≡ accessed job (machine words threads) t thread a = rw (w, e, c) refl in
     made ∙ sym (ap (step_by job (machine words threads) t) i ∙ ap (act job (machine words threads) t thread) n)
 
-turn_falls : (job : JobData) (threads : List Thread) (t value : ℕ) (thread thread' : Thread) → t < length threads → slice_get threads t ≡ Some thread → Waits job thread.core → thread.core.over ≡ None → thread' ≡ thread_after thread (taken job thread.core value) → sum_by (thread_left job) (slice_set threads t thread') < sum_by (thread_left job) threads
+turn_falls : (job : JobData) (threads : List Thread) (t value : ℕ) (thread thread' : Thread) → t < length threads → slice_get threads t ≡ Some thread → Waits job thread.core →
+    thread.core.over ≡ None → thread' ≡ thread_after thread (taken job thread.core value) → sum_by (thread_left job) (slice_set threads t thread') < sum_by (thread_left job) threads
 turn_falls job threads t value thread thread' l i h o e =
     let f : thread_left job thread' < thread_left job thread = subst (λ x. thread_left job x < thread_left job thread) (sym e) (falls job thread.core value h o) in
     let s = sum_by-set (thread_left job) threads t thread' thread l in
@@ -105,7 +108,8 @@ reached_run job m m' ts r e = record {
   ran = run_append job r.start r.turns ts ∙ ap (λ x. run job x ts) r.ran ∙ sym e;
 }
 
-last_along : (At : Machine → Book → Type 0) (Turn : Machine → (before after : Book) → ℕ → Type 0) (job : JobData) (turns : List ℕ) (m : Machine) (b : Book) → Along At Turn job m b turns → (last : Book) × At (run job m turns) last
+last_along : (At : Machine → Book → Type 0) (Turn : Machine → (before after : Book) → ℕ → Type 0) (job : JobData) (turns : List ℕ) (m : Machine) (b : Book) → Along At Turn job m b turns →
+    (last : Book) × At (run job m turns) last
 last_along At Turn job [] m b h = (b, h)
 last_along At Turn job (t ∷ ts) m b h = last_along At Turn job ts (step job m t) h.1 h.4
 
@@ -122,12 +126,16 @@ few job m r =
 pub thread_here : (all_traced : List TracedThreadData) (t : ℕ) (traced : TracedThreadData) → slice_get all_traced t ≡ Some traced → slice_get (threads_of all_traced) t ≡ Some (thread_of traced)
 thread_here all_traced t traced i = slice_get-map thread_of all_traced t ∙ ap (option_map thread_of) i
 
-pub traced_step : (job : JobData) (words words' : List ℕ) (all_traced : List TracedThreadData) (t : ℕ) (traced traced' : TracedThreadData) (a : Access) (child : Option CpuData) → slice_get all_traced t ≡ Some traced → next_access job traced.cpu.core ≡ Some a → words' ≡ after words a → Stepped job traced traced' (answer words a) child → machine words' (with_child (threads_of (slice_set all_traced t traced')) (core_of child)) ≡ step job (machine words (threads_of all_traced)) t
+pub traced_step : (job : JobData) (words words' : List ℕ) (all_traced : List TracedThreadData) (t : ℕ) (traced traced' : TracedThreadData) (a : Access) (child : Option CpuData) →
+    slice_get all_traced t ≡ Some traced → next_access job traced.cpu.core ≡ Some a → words' ≡ after words a → Stepped job traced traced' (answer words a) child →
+    machine words' (with_child (threads_of (slice_set all_traced t traced')) (core_of child)) ≡ step job (machine words (threads_of all_traced)) t
 traced_step job words words' all_traced t traced traced' a child i n w s =
     ap (λ threads. machine words' (with_child threads (core_of child))) (map-set thread_of all_traced t traced')
     ∙ turn_step job words words' (threads_of all_traced) t (thread_of traced) (thread_of traced') a (core_of child) (thread_here all_traced t traced i) n w s.thread s.bears
 
-pub traced_falls : (job : JobData) (all_traced : List TracedThreadData) (t value : ℕ) (traced traced' : TracedThreadData) → t < length all_traced → slice_get all_traced t ≡ Some traced → IsCpu job traced.cpu → traced.cpu.core.over ≡ None → thread_of traced' ≡ thread_after (thread_of traced) (taken job traced.cpu.core value) → left_among job (slice_set all_traced t traced') < left_among job all_traced
+pub traced_falls : (job : JobData) (all_traced : List TracedThreadData) (t value : ℕ) (traced traced' : TracedThreadData) → t < length all_traced → slice_get all_traced t ≡ Some traced →
+    IsCpu job traced.cpu → traced.cpu.core.over ≡ None → thread_of traced' ≡ thread_after (thread_of traced) (taken job traced.cpu.core value) →
+    left_among job (slice_set all_traced t traced') < left_among job all_traced
 traced_falls job all_traced t value traced traced' l i h o e =
     let below : t < length (threads_of all_traced) = subst (λ n. t < n) (sym (length-map all_traced thread_of)) l in
     subst (λ threads. sum_by (thread_left job) threads < left_among job all_traced) (sym (map-set thread_of all_traced t traced'))
@@ -163,7 +171,8 @@ less_by : (a before child whole rest sum room room' : ℕ) → a < before → ch
 less_by a before child whole rest sum room room' l m s r r' = omega arith
 
 -- those that come with a child, and those not yet born, have less left
-pub child_falls : (job : JobData) (before all_traced : List TracedThreadData) (child : Option CpuData) → length before ≡ length all_traced → length (with_traced all_traced child) ≤ 32 → left_among job all_traced < left_among job before → left_to job (with_traced all_traced child) < left_to job before
+pub child_falls : (job : JobData) (before all_traced : List TracedThreadData) (child : Option CpuData) → length before ≡ length all_traced → length (with_traced all_traced child) ≤ 32 →
+    left_among job all_traced < left_among job before → left_to job (with_traced all_traced child) < left_to job before
 child_falls job before all_traced None s few l =
     let a : length (threads_of before) ≡ length (threads_of all_traced) = length-map before thread_of ∙ s ∙ sym (length-map all_traced thread_of) in
     subst (λ n. left_among job all_traced + (32 - length (threads_of all_traced)) * whole_thread job < left_among job before + (32 - n) * whole_thread job) (sym a) (omega arith)
@@ -175,11 +184,13 @@ child_falls job before all_traced (Some cpu) s few l =
     let b : length (all_traced ++ traced ∷ []) ≡ length all_traced + 1 = length-append all_traced (traced ∷ []) in
     let c : length (threads_of (all_traced ++ traced ∷ [])) ≡ n + 1 = let d = length-map (all_traced ++ traced ∷ []) thread_of in omega arith in
     let few' : n < 32 = omega arith in
-    let sum : left_among job (all_traced ++ traced ∷ []) ≡ left_among job all_traced + thread_left job (thread_of traced) = ap (sum_by (thread_left job)) (map-append thread_of all_traced (traced ∷ [])) ∙ sum_last (thread_left job) (threads_of all_traced) (thread_of traced) in
+    let sum : left_among job (all_traced ++ traced ∷ []) ≡ left_among job all_traced + thread_left job (thread_of traced) =
+    ap (sum_by (thread_left job)) (map-append thread_of all_traced (traced ∷ [])) ∙ sum_last (thread_left job) (threads_of all_traced) (thread_of traced) in
     let most : thread_left job (thread_of traced) ≤ whole = most_by job cpu.core cpu.core.over in
     let less = room_less n whole few' in
     let same : (32 - length (threads_of (all_traced ++ traced ∷ []))) * whole ≡ (32 - (n + 1)) * whole = ap (λ k. (32 - k) * whole) c in
-    less_by (left_among job all_traced) (left_among job before) (thread_left job (thread_of traced)) whole ((32 - (n + 1)) * whole) (left_among job (all_traced ++ traced ∷ [])) ((32 - length (threads_of (all_traced ++ traced ∷ []))) * whole) ((32 - n) * whole) l most sum same less
+    less_by (left_among job all_traced) (left_among job before) (thread_left job (thread_of traced)) whole ((32 - (n + 1)) * whole) (left_among job (all_traced ++ traced ∷ []))
+    ((32 - length (threads_of (all_traced ++ traced ∷ []))) * whole) ((32 - n) * whole) l most sum same less
 
 -- a turn's threads: one is another than before, and a child may come last
 pub turned_is : (before all_traced : List TracedThreadData) (child : Option CpuData) (t : ℕ) → IsSetAt before all_traced t → IsTurned (threads_of before) (threads_of (with_traced all_traced child)) t
@@ -208,7 +219,9 @@ set_long : (before all_traced : List TracedThreadData) (t : ℕ) → IsSetAt bef
 set_long before all_traced t h = sym (ap length h.is ∙ length-set before t h.traced)
 
 -- what is left after a whole turn
-pub whole_falls : (job : JobData) (m m' : Machine) (before all_traced : List TracedThreadData) (child : Option CpuData) (t : ℕ) → Reached job m → m' ≡ step job m t → m'.threads ≡ threads_of (with_traced all_traced child) → IsSetAt before all_traced t → left_among job all_traced < left_among job before → left_to job (with_traced all_traced child) < left_to job before
+pub whole_falls : (job : JobData) (m m' : Machine) (before all_traced : List TracedThreadData) (child : Option CpuData) (t : ℕ) → Reached job m → m' ≡ step job m t →
+    m'.threads ≡ threads_of (with_traced all_traced child) → IsSetAt before all_traced t → left_among job all_traced < left_among job before →
+    left_to job (with_traced all_traced child) < left_to job before
 whole_falls job m m' before all_traced child t r e threads h l =
     let most = few job m' (reached_step job m m' t r e) in
     let same = ap length threads in

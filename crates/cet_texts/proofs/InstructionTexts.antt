@@ -19,14 +19,16 @@ use Rattle.cet_syntax.specs.Tokens.{◌>>=◌}
 use Rattle.cet_syntax.specs.Words.{Number}
 use Rattle.cet_syntax.specs.Operands as asm
 use Rattle.cet_syntax.specs.Operands.{ParsedOperand, Register, Counter, Value, Memory, Byte, Relative, Operands, Absent, One, Two}
-use Rattle.cet_syntax.specs.Instructions.{no_fixups, Argument, argument, common_size, Built, pair_instr, pair, wide_move, is_wide, any_move, zero_move, sign_move, shift_instr, shift, two_operands, register_instr, memory_instr, relative_instr, value_built, one_operand, built}
+use Rattle.cet_syntax.specs.Instructions.{no_fixups, Argument, argument, common_size, Built, pair_instr, pair, wide_move, is_wide, any_move, zero_move, sign_move, shift_instr}
+use Rattle.cet_syntax.specs.Instructions.{shift, two_operands, register_instr, memory_instr, relative_instr, value_built, one_operand, built}
 use Rattle.cet_syntax.specs.Line.{Code, judged, stated}
 use Rattle.cet_syntax.specs.declared.mnemonics.Mnemonic.{Mnemonic}
 use Rattle.cet_syntax.specs.declared.mnemonics.Mnemonic.TheVariants as words
 use Rattle.cet_texts.proofs.PieceTokens.{tokens_of, IsPlain}
 use Rattle.cet_texts.proofs.WordTexts.{register_word, hex_word, fits_holds, value_sound}
 use Rattle.cet_texts.proofs.OperandTexts.{address_of, shown_sound}
-use Rattle.cet_texts.proofs.ParsedTexts.{value_ok, mem_plain, operand_plain, pair_plain, size_plain, relative_plain, parsed_of, first_parsed, operand_last, byte_last, number_last, counter_last, one_read, operand_read, relative_read, after_register, pair_read}
+use Rattle.cet_texts.proofs.ParsedTexts.{value_ok, mem_plain, operand_plain, pair_plain, size_plain, relative_plain, parsed_of, first_parsed, operand_last, byte_last}
+use Rattle.cet_texts.proofs.ParsedTexts.{number_last, counter_last, one_read, operand_read, relative_read, after_register, pair_read}
 
 -- an instruction that is stated as it is
 abbrev pub clean_built : Instr → Built

@@ -17,7 +17,8 @@ use Rattle.cet_isa.specs.Form.{Pattern, Form}
 use Rattle.cet_isa.specs.Forms as row
 use Rattle.cet_isa.specs.Spells.{places}
 use Rattle.cet_isa.specs.Code.{reg_number, op_number, cond_number}
-use Rattle.cet_isa.specs.Canonical.{one_byte, four_bytes, fits_byte, low, high, needs_no_disp, mod_bits, disp_bytes, Coded, coded_base, coded_mem, coded, rex_with, cells_of, present, spelling, w_bit, with_rm, with_reg, alone, alu_spelling, test_spelling, mov_spelling, shift_spelling, push_spelling, canonical_spelling}
+use Rattle.cet_isa.specs.Canonical.{one_byte, four_bytes, fits_byte, low, high, needs_no_disp, mod_bits, disp_bytes, Coded, coded_base, coded_mem, coded, rex_with, cells_of, present, spelling}
+use Rattle.cet_isa.specs.Canonical.{w_bit, with_rm, with_reg, alone, alu_spelling, test_spelling, mov_spelling, shift_spelling, push_spelling, canonical_spelling}
 
 present_length : (os : List (Option Pattern)) (cells : List ℕ) → length (present os cells) ≤ length cells
 present_length [] cells = omega arith

@@ -12,7 +12,8 @@ use Rattle.cet_syntax.specs.Instructions.{no_fixups, pair_instr, two_operands, s
 use Rattle.cet_syntax.specs.Line.{Code, instruction, begun, line_of}
 use Rattle.cet_syntax.specs.declared.mnemonics.Mnemonic.TheVariants as words
 use Rattle.cet_texts.proofs.PieceTokens.{onto_joined}
-use Rattle.cet_texts.proofs.InstructionTexts.{alu_code, test_code, mov_code, imul_code, lea_code, xchg_code, cmov_code, store_code, wide_code, zero_code, sign_code, shift_code, one_register_code, one_memory_code, place_code, push_code, relative_code, ret_code}
+use Rattle.cet_texts.proofs.InstructionTexts.{alu_code, test_code, mov_code, imul_code, lea_code, xchg_code, cmov_code, store_code, wide_code, zero_code, sign_code}
+use Rattle.cet_texts.proofs.InstructionTexts.{shift_code, one_register_code, one_memory_code, place_code, push_code, relative_code, ret_code}
 use Rattle.cet_texts.proofs.LineTexts.{IsLine, alone_line, named_line, prefixed_line}
 use Rattle.cet_texts.proofs.MnemonicTexts as word
 

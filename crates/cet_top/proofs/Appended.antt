@@ -36,7 +36,8 @@ module _ {X : Type 0} (f : ℕ × X → List ℕ) where
       ∙ ap (λ (k : ℕ). flat_map f (enumerate_from 0 (take i xs)) ++ f (k, get_or xs i d)) place
 
   -- the text of the item here is appended to those of the items before it
-  pub numbered_appended : (xs : List X) (i : ℕ) (x : X) (out new start : List ℕ) → i < length xs → x ≡ get_or xs i x → new ≡ out ++ f (i, x) → out ≡ start ++ flat_map f (enumerate_from 0 (take i xs)) → new ≡ start ++ flat_map f (enumerate_from 0 (take (i + 1) xs))
+  pub numbered_appended : (xs : List X) (i : ℕ) (x : X) (out new start : List ℕ) → i < length xs → x ≡ get_or xs i x → new ≡ out ++ f (i, x) →
+      out ≡ start ++ flat_map f (enumerate_from 0 (take i xs)) → new ≡ start ++ flat_map f (enumerate_from 0 (take (i + 1) xs))
   numbered_appended xs i x out new start below here appended so_far =
       let texts = flat_map f (enumerate_from 0 (take i xs)) in
       appended

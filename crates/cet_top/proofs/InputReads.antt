@@ -97,7 +97,8 @@ reading_too_much src src' bytes r long = record { bytes = bytes; taken = r.taken
 
 -- a read that failed, after these bytes
 pub reading_failed : (E : Type 0) (src mid src' : SourceState) (bytes : List ℕ) (room : ℕ) (e : E) → Reading src mid bytes → length bytes ≤ 8388608 →
-    TakesUpTo room mid.left src'.left → src.faults ≤ mid.faults → Rose mid.faults src'.faults → src'.tally ≡ tallied mid.tally room (Err e) → CountsFaults {T = ℕ} {E = E} mid.tally mid.faults src'.faults (Err e) → ReadUntilFault src src'
+    TakesUpTo room mid.left src'.left → src.faults ≤ mid.faults → Rose mid.faults src'.faults → src'.tally ≡ tallied mid.tally room (Err e) →
+    CountsFaults {T = ℕ} {E = E} mid.tally mid.faults src'.faults (Err e) → ReadUntilFault src src'
 reading_failed E src mid src' bytes room e r short lost later cause counts steady = record {
   bytes = bytes;
   lost = lost.0;

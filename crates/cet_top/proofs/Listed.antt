@@ -18,7 +18,8 @@ SaidAt addr at code said = (rest : List ℕ) → Lists (addr + at) (drop at code
 pub none_said : (addr : ℕ) (code : List ℕ) → SaidAt addr 0 code []
 none_said addr code rest l = subst (λ a. Lists a code rest) (omega arith) l
 
-more_listed : (addr count : ℕ) (p : Piece) (code left rest : List ℕ) → IsFirst p code → count ≡ length (piece_bytes p) → code ≡ piece_bytes p ++ left → Lists (addr + count) left rest → Lists addr code (piece_line addr p ++ rest)
+more_listed : (addr count : ℕ) (p : Piece) (code left rest : List ℕ) → IsFirst p code → count ≡ length (piece_bytes p) → code ≡ piece_bytes p ++ left → Lists (addr + count) left rest →
+    Lists addr code (piece_line addr p ++ rest)
 more_listed addr count p code left rest stands size whole l = record {
   pieces = p ∷ l.pieces;
   cut = (left, stands, whole, l.cut);
@@ -26,7 +27,8 @@ more_listed addr count p code left rest stands size whole l = record {
 }
 
 -- one piece more is said
-pub piece_said : (addr at count : ℕ) (code here said : List ℕ) (p : Piece) → here ≡ drop at code → SaidAt addr at code said → IsFirst p here → count ≡ length (piece_bytes p) → here ≡ piece_bytes p ++ drop count here → SaidAt addr (at + count) code (said ++ piece_line (addr + at) p)
+pub piece_said : (addr at count : ℕ) (code here said : List ℕ) (p : Piece) → here ≡ drop at code → SaidAt addr at code said → IsFirst p here → count ≡ length (piece_bytes p) →
+    here ≡ piece_bytes p ++ drop count here → SaidAt addr (at + count) code (said ++ piece_line (addr + at) p)
 piece_said addr at count code here said p is so_far stands size whole rest l =
     let left : drop count here ≡ drop (at + count) code = ap (drop count) is ∙ drop-drop count at code in
     let place : addr + (at + count) ≡ addr + at + count = omega arith in

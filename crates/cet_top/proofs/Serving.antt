@@ -156,7 +156,8 @@ module _ (reads : Bool) (Answer : Answering) (src src' : SourceState) (sink sink
   -- the five ways in which a command ends
   abbrev Ways : Status → Type 0
   Ways s =
-      (s ≡ status.NoMemory) ⊎ ((s ≡ status.TooLong) × ReadTooMuch src src') ⊎ ((s ≡ status.ReadFault) × ReadUntilFault src src') ⊎ ((s ≡ status.WriteFault) × Cut reads Answer src src' sink sink') ⊎ Answered reads Answer src src' sink sink' s
+      (s ≡ status.NoMemory) ⊎ ((s ≡ status.TooLong) × ReadTooMuch src src') ⊎ ((s ≡ status.ReadFault) × ReadUntilFault src src') ⊎ ((s ≡ status.WriteFault) ×
+      Cut reads Answer src src' sink sink') ⊎ Answered reads Answer src src' sink sink' s
 
   ways : (s : Status) → Serves reads Answer src src' sink sink' s → Ways s
   ways status.NoMemory h = inl refl
@@ -224,7 +225,8 @@ few_taken : (reads : Bool) (src src' : SourceState) (bytes : List ℕ) → Takes
 few_taken true src src' bytes r g = few_read src src' bytes r g
 few_taken false src src' bytes r g = none_given src src' r.0 g
 
-pub served_too_long : (reads : Bool) (Answer : Answering) (src src' : SourceState) (sink sink' : SinkState) (s : Status) → Serves reads Answer src src' sink sink' s → GaveTooMuch src src' → (s ≡ status.TooLong) ⊎ (s ≡ status.NoMemory)
+pub served_too_long : (reads : Bool) (Answer : Answering) (src src' : SourceState) (sink sink' : SinkState) (s : Status) → Serves reads Answer src src' sink sink' s → GaveTooMuch src src' →
+    (s ≡ status.TooLong) ⊎ (s ≡ status.NoMemory)
 served_too_long reads Answer src src' sink sink' s h g = elim (ways reads Answer src src' sink sink' s h) [
   | inl none ↦ inr none
   | inr (inl (is, much)) ↦ inl is
@@ -234,7 +236,8 @@ served_too_long reads Answer src src' sink sink' s h g = elim (ways reads Answer
 ]
 
 -- the same of a command by other words for it
-pub means_serves : (words : List (List ℕ)) (c d : Command) (src src' : SourceState) (sink sink' : SinkState) (s : Status) → Means words c → Means words d → Serves (reads c) (Answers c) src src' sink sink' s → Serves (reads d) (Answers d) src src' sink sink' s
+pub means_serves : (words : List (List ℕ)) (c d : Command) (src src' : SourceState) (sink sink' : SinkState) (s : Status) → Means words c → Means words d →
+    Serves (reads c) (Answers c) src src' sink sink' s → Serves (reads d) (Answers d) src src' sink sink' s
 means_serves words c d src src' sink sink' s m n h = subst (λ (x : Command). Serves (reads x) (Answers x) src src' sink sink' s) (means_same words c d m n) h
 
 -- ---- no memory for the words

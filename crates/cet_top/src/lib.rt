@@ -10,7 +10,6 @@ mod program_tests;
 mod programs;
 mod reports;
 mod status;
-mod styles;
 #[cfg(test)]
 mod tests;
 mod transfers;
@@ -18,4 +17,3 @@ mod transfers;
 pub use laws::answers_are_one;
 pub use programs::plain;
 pub use status::Status;
-pub use styles::Style;

@@ -24,7 +24,8 @@ covered s addr h c =
     let high = h.high in
     (grind (arith, nat_tests), grind (arith, nat_tests))
 
-byte_place : (segments : List Segment) (addr b : ℕ) (o : Option Segment) → AllByRecursion IsSegment segments → find (covers (addr / 4096)) segments ≡ o → executable_byte o addr ≡ Some b → (image_start ≤ addr) × (addr < image_end)
+byte_place : (segments : List Segment) (addr b : ℕ) (o : Option Segment) → AllByRecursion IsSegment segments → find (covers (addr / 4096)) segments ≡ o → executable_byte o addr ≡ Some b →
+    (image_start ≤ addr) × (addr < image_end)
 byte_place segments addr b None h f e = cc
 byte_place segments addr b (Some s) h f e = let g = found IsSegment (covers (addr / 4096)) s segments h f in covered s addr g.0 g.1
 

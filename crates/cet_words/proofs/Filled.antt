@@ -11,7 +11,8 @@ use Rattle.cet_words.proofs.HeldLaws.{held_at, length-tabulate}
 pub filled_none : (low : ℕ) (word : ℕ → ℕ) (old : List ℕ) → FilledFrom low low word old old
 filled_none low word old w = grind (arith, nat_tests)
 
-pub filled_more : (low at next : ℕ) (word : ℕ → ℕ) (old now new : List ℕ) (x : ℕ) → low ≤ at → next ≡ at + 1 → x ≡ word at → FilledFrom low at word old now → WordSet at x now new → FilledFrom low next word old new
+pub filled_more : (low at next : ℕ) (word : ℕ → ℕ) (old now new : List ℕ) (x : ℕ) → low ≤ at → next ≡ at + 1 → x ≡ word at → FilledFrom low at word old now → WordSet at x now new →
+    FilledFrom low next word old new
 filled_more low at next word old now new x from step is filled set w = grind (arith, nat_tests, filled w, set w)
 
 -- what is written range by range

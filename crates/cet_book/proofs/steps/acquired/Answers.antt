@@ -8,7 +8,11 @@ use Rattle.cet_book.proofs.Latest.{acquired_latest}
 use Rattle.cet_book.proofs.steps.acquired.Goals as goal
 
 pub returns-then-at-stacks-clause-applied : goal.returns-then-at-stacks-clause-applied
-returns-then-at-stacks-clause-applied c = λ g. (with_none c.args.thread c.current_of-at.result c.args.stacks.now g (λ m r. acquired c.args.thread c.args.addr m (book_of c.args.stacks.now g)) c.current_of-at.ensures c.if-at-stacks.true, refl)
+returns-then-at-stacks-clause-applied c = λ g. (
+  with_none c.args.thread c.current_of-at.result c.args.stacks.now g
+      (λ m r. acquired c.args.thread c.args.addr m (book_of c.args.stacks.now g)) c.current_of-at.ensures c.if-at-stacks.true,
+  refl,
+)
 
 pub returns-then-taken-stacks-clause-applied : goal.returns-then-taken-stacks-clause-applied
 returns-then-taken-stacks-clause-applied c =
@@ -23,10 +27,12 @@ pub take-requires-clause-few : goal.take-requires-clause-few
 take-requires-clause-few c = few_regions c.args.stacks.now c.requires.0 c.requires.1.book
 
 pub take-requires-clause-apart : goal.take-requires-clause-apart
-take-requires-clause-apart c = (takeable c.args.thread c.args.addr c.current_of-at.result c.parked_at-taken.result c.args.stacks.now c.requires.0 c.requires.1.book c.current_of-at.ensures c.if-at-stacks.false c.parked_at-taken.ensures c.if-taken-stacks.false).apart
+take-requires-clause-apart c = (takeable c.args.thread c.args.addr c.current_of-at.result c.parked_at-taken.result c.args.stacks.now c.requires.0 c.requires.1.book c.current_of-at.ensures
+    c.if-at-stacks.false c.parked_at-taken.ensures c.if-taken-stacks.false).apart
 
 pub take-requires-clause-room : goal.take-requires-clause-room
-take-requires-clause-room c = (takeable c.args.thread c.args.addr c.current_of-at.result c.parked_at-taken.result c.args.stacks.now c.requires.0 c.requires.1.book c.current_of-at.ensures c.if-at-stacks.false c.parked_at-taken.ensures c.if-taken-stacks.false).room
+take-requires-clause-room c = (takeable c.args.thread c.args.addr c.current_of-at.result c.parked_at-taken.result c.args.stacks.now c.requires.0 c.requires.1.book c.current_of-at.ensures
+    c.if-at-stacks.false c.parked_at-taken.ensures c.if-taken-stacks.false).room
 
 pub returns-in_err-take-clause-applied : goal.returns-in_err-take-clause-applied
 returns-in_err-take-clause-applied c =

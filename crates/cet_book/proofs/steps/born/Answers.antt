@@ -14,7 +14,8 @@ returns-then-current_of-stacks-clause-applied c =
 pub returns-clause-applied : goal.returns-clause-applied
 returns-clause-applied c =
     let some : nat_le (length c.args.stacks.now) c.current_of.result ≡ true = (let t = c.if-current_of-stacks.false in grind (arith, nat_tests)) in
-    λ g. born_step c.args.parent c.args.child c.args.region c.current_of.result c.args.stacks.now g true (sym c.is_maker.ensures ∙ c.if-not-is_maker.false) c.current_of.ensures some ∙ ap (λ l. Some (book_of l g)) (sym c.hand_over.ensures)
+    λ g. born_step c.args.parent c.args.child c.args.region c.current_of.result c.args.stacks.now g true (sym c.is_maker.ensures ∙ c.if-not-is_maker.false) c.current_of.ensures some ∙
+    ap (λ l. Some (book_of l g)) (sym c.hand_over.ensures)
 
 pub returns-clause-latest : goal.returns-clause-latest
 returns-clause-latest c =

@@ -11,7 +11,9 @@ returns-then-at-stacks c = λ g. (with_none c.args.thread c.current_of-at.result
 pub returns-then-count_of-count : goal.returns-then-count_of-count
 returns-then-count_of-count c = λ g. (
   with_some c.args.thread c.current_of-at.result c.args.stacks.now g (λ m r. raised m c.args.count (book_of c.args.stacks.now g)) c.current_of-at.ensures c.if-at-stacks.false ∙
-      raised_none c.args.count c.current_of-at.result c.args.stacks.now g _ c.if-at-stacks.false refl (no_self c.args.thread c.current_of-at.result c.args.stacks.now c.requires.0 c.requires.1.book c.current_of-at.ensures c.if-at-stacks.false) (let a = c.count_of.ensures in let b = c.if-count_of-count.true in omega arith),
+      raised_none c.args.count c.current_of-at.result c.args.stacks.now g _ c.if-at-stacks.false refl
+      (no_self c.args.thread c.current_of-at.result c.args.stacks.now c.requires.0 c.requires.1.book c.current_of-at.ensures c.if-at-stacks.false) (let a = c.count_of.ensures in
+      let b = c.if-count_of-count.true in omega arith),
   refl,
 )
 
@@ -29,7 +31,8 @@ pub loop-entry-preserved : goal.loop-entry-preserved
 loop-entry-preserved c =
     let i = c.loop-entry.invariant in
     let left : c.args.count - c.loop-entry._entry ≡ suc (c.args.count - (c.loop-entry._entry + 1)) = (let t = c.loop-entry-test.true in omega arith) in
-    let next = raised_next c.current_of-at.result (c.args.count - c.loop-entry._entry) (c.args.count - (c.loop-entry._entry + 1)) c.loop-entry.stacks (get_or c.loop-entry.stacks c.current_of-at.result nowhere).entries refl left i.room i.other i.inside in
+    let next = raised_next c.current_of-at.result (c.args.count - c.loop-entry._entry) (c.args.count - (c.loop-entry._entry + 1)) c.loop-entry.stacks
+    (get_or c.loop-entry.stacks c.current_of-at.result nowhere).entries refl left i.room i.other i.inside in
     let is = c.remove.ensures in
     record {
       rest = λ g. ap (λ l. raised c.current_of-at.result (c.args.count - (c.loop-entry._entry + 1)) (book_of l g)) (sym is) ∙ sym (next.rest g) ∙ i.rest g;

@@ -10,10 +10,12 @@ returns-then-at-stacks c = λ g. (with_none c.args.thread c.current_of-at.result
 pub returns-then-not-can_return : goal.returns-then-not-can_return
 returns-then-not-can_return c = λ g. (
   with_some c.args.thread c.current_of-at.result c.args.stacks.now g (λ m r. returned m r.entries (book_of c.args.stacks.now g)) c.current_of-at.ensures c.if-at-stacks.false ∙
-      returned_step c.current_of-at.result c.args.stacks.now g _ false refl (no_self c.args.thread c.current_of-at.result c.args.stacks.now c.requires.0 c.requires.1.book c.current_of-at.ensures c.if-at-stacks.false) (rw c.newest.ensures at (sym c.can_return.ensures ∙ c.if-not-can_return.true)),
+      returned_step c.current_of-at.result c.args.stacks.now g _ false refl (no_self c.args.thread c.current_of-at.result c.args.stacks.now c.requires.0 c.requires.1.book c.current_of-at.ensures
+      c.if-at-stacks.false) (rw c.newest.ensures at (sym c.can_return.ensures ∙ c.if-not-can_return.true)),
   refl,
 )
 
 pub returns : goal.returns
 returns c = λ g. with_some c.args.thread c.current_of-at.result c.args.stacks.now g (λ m r. returned m r.entries (book_of c.args.stacks.now g)) c.current_of-at.ensures c.if-at-stacks.false ∙
-    returned_step c.current_of-at.result c.args.stacks.now g _ true refl (no_self c.args.thread c.current_of-at.result c.args.stacks.now c.requires.0 c.requires.1.book c.current_of-at.ensures c.if-at-stacks.false) (rw c.newest.ensures at (sym c.can_return.ensures ∙ c.if-not-can_return.false)) ∙ ap (λ l. Some (book_of l g)) c.remove.ensures
+    returned_step c.current_of-at.result c.args.stacks.now g _ true refl (no_self c.args.thread c.current_of-at.result c.args.stacks.now c.requires.0 c.requires.1.book c.current_of-at.ensures
+    c.if-at-stacks.false) (rw c.newest.ensures at (sym c.can_return.ensures ∙ c.if-not-can_return.false)) ∙ ap (λ l. Some (book_of l g)) c.remove.ensures

@@ -12,7 +12,8 @@ loop-item-init c = listed_read signal_of 256 (items 44 c.args.text.now) ∙ ap (
 
 pub loop-item-preserved : goal.loop-item-preserved
 loop-item-preserved c =
-    let t = YieldsList-turn (split_gives c.args.text.now c.split-item-items.result c.into_iter-item-iterator.result c.into_iter-item-iterator.ensures.into_iter_gives c.split-item-items.ensures.text c.split-item-items.ensures.has_more c.split-item-items.ensures.pattern)
+    let t = YieldsList-turn (split_gives c.args.text.now c.split-item-items.result c.into_iter-item-iterator.result c.into_iter-item-iterator.ensures.into_iter_gives c.split-item-items.ensures.text
+    c.split-item-items.ensures.has_more c.split-item-items.ensures.pattern)
     c.loop-item.yielded _ c.loop-item.yielded_by _ _ c.in-Some.item c.in-Some.is c.next.ensures.steps in
     let some : is_some (signal_of c.in-Some.item.now) ≡ true = ap is_some (sym c.signal_of.ensures) ∙ c.if-is_none.ensures {u = tt} in
     let room : 0 < c.loop-item.room = omega (arith, c.if-room-eq0.false) in
@@ -22,7 +23,8 @@ loop-item-preserved c =
 
 pub returns-then-room-eq0 : goal.returns-then-room-eq0
 returns-then-room-eq0 c =
-    let t = YieldsList-turn (split_gives c.args.text.now c.split-item-items.result c.into_iter-item-iterator.result c.into_iter-item-iterator.ensures.into_iter_gives c.split-item-items.ensures.text c.split-item-items.ensures.has_more c.split-item-items.ensures.pattern)
+    let t = YieldsList-turn (split_gives c.args.text.now c.split-item-items.result c.into_iter-item-iterator.result c.into_iter-item-iterator.ensures.into_iter_gives c.split-item-items.ensures.text
+    c.split-item-items.ensures.has_more c.split-item-items.ensures.pattern)
     c.loop-item.yielded _ c.loop-item.yielded_by _ _ c.in-Some.item c.in-Some.is c.next.ensures.steps in
     let all = parts 44 c.args.text.now in
     elim c.then-room-eq0.branch [
@@ -39,6 +41,7 @@ returns-then-room-eq0 c =
 
 pub returns : goal.returns
 returns c =
-    let t = YieldsList-end (split_gives c.args.text.now c.split-item-items.result c.into_iter-item-iterator.result c.into_iter-item-iterator.ensures.into_iter_gives c.split-item-items.ensures.text c.split-item-items.ensures.has_more c.split-item-items.ensures.pattern)
+    let t = YieldsList-end (split_gives c.args.text.now c.split-item-items.result c.into_iter-item-iterator.result c.into_iter-item-iterator.ensures.into_iter_gives c.split-item-items.ensures.text
+    c.split-item-items.ensures.has_more c.split-item-items.ensures.pattern)
     c.loop-item.yielded _ c.loop-item.yielded_by _ _ c.in-None.is c.next.ensures.steps in
     sym (c.loop-item.invariant ∙ read_end signal_of (parts 44 c.args.text.now) (length c.loop-item.yielded) c.loop-item.room (omega (arith, t.1)))

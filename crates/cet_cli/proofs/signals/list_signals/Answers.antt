@@ -14,7 +14,8 @@ loop-item-init c =
 
 pub loop-item-preserved : goal.loop-item-preserved
 loop-item-preserved c =
-    let t = YieldsList-turn (split_gives c.args.text.now c.split-item-items.result c.into_iter-item-iterator.result c.into_iter-item-iterator.ensures.into_iter_gives c.split-item-items.ensures.text c.split-item-items.ensures.has_more c.split-item-items.ensures.pattern)
+    let t = YieldsList-turn (split_gives c.args.text.now c.split-item-items.result c.into_iter-item-iterator.result c.into_iter-item-iterator.ensures.into_iter_gives c.split-item-items.ensures.text
+    c.split-item-items.ensures.has_more c.split-item-items.ensures.pattern)
     c.loop-item.yielded _ c.loop-item.yielded_by _ _ c.in-Some.item c.in-Some.is c.next.ensures.steps in
     let all = parts 44 c.args.text.now in
     let signal = c.in-Some-signal_of.signal in
@@ -25,13 +26,15 @@ loop-item-preserved c =
 
 pub returns-in_default : goal.returns-in_default
 returns-in_default c =
-    let t = YieldsList-turn (split_gives c.args.text.now c.split-item-items.result c.into_iter-item-iterator.result c.into_iter-item-iterator.ensures.into_iter_gives c.split-item-items.ensures.text c.split-item-items.ensures.has_more c.split-item-items.ensures.pattern)
+    let t = YieldsList-turn (split_gives c.args.text.now c.split-item-items.result c.into_iter-item-iterator.result c.into_iter-item-iterator.ensures.into_iter_gives c.split-item-items.ensures.text
+    c.split-item-items.ensures.has_more c.split-item-items.ensures.pattern)
     c.loop-item.yielded _ c.loop-item.yielded_by _ _ c.in-Some.item c.in-Some.is c.next.ensures.steps in
     absurd (none_is _ c.requires (c.loop-item.invariant
     ∙ made_none signal_of one_signal (λ s. s) refl (λ a rest. refl) (parts 44 c.args.text.now) (length c.loop-item.yielded) c.in-Some.item.now c.loop-item.signals t (sym c.signal_of.ensures ∙ c.in_default.is)))
 
 pub returns : goal.returns
 returns c =
-    let t = YieldsList-end (split_gives c.args.text.now c.split-item-items.result c.into_iter-item-iterator.result c.into_iter-item-iterator.ensures.into_iter_gives c.split-item-items.ensures.text c.split-item-items.ensures.has_more c.split-item-items.ensures.pattern)
+    let t = YieldsList-end (split_gives c.args.text.now c.split-item-items.result c.into_iter-item-iterator.result c.into_iter-item-iterator.ensures.into_iter_gives c.split-item-items.ensures.text
+    c.split-item-items.ensures.has_more c.split-item-items.ensures.pattern)
     c.loop-item.yielded _ c.loop-item.yielded_by _ _ c.in-None.is c.next.ensures.steps in
     sym (c.loop-item.invariant ∙ made_end signal_of one_signal (λ s. s) refl (λ a rest. refl) (parts 44 c.args.text.now) (length c.loop-item.yielded) c.loop-item.signals (omega (arith, t.1)))

@@ -11,7 +11,8 @@ loop-item-init c = turns_listed (items 44 c.args.text.now) 10000 1000000 ∙ ap 
 
 pub loop-item-preserved : goal.loop-item-preserved
 loop-item-preserved c =
-    let t = YieldsList-turn (split_gives c.args.text.now c.split-item-items.result c.into_iter-item-iterator.result c.into_iter-item-iterator.ensures.into_iter_gives c.split-item-items.ensures.text c.split-item-items.ensures.has_more c.split-item-items.ensures.pattern)
+    let t = YieldsList-turn (split_gives c.args.text.now c.split-item-items.result c.into_iter-item-iterator.result c.into_iter-item-iterator.ensures.into_iter_gives c.split-item-items.ensures.text
+    c.split-item-items.ensures.has_more c.split-item-items.ensures.pattern)
     c.loop-item.yielded _ c.loop-item.yielded_by _ _ c.in-Some.item c.in-Some.is c.next.ensures.steps in
     let all = parts 44 c.args.text.now in
     let repeat = c.in-Some-repeat_of.repeat in
@@ -22,13 +23,15 @@ loop-item-preserved c =
 
 pub returns-in_default : goal.returns-in_default
 returns-in_default c =
-    let t = YieldsList-turn (split_gives c.args.text.now c.split-item-items.result c.into_iter-item-iterator.result c.into_iter-item-iterator.ensures.into_iter_gives c.split-item-items.ensures.text c.split-item-items.ensures.has_more c.split-item-items.ensures.pattern)
+    let t = YieldsList-turn (split_gives c.args.text.now c.split-item-items.result c.into_iter-item-iterator.result c.into_iter-item-iterator.ensures.into_iter_gives c.split-item-items.ensures.text
+    c.split-item-items.ensures.has_more c.split-item-items.ensures.pattern)
     c.loop-item.yielded _ c.loop-item.yielded_by _ _ c.in-Some.item c.in-Some.is c.next.ensures.steps in
     sym (c.loop-item.invariant ∙ turns_none (parts 44 c.args.text.now) (length c.loop-item.yielded) c.loop-item.room c.loop-item.left c.in-Some.item.now t (sym c.repeat_of.ensures ∙ c.in_default.is))
 
 pub returns-then-room-eq0 : goal.returns-then-room-eq0
 returns-then-room-eq0 c =
-    let t = YieldsList-turn (split_gives c.args.text.now c.split-item-items.result c.into_iter-item-iterator.result c.into_iter-item-iterator.ensures.into_iter_gives c.split-item-items.ensures.text c.split-item-items.ensures.has_more c.split-item-items.ensures.pattern)
+    let t = YieldsList-turn (split_gives c.args.text.now c.split-item-items.result c.into_iter-item-iterator.result c.into_iter-item-iterator.ensures.into_iter_gives c.split-item-items.ensures.text
+    c.split-item-items.ensures.has_more c.split-item-items.ensures.pattern)
     c.loop-item.yielded _ c.loop-item.yielded_by _ _ c.in-Some.item c.in-Some.is c.next.ensures.steps in
     let all = parts 44 c.args.text.now in
     let repeat = c.in-Some-repeat_of.repeat in
@@ -46,6 +49,7 @@ returns-then-room-eq0 c =
 
 pub returns : goal.returns
 returns c =
-    let t = YieldsList-end (split_gives c.args.text.now c.split-item-items.result c.into_iter-item-iterator.result c.into_iter-item-iterator.ensures.into_iter_gives c.split-item-items.ensures.text c.split-item-items.ensures.has_more c.split-item-items.ensures.pattern)
+    let t = YieldsList-end (split_gives c.args.text.now c.split-item-items.result c.into_iter-item-iterator.result c.into_iter-item-iterator.ensures.into_iter_gives c.split-item-items.ensures.text
+    c.split-item-items.ensures.has_more c.split-item-items.ensures.pattern)
     c.loop-item.yielded _ c.loop-item.yielded_by _ _ c.in-None.is c.next.ensures.steps in
     sym (c.loop-item.invariant ∙ turns_end (parts 44 c.args.text.now) (length c.loop-item.yielded) c.loop-item.room c.loop-item.left (omega (arith, t.1)))

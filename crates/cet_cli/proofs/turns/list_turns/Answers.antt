@@ -13,7 +13,8 @@ loop-item-init c =
 
 pub loop-item-preserved : goal.loop-item-preserved
 loop-item-preserved c =
-    let t = YieldsList-turn (split_gives c.args.text.now c.split-item-items.result c.into_iter-item-iterator.result c.into_iter-item-iterator.ensures.into_iter_gives c.split-item-items.ensures.text c.split-item-items.ensures.has_more c.split-item-items.ensures.pattern)
+    let t = YieldsList-turn (split_gives c.args.text.now c.split-item-items.result c.into_iter-item-iterator.result c.into_iter-item-iterator.ensures.into_iter_gives c.split-item-items.ensures.text
+    c.split-item-items.ensures.has_more c.split-item-items.ensures.pattern)
     c.loop-item.yielded _ c.loop-item.yielded_by _ _ c.in-Some.item c.in-Some.is c.next.ensures.steps in
     let all = parts 44 c.args.text.now in
     let repeat = c.in-Some-repeat_of.repeat in
@@ -24,13 +25,15 @@ loop-item-preserved c =
 
 pub returns-in_default : goal.returns-in_default
 returns-in_default c =
-    let t = YieldsList-turn (split_gives c.args.text.now c.split-item-items.result c.into_iter-item-iterator.result c.into_iter-item-iterator.ensures.into_iter_gives c.split-item-items.ensures.text c.split-item-items.ensures.has_more c.split-item-items.ensures.pattern)
+    let t = YieldsList-turn (split_gives c.args.text.now c.split-item-items.result c.into_iter-item-iterator.result c.into_iter-item-iterator.ensures.into_iter_gives c.split-item-items.ensures.text
+    c.split-item-items.ensures.has_more c.split-item-items.ensures.pattern)
     c.loop-item.yielded _ c.loop-item.yielded_by _ _ c.in-Some.item c.in-Some.is c.next.ensures.steps in
     absurd (no_schedule c.args.text.now c.requires (c.loop-item.invariant
     ∙ made_none repeat_of its_turns threads_of refl (λ a rest. refl) (parts 44 c.args.text.now) (length c.loop-item.yielded) c.in-Some.item.now c.loop-item.turns t (sym c.repeat_of.ensures ∙ c.in_default.is)))
 
 pub returns : goal.returns
 returns c =
-    let t = YieldsList-end (split_gives c.args.text.now c.split-item-items.result c.into_iter-item-iterator.result c.into_iter-item-iterator.ensures.into_iter_gives c.split-item-items.ensures.text c.split-item-items.ensures.has_more c.split-item-items.ensures.pattern)
+    let t = YieldsList-end (split_gives c.args.text.now c.split-item-items.result c.into_iter-item-iterator.result c.into_iter-item-iterator.ensures.into_iter_gives c.split-item-items.ensures.text
+    c.split-item-items.ensures.has_more c.split-item-items.ensures.pattern)
     c.loop-item.yielded _ c.loop-item.yielded_by _ _ c.in-None.is c.next.ensures.steps in
     sym (c.loop-item.invariant ∙ made_end repeat_of its_turns threads_of refl (λ a rest. refl) (parts 44 c.args.text.now) (length c.loop-item.yielded) c.loop-item.turns (omega (arith, t.1)))

@@ -9,21 +9,24 @@ use Rattle.cet_decode.proofs.decoder.answer.Goals as goal
 pub overflow_sub-result : goal.overflow_sub-result
 overflow_sub-result c =
     let x = c.in-Some.lead in
-    let row = row_reads c.args.bytes.now (lead x.prefix x.rex x.escaped x.opcode x.rest.now) (Some c.in-Some-row_of.form.now) (is_bytes c.args.bytes.now (λ i. omega (arith, c.type_inv.bytes i))) c.in-Some.ensures c.in-Some-row_of.ensures in
+    let row = row_reads c.args.bytes.now (lead x.prefix x.rex x.escaped x.opcode x.rest.now) (Some c.in-Some-row_of.form.now)
+    (is_bytes c.args.bytes.now (λ i. omega (arith, c.type_inv.bytes i))) c.in-Some.ensures c.in-Some-row_of.ensures in
     let l = forms_length _ _ (sym row ∙ c.in-Ok.ensures) in
     omega (arith, l.some)
 
 pub overflow_cast-result : goal.overflow_cast-result
 overflow_cast-result c =
     let x = c.in-Some.lead in
-    let row = row_reads c.args.bytes.now (lead x.prefix x.rex x.escaped x.opcode x.rest.now) (Some c.in-Some-row_of.form.now) (is_bytes c.args.bytes.now (λ i. omega (arith, c.type_inv.bytes i))) c.in-Some.ensures c.in-Some-row_of.ensures in
+    let row = row_reads c.args.bytes.now (lead x.prefix x.rex x.escaped x.opcode x.rest.now) (Some c.in-Some-row_of.form.now)
+    (is_bytes c.args.bytes.now (λ i. omega (arith, c.type_inv.bytes i))) c.in-Some.ensures c.in-Some-row_of.ensures in
     let l = forms_length _ _ (sym row ∙ c.in-Ok.ensures) in
     omega (arith, l.some, l.small)
 
 pub returns-clause-len : goal.returns-clause-len
 returns-clause-len c =
     let x = c.in-Some.lead in
-    let row = row_reads c.args.bytes.now (lead x.prefix x.rex x.escaped x.opcode x.rest.now) (Some c.in-Some-row_of.form.now) (is_bytes c.args.bytes.now (λ i. omega (arith, c.type_inv.bytes i))) c.in-Some.ensures c.in-Some-row_of.ensures in
+    let row = row_reads c.args.bytes.now (lead x.prefix x.rex x.escaped x.opcode x.rest.now) (Some c.in-Some-row_of.form.now)
+    (is_bytes c.args.bytes.now (λ i. omega (arith, c.type_inv.bytes i))) c.in-Some.ensures c.in-Some-row_of.ensures in
     let l = forms_length _ _ (sym row ∙ c.in-Ok.ensures) in
     omega (arith, l.small)
 
@@ -31,14 +34,16 @@ pub returns-clause-reads : goal.returns-clause-reads
 unfolding decoded
 returns-clause-reads c =
     let x = c.in-Some.lead in
-    let row = row_reads c.args.bytes.now (lead x.prefix x.rex x.escaped x.opcode x.rest.now) (Some c.in-Some-row_of.form.now) (is_bytes c.args.bytes.now (λ i. omega (arith, c.type_inv.bytes i))) c.in-Some.ensures c.in-Some-row_of.ensures in
+    let row = row_reads c.args.bytes.now (lead x.prefix x.rex x.escaped x.opcode x.rest.now) (Some c.in-Some-row_of.form.now)
+    (is_bytes c.args.bytes.now (λ i. omega (arith, c.type_inv.bytes i))) c.in-Some.ensures c.in-Some-row_of.ensures in
     rw c.instr.ensures (sym (ap (decoding_of (length c.args.bytes.now)) (sym row ∙ c.in-Ok.ensures)))
 
 pub returns-in-Err-clause-reads : goal.returns-in-Err-clause-reads
 unfolding decoded
 returns-in-Err-clause-reads c =
     let x = c.in-Some.lead in
-    let row = row_reads c.args.bytes.now (lead x.prefix x.rex x.escaped x.opcode x.rest.now) (Some c.in-Some-row_of.form.now) (is_bytes c.args.bytes.now (λ i. omega (arith, c.type_inv.bytes i))) c.in-Some.ensures c.in-Some-row_of.ensures in
+    let row = row_reads c.args.bytes.now (lead x.prefix x.rex x.escaped x.opcode x.rest.now) (Some c.in-Some-row_of.form.now)
+    (is_bytes c.args.bytes.now (λ i. omega (arith, c.type_inv.bytes i))) c.in-Some.ensures c.in-Some-row_of.ensures in
     rw c.missed.ensures.reads (sym (ap (decoding_of (length c.args.bytes.now)) (sym row ∙ c.in-Err.ensures)))
 
 pub returns-in_default-row_of-clause-reads : goal.returns-in_default-row_of-clause-reads

@@ -7,7 +7,8 @@ pub loop-at-preserved : goal.loop-at-preserved
 loop-at-preserved c =
     let place = c.in-Some.ensures.range in
     record {
-      bytes = fetch_more c.args.image.now.segments c.args.addr c.loop-at.at c.in-Some.byte c.loop-at.buffer (let e = c.loop-at.auto.buffer in let l = c.loop-at-test.true in omega arith) (sym c.code_byte.ensures.byte ∙ c.in-Some.is) c.loop-at.invariant.bytes;
+      bytes = fetch_more c.args.image.now.segments c.args.addr c.loop-at.at c.in-Some.byte c.loop-at.buffer (let e = c.loop-at.auto.buffer in let l = c.loop-at-test.true in
+          omega arith) (sym c.code_byte.ensures.byte ∙ c.in-Some.is) c.loop-at.invariant.bytes;
       room = omega arith;
     }
 

@@ -31,4 +31,5 @@ returns-clause-lives g c =
 pub returns-clause-falls : goal.returns-clause-falls
 returns-clause-falls g c =
     let w = c.step.ensures.step in
-    IfOk-weaker c.step.result _ _ (λ child s. traced_falls c.args.job.now c.args.all_traced.now.items c.args.at _ c.index_mut.result.now c.step.new.self c.requires.range (here g c) (cpu_here c.args.job.now c.args.all_traced.now.items c.args.at c.index_mut.result.now c.requires.cores c.requires.range (here g c)) (over g c) s.thread) w.3
+    IfOk-weaker c.step.result _ _ (λ child s. traced_falls c.args.job.now c.args.all_traced.now.items c.args.at _ c.index_mut.result.now c.step.new.self c.requires.range (here g c)
+    (cpu_here c.args.job.now c.args.all_traced.now.items c.args.at c.index_mut.result.now c.requires.cores c.requires.range (here g c)) (over g c) s.thread) w.3

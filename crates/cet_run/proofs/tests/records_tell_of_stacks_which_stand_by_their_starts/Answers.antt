@@ -15,7 +15,8 @@ records =
     noted what.Born 1 0x20001f000 ∷ noted what.Sys 186 0x200030000 ∷ noted what.Claim 0x20000a000 0x1001 ∷ noted what.Claim 0x200020000 8
     ∷ noted what.Call 0x20000e000 0x200008ff8 ∷ noted what.Claim 0x20000d000 0x2000 ∷ []
 
-listed : (a b c d e f : Record) → a ≡ noted what.Born 1 0x20001f000 → b ≡ noted what.Sys 186 0x200030000 → c ≡ noted what.Claim 0x20000a000 0x1001 → d ≡ noted what.Claim 0x200020000 8 → e ≡ noted what.Call 0x20000e000 0x200008ff8 → f ≡ noted what.Claim 0x20000d000 0x2000 → All IsSpan (told_in (a ∷ b ∷ c ∷ d ∷ e ∷ f ∷ []))
+listed : (a b c d e f : Record) → a ≡ noted what.Born 1 0x20001f000 → b ≡ noted what.Sys 186 0x200030000 → c ≡ noted what.Claim 0x20000a000 0x1001 → d ≡ noted what.Claim 0x200020000 8 →
+    e ≡ noted what.Call 0x20000e000 0x200008ff8 → f ≡ noted what.Claim 0x20000d000 0x2000 → All IsSpan (told_in (a ∷ b ∷ c ∷ d ∷ e ∷ f ∷ []))
 listed a b c d e f p q r s t u =
     let same : (a ∷ b ∷ c ∷ d ∷ e ∷ f ∷ []) ≡ records = cc in
     subst (λ l. All IsSpan (told_in l)) (sym same) (spans_by (told_in records) refl)

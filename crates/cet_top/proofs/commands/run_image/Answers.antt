@@ -21,5 +21,6 @@ invariant_of-job c = record {
 pub returns : goal.returns
 returns c =
     let set : List Signal → SettingsData = λ l. record { limit = c.settings.inside.limit; procs = c.settings.inside.procs; signals = l } in
-    let told = subst (λ (l : List Signal). IfOk c.run_job.result (λ answer. Reports (job_with (set l) c.args.image.now) (by_course c.args.course (job_with (set l) c.args.image.now)) style.Full answer.status answer.output)) c.as_slice.ensures c.run_job.ensures in
+    let told = subst (λ (l : List Signal). IfOk c.run_job.result (λ answer. Reports (job_with (set l) c.args.image.now)
+    (by_course c.args.course (job_with (set l) c.args.image.now)) style.Full answer.status answer.output)) c.as_slice.ensures c.run_job.ensures in
     subst (λ (s : SettingsData). IfOk c.run_job.result (λ answer. Reports (job_with s c.args.image.now) (by_course c.args.course (job_with s c.args.image.now)) style.Full answer.status answer.output)) c.settings.view_is told

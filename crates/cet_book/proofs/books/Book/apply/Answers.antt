@@ -24,12 +24,14 @@ invariant_of-self-in-Popped c =
 
 pub invariant_of-self-in-Raised : goal.invariant_of-self-in-Raised
 invariant_of-self-in-Raised c =
-    kept_back c.raised.result c.self.inside.stacks.len c.raised.new.stacks c.deref_mut-in-Raised.result.now c.self.inside.stacks.items c.self.inside.gates c.self.inside.latest (ev.Raised c.in-Raised.thread c.in-Raised.count) c.self.invariant tt
+    kept_back c.raised.result c.self.inside.stacks.len c.raised.new.stacks c.deref_mut-in-Raised.result.now c.self.inside.stacks.items c.self.inside.gates c.self.inside.latest
+    (ev.Raised c.in-Raised.thread c.in-Raised.count) c.self.invariant tt
     c.deref_mut-in-Raised.ensures.value c.raised.auto.stacks c.self.inside.stacks.ok.0 (c.raised.ensures c.self.inside.gates)
 
 pub invariant_of-self-in-Pushed : goal.invariant_of-self-in-Pushed
 invariant_of-self-in-Pushed c =
-    kept_back c.pushed.result c.self.inside.stacks.len c.pushed.new.stacks c.deref_mut-in-Pushed.result.now c.self.inside.stacks.items c.self.inside.gates c.self.inside.latest (ev.Pushed c.in-Pushed.thread c.in-Pushed.restorer) c.self.invariant tt
+    kept_back c.pushed.result c.self.inside.stacks.len c.pushed.new.stacks c.deref_mut-in-Pushed.result.now c.self.inside.stacks.items c.self.inside.gates c.self.inside.latest
+    (ev.Pushed c.in-Pushed.thread c.in-Pushed.restorer) c.self.invariant tt
     c.deref_mut-in-Pushed.ensures.value c.pushed.auto.stacks c.self.inside.stacks.ok.0 (c.pushed.ensures c.self.inside.gates)
 
 pub invariant_of-self-in-Released : goal.invariant_of-self-in-Released
@@ -39,7 +41,8 @@ invariant_of-self-in-Released c =
 
 pub invariant_of-self-in-Born : goal.invariant_of-self-in-Born
 invariant_of-self-in-Born c =
-    kept_moved c.born.result c.self.inside.stacks.len c.born.new.stacks c.deref_mut-in-Born.result.now c.self.inside.stacks.items c.self.inside.gates c.self.inside.latest c.born.new.latest (ev.Born c.in-Born.parent c.in-Born.child c.in-Born.region) c.self.invariant
+    kept_moved c.born.result c.self.inside.stacks.len c.born.new.stacks c.deref_mut-in-Born.result.now c.self.inside.stacks.items c.self.inside.gates c.self.inside.latest c.born.new.latest
+    (ev.Born c.in-Born.parent c.in-Born.child c.in-Born.region) c.self.invariant
     c.deref_mut-in-Born.ensures.value c.born.auto.stacks c.self.inside.stacks.ok.0 (c.born.ensures.applied c.self.inside.gates) c.born.ensures.latest
 
 pub invariant_of-self-in-Busied : goal.invariant_of-self-in-Busied
@@ -52,14 +55,17 @@ invariant_of-self-in-Freed c =
 
 pub invariant_of-self-in-Seeded : goal.invariant_of-self-in-Seeded
 invariant_of-self-in-Seeded c =
-    kept_back c.seeded.result c.self.inside.stacks.len c.seeded.new.stacks c.deref_mut-in-Seeded.result.now c.self.inside.stacks.items c.self.inside.gates c.self.inside.latest (ev.Seeded c.in-Seeded.thread c.in-Seeded.region c.in-Seeded.blanks) c.self.invariant tt
+    kept_back c.seeded.result c.self.inside.stacks.len c.seeded.new.stacks c.deref_mut-in-Seeded.result.now c.self.inside.stacks.items c.self.inside.gates c.self.inside.latest
+    (ev.Seeded c.in-Seeded.thread c.in-Seeded.region c.in-Seeded.blanks) c.self.invariant tt
     c.deref_mut-in-Seeded.ensures.value c.seeded.auto.stacks c.self.inside.stacks.ok.0 (c.seeded.ensures c.self.inside.gates)
 
 pub invariant_of-self-in-Claimed : goal.invariant_of-self-in-Claimed
 invariant_of-self-in-Claimed c =
-    kept_list c.claimed.result c.self.inside.stacks.items c.claimed.new.stacks.items c.self.inside.gates c.self.inside.latest (ev.Claimed c.in-Claimed.thread c.in-Claimed.start c.in-Claimed.pages c.in-Claimed.maker) c.self.invariant tt (c.claimed.ensures c.self.inside.gates)
+    kept_list c.claimed.result c.self.inside.stacks.items c.claimed.new.stacks.items c.self.inside.gates c.self.inside.latest
+    (ev.Claimed c.in-Claimed.thread c.in-Claimed.start c.in-Claimed.pages c.in-Claimed.maker) c.self.invariant tt (c.claimed.ensures c.self.inside.gates)
 
 pub invariant_of-self-in-Acquired : goal.invariant_of-self-in-Acquired
 invariant_of-self-in-Acquired c =
-    kept_moved c.acquired.result c.self.inside.stacks.len c.acquired.new.stacks c.deref_mut-in-Acquired.result.now c.self.inside.stacks.items c.self.inside.gates c.self.inside.latest c.acquired.new.latest (ev.Acquired c.in-Acquired.thread c.in-Acquired.at) c.self.invariant
+    kept_moved c.acquired.result c.self.inside.stacks.len c.acquired.new.stacks c.deref_mut-in-Acquired.result.now c.self.inside.stacks.items c.self.inside.gates c.self.inside.latest
+    c.acquired.new.latest (ev.Acquired c.in-Acquired.thread c.in-Acquired.at) c.self.invariant
     c.deref_mut-in-Acquired.ensures.value c.acquired.auto.stacks c.self.inside.stacks.ok.0 (c.acquired.ensures.applied c.self.inside.gates) c.acquired.ensures.latest

@@ -11,5 +11,6 @@ returns-clause-guests c =
     let all = c.in_ok-push-2.ensures.items ∙ ap (λ (x : TracedThreadData). c.args.self.now.all.items ++ x ∷ []) c.new.ensures in
     record {
       cores = subst (AllTraced c.args.job.now) (sym all) (all_with c.args.job.now c.args.self.now.all.items (Some c.args.child) c.requires.guests.cores c.requires.born);
-      numbers = live_born c.args.self.now.all.items _ _ _ c.new.result c.len.result (ap (λ (x : TracedThreadData). x.cpu.core.over) c.new.ensures ∙ c.requires.lives) c.requires.guests.numbers n c.in_ok-push.ensures.items c.in_ok-push-2.ensures.items;
+      numbers = live_born c.args.self.now.all.items _ _ _ c.new.result c.len.result (ap (λ (x : TracedThreadData). x.cpu.core.over) c.new.ensures ∙
+          c.requires.lives) c.requires.guests.numbers n c.in_ok-push.ensures.items c.in_ok-push-2.ensures.items;
     }

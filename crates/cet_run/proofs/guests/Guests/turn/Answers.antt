@@ -18,4 +18,5 @@ returns-clause-falls g c =
 
 pub returns-clause-turned : goal.returns-clause-turned
 returns-clause-turned g c =
-    on_ok_weaker c.bear_child.result (λ all. subst (λ (l : List TracedThreadData). IsTurned (threads_of c.args.self.now.all.items) (threads_of l) c.args.at) (sym all) (turned_is c.args.self.now.all.items c.step.new.all_traced.items c.in_ok-child.child c.args.at c.in_ok-child.ensures.set)) c.bear_child.ensures.all
+    on_ok_weaker c.bear_child.result (λ all. subst (λ (l : List TracedThreadData). IsTurned (threads_of c.args.self.now.all.items) (threads_of l) c.args.at) (sym all)
+    (turned_is c.args.self.now.all.items c.step.new.all_traced.items c.in_ok-child.child c.args.at c.in_ok-child.ensures.set)) c.bear_child.ensures.all
