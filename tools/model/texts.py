@@ -1,5 +1,6 @@
 """The examples and the cases that are runs: their sources, words, and what is stated of them."""
 import subprocess
+from functools import cache
 from collections import namedtuple
 from pathlib import Path
 
@@ -9,12 +10,27 @@ EXAMPLES = Path(__file__).resolve().parents[2] / "examples"
 Text = namedtuple("Text", "name source words report status")
 
 
-RUNTIME = EXAMPLES.parent / "tools" / "texts.py"
+CARRIED = EXAMPLES.parent / "tools" / "texts.py"
+
+
+@cache
+def carried(*words):
+    """A text that the program carries, made from its lines."""
+    return subprocess.run([CARRIED, *words], capture_output=True, check=True, text=True).stdout
 
 
 def runtime():
     """The text that `asm --runtime` appends."""
-    return subprocess.run([RUNTIME, "runtime"], capture_output=True, check=True, text=True).stdout
+    return carried("runtime")
+
+
+def bench(swaps):
+    """The program of `bench`."""
+    return carried("bench", str(int(swaps, 0)))
+
+
+def help_text():
+    return carried("help")
 
 
 def example(path):
