@@ -17,7 +17,7 @@ from texts import all_texts
 LEAST = 3
 BIRTH = " born "
 # Of an example: the turns up to the one before the second thread may matter, as a schedule's item.
-RACES = {"race_for_one_token": "0*41", "busy_supervisor_stack": "0*21"}
+RACES = {"token_race": "0*41", "busy_gate": "0*21"}
 
 
 class Totals:
