@@ -21,6 +21,8 @@ JUMPS = {"j" + condition: number for number, condition in enumerate(CONDITIONS)}
 FLOW = {"call", "jmp", *JUMPS}
 PLAIN = set("""test mov movabs movzx movsxd lea xchg inc dec not neg imul push pop leave call jmp ret nop pause endbr64
 ud2 syscall stc clc xadd cmpxchg incsspq rdsspq rstorssp saveprevssp setssbsy clrssbsy wrssq wrussq""".split())
+# Operands of 8 and 16 bits, but for those of movzx and the count of shifts.
+NARROW = re.compile(r"\b([abd]l|[abcd]h|[abcd]x|[sd]il?|[sb]pl?|r\d+[bw])\b|(?<![QD])WORD PTR|BYTE PTR")
 MNEMONICS = {*PLAIN, *ALU, *SHIFTS, *JUMPS, *("cmov" + condition for condition in CONDITIONS)}
 
 
@@ -224,7 +226,7 @@ def listed_text(code, address, shown):
     """The text of an instruction in the assembler's language; nothing where it isn't one of it."""
     shown = re.sub(r"\s+#.*", "", shown).strip()
     prefix, name, rest = re.fullmatch(r"((?:lock |notrack )?)(\S+)\s*(.*)", shown).groups()
-    if name not in MNEMONICS or "(bad)" in shown:
+    if name not in MNEMONICS or "(bad)" in shown or name != "movzx" and NARROW.search(rest):
         return None
     target = re.fullmatch(r"0x([0-9a-f]+)", rest)
     if name in FLOW and target:

@@ -1,15 +1,13 @@
 """The examples and the cases that are runs: their sources, words, and what is stated of them."""
 import subprocess
-from functools import cache
 from collections import namedtuple
+from functools import cache
 from pathlib import Path
 
 from words import Faulty, read
 
 EXAMPLES = Path(__file__).resolve().parents[2] / "examples"
-Text = namedtuple("Text", "name source words report status")
-
-
+Text = namedtuple("Text", "name source words report status example", defaults=(False,))
 CARRIED = EXAMPLES.parent / "tools" / "texts.py"
 
 
@@ -38,7 +36,7 @@ def example(path):
     made, run = words.read_text().splitlines() if words.exists() else ("asm", "run")
     source = path.read_text() + ("\n" + runtime() if made == "asm --runtime" else "")
     status = path.with_suffix(".status").read_text().rstrip("\n").replace("\n", " ")
-    return Text(path.stem, source, run.split(), report.read_text() if report.exists() else None, status)
+    return Text(path.stem, source, run.split(), report.read_text() if report.exists() else None, status, True)
 
 
 def case(path):
