@@ -1,7 +1,7 @@
 #!/bin/sh
 # Assembles, lists and runs each example with the program that `rt ci` has left, and compares with the files beside it:
 # NAME.listing, NAME.report where there is one, and NAME.status, which has the exit status and the line on standard
-# error. The text of each listing is assembled again, and listed the same. A NAME.words has the words by which the program
+# error. The text of each listing without a short jump is assembled again, and listed the same. A NAME.words has the words by which the program
 # is run, where that isn't `run`, and before them those by which it is assembled. With `--trace last` the report has of
 # each thread its last record alone. The first argument may name another program.
 cd "$(dirname "$0")" || exit 1
@@ -36,7 +36,10 @@ for source in *.s; do
     "$cetvm" $made < "$source" > "$work/image" || fail "$source is not assembled"
     "$cetvm" dis < "$work/image" > "$work/listing" || fail "$name is not listed"
     cmp "$work/listing" "$name.listing" || fail "the listing of $name is another one"
-    cut -d' ' -f3- "$work/listing" | "$cetvm" asm | "$cetvm" dis | cmp - "$work/listing" || fail "the listing of $name isn't read back"
+    # A listing has no word for a jump's form of one byte, so it is read back as the longer one.
+    if ! grep -qE '^[0-9a-f]{16} (eb|7[0-9a-f])[0-9a-f]{2} j' "$work/listing"; then
+        cut -d' ' -f3- "$work/listing" | "$cetvm" asm | "$cetvm" dis | cmp - "$work/listing" || fail "the listing of $name isn't read back"
+    fi
     # shellcheck disable=SC2086
     (set -f; "$cetvm" $run < "$work/image") > "$work/report" 2> "$work/line"
     echo "$?" > "$work/status"
