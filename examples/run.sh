@@ -1,9 +1,9 @@
 #!/bin/sh
 # Assembles, lists and runs each example with the program that `rt ci` has left, and compares with the files beside it:
 # NAME.listing, NAME.report where there is one, and NAME.status, which has the exit status and the line on standard
-# error. The text of each listing without a short jump is assembled again, and listed the same. A NAME.words has the words by which the program
-# is run, where that isn't `run`, and before them those by which it is assembled. With `--trace last` the report has of
-# each thread its last record alone. The first argument may name another program.
+# error. The text of each listing without a short jump is assembled again, and listed the same. A NAME.words has the
+# words by which the source is assembled, and those by which its image is run, where these aren't `asm` and `run`. With
+# `--trace last` the report has of each thread its last record alone. The first argument may name another program.
 cd "$(dirname "$0")" || exit 1
 cetvm=${1:-../crates/cetvm/out/cetvm}
 if [ ! -x "$cetvm" ]; then

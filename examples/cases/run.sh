@@ -5,7 +5,8 @@
 # NAME.case is one run. Its first lines have keys: `words:`, `status:` (the exit status), `line:` (that on standard
 # error), `patch: OFFSET HEX` (bytes of the image that are written over) and `cut: SIZE` (the image's first bytes). Behind
 # `source:` stands an assembler text, whose image is the input (of `asm` the text itself), and behind `output:` what is
-# written; nothing, where that is missing.
+# written; nothing, where that is missing. A run is made once more with `--trace last`, by which each thread has its last
+# record alone.
 #
 # words.cases has a list of words a line, and before it the number of its first faulty word, or `-` where it is a command.
 # odd_words.cases has the same with words that have blanks or bytes that are no text: `\\0` and three octal digits is a
@@ -87,6 +88,14 @@ for case in *.case; do
     wanted="$(sed -n 's/^status: //p' "$work/keys") $(sed -n 's/^line: //p' "$work/keys")"
     [ "$told" = "$wanted" ] || fail "$name ends by $told, not by $wanted"
     cmp "$work/written" "$work/output" || fail "$name writes something else"
+    case $words in
+    run* | replay*) ;;
+    *) continue ;;
+    esac
+    awk '/^[0-9]/ { last = $0; next } last != "" { print last; last = "" } { print }' "$work/output" > "$work/last"
+    # shellcheck disable=SC2086
+    [ "$(answers $words --trace=last)" = "$told" ] || fail "$name with last records ends otherwise"
+    cmp "$work/written" "$work/last" || fail "$name with last records writes something else"
 done
 
 printf 'mov edi, 7\nmov eax, 60\nsyscall\n' | "$cetvm" asm > "$work/image" || fail "the image is not assembled"

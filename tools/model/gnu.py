@@ -14,6 +14,7 @@ from listing import NAMES, REGISTERS, Unknown
 TEXT = 0x401000
 PAGE = 4096
 NOTE = 0x6474E553
+HALVES = [name for name, register in REGISTERS.items() if register.size == 4]
 ALU = "add or adc sbb and sub xor cmp".split()
 SHIFTS = {"shl": 4, "shr": 5, "sar": 7}
 CONDITIONS = "o no b ae e ne be a s ns p np l ge le g".split()
@@ -77,9 +78,7 @@ class Line:
 
     def operand(self, text):
         if text in REGISTERS:
-            if self.name == "movzx":
-                return NAMES[REGISTERS[text].number].replace("r", "e", 1) if REGISTERS[text].number < 8 else text.rstrip("d") + "d"
-            return text
+            return HALVES[REGISTERS[text].number] if self.name == "movzx" else text
         if "[" in text:
             return self.sized(text)
         value = number(text)
@@ -123,7 +122,8 @@ class Line:
             near = "" if self.name == "call" else "{disp8} " if word == "short" else "{disp32} "
             return f"{near}{self.name} {label(name)}"
         name, value = self.name, number(self.operands[-1]) if self.operands else None
-        if name == "mov" and self.registers and self.size() == 8 and value is not None and not -2 ** 31 <= value < 2 ** 31:
+        wide = value is not None and not -2 ** 31 <= value < 2 ** 31
+        if name == "mov" and wide and self.registers and self.size() == 8:
             name = "movabs"
         return f"{self.prefix}{name} " + ", ".join(map(self.operand, self.operands))
 
@@ -232,7 +232,7 @@ def listed_text(code, address, shown):
     if name in FLOW and target:
         return f"{name} rel {int(target[1], 16) - address - len(code):#x}"
     operands = rest.split(",") if rest else []
-    size = next((REGISTERS[part].size for part in operands if part in REGISTERS), 4 if "DWORD PTR" in rest and "QWORD" not in rest else 8)
+    size = next((REGISTERS[part].size for part in operands if part in REGISTERS), 4 if "DWORD PTR" in rest else 8)
     words = [listed_operand(name, part, size) for part in operands]
     if not any(part in REGISTERS for part in words) or name in ("movsxd", "movzx") or not words:
         return prefix + f"{name} {', '.join(words)}".strip()

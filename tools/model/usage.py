@@ -88,7 +88,8 @@ def first_faulty(words):
 NAMES = [*COMMON, *PLANS, "--runtime"]
 VALUES = """1 5 8 9 0 1000 1001 31 32 100000 100001 0x1F 0x00000000000186a0 -1 +1 007 1_0 ٣ 18446744073709551615
 18446744073709551616 0xffffffffffffffff 0x10000000000000000 0X5 0x full last fully Full 0:0:10 0:6:10,31:0:1 32:0:1
-0:100001:1 0:0:32 0:0 0*3,1 31*1000000 0*1000001 0*0 0, , x --limit --trace --mix=1""".split() + ["", " ", "5 ", " 5", "5\n"]
+0:100001:1 0:0:32 0:0 0*3,1 31*1000000 0*1000001 0*0 0, , x --limit --trace --mix=1""".split()
+VALUES += ["", " ", "5 ", " 5", "5\n"]
 
 
 def random_words(numbers):
@@ -127,7 +128,8 @@ def main():
     faults = [f"{' '.join(words)[:100]}: {fault}" for words in every if (fault := wrong(sys.argv[1], words))]
     for line in faults[:20]:
         print(f"usage: {line}")
-    print(f"usage: {len(every)} lists of words, {sum(map(bool, map(first_faulty, every)))} of them faulty; {len(faults)} differ")
+    faulty = sum(map(bool, map(first_faulty, every)))
+    print(f"usage: {len(every)} lists of words, {faulty} of them faulty; {len(faults)} differ")
     sys.exit(bool(faults) or len(every) < LEAST)
 
 
