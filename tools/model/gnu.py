@@ -13,6 +13,8 @@ from listing import NAMES, REGISTERS, Unknown
 
 TEXT = 0x401000
 PAGE = 4096
+# The most bytes of text, in whole pages, and data.
+MOST = 4190208
 NOTE = 0x6474E553
 HALVES = [name for name, register in REGISTERS.items() if register.size == 4]
 ALU = "add or adc sbb and sub xor cmp".split()
@@ -195,6 +197,8 @@ def assembled(source):
     with tempfile.TemporaryDirectory() as folder:
         text, data, entry, mark = parts(Path(folder), source)
     pages = (len(text) + PAGE - 1) // PAGE * PAGE
+    if pages + len(data) > MOST:
+        raise Unknown("a program that is too long")
     headers = [header(1, 5, PAGE, TEXT, len(text), PAGE)]
     if data:
         headers.append(header(1, 6, PAGE + pages, TEXT + pages, len(data), PAGE))
@@ -218,7 +222,9 @@ def listed_operand(name, text, size):
         return hex(value) if name in ("movabs", "ret") or name in SHIFTS else signed(value, size)
     if name == "movzx" and text in REGISTERS:
         return NAMES[REGISTERS[text].number]
-    text = re.sub(r"(?:QWORD PTR )?ds:(0x[0-9a-f]+)", r"[\1]", text).replace("QWORD PTR ", "")
+    text = re.sub(r"ds:(0x[0-9a-f]+)", r"[\1]", text).replace("QWORD PTR ", "")
+    text = re.sub(r"\+0x0\]", "]", text)
+    text = re.sub(r"\+?0xf[0-9a-f]{15}\]", lambda found: signed(int(found[0][:-1].lstrip("+"), 0), 8) + "]", text)
     return text.replace("BYTE PTR ", "byte ").replace("DWORD PTR ", "dword " if name in ("cmp", "test") else "")
 
 

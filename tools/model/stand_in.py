@@ -76,7 +76,7 @@ def answered(words):
 def main():
     try:
         sys.exit(answered(sys.argv[1:]))
-    except Unknown as error:
+    except (Unknown, UnicodeDecodeError) as error:
         sys.exit(told(FAULTY_TEXT, f"stand_in: {error}"))
 
 
