@@ -95,7 +95,6 @@ alone() {
     [ "$told" = "0 " ] || fail "$1 is answered $told"
     cmp "$work/image" "$work/alone" || fail "$1 has another image"
 }
-bytes '\n' $longest | alone "as many newlines as may be"
 { printf '#'; bytes x $((longest - 1)); } | alone "a comment as long as may be"
 { bytes ' ' $((longest - 6)); printf '.text '; } | alone "as many blanks as may be"
 { bytes '\n' $((longest - 12)); printf 'swapcontext:'; } > "$work/long"
