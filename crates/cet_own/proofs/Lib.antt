@@ -63,6 +63,7 @@ pub mod Newborn
 pub mod First
 pub mod Turns
 pub mod StandsAt
+pub mod Exchanges
 pub mod Run
 pub mod Switched
 pub mod Numbers

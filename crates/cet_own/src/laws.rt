@@ -7,7 +7,7 @@ ghost use Rattle.cet_page.specs.Machine.{Machine, Starts, run};
 ghost use Rattle.cet_page.specs.Numbered.{BirthsAreTold, ClosedAreAll, CountsLow, DrawsRight, Named, Numbered};
 ghost use Rattle.cet_own.specs.Along.{Along};
 ghost use Rattle.cet_own.specs.ExitWord.{EndsRight};
-ghost use Rattle.cet_own.specs.Gates.{TurnTells};
+ghost use Rattle.cet_own.specs.Gates.{GatesExactly, RestoresExactly, TurnTells};
 ghost use Rattle.cet_own.specs.Safe.{Safe};
 ghost use Rattle.cet_own.specs.Stands.{Stands};
 ghost use Rattle.cet_own.specs.Switched.{Legal, Raises, Switched};
@@ -24,6 +24,20 @@ pub fn every_run_is_safe()
 /// and the book; and no record tells of a restore token that didn't stand, or of one missed that did.
 pub fn every_run_stands()
     ensures { (job : JobData) (start : Machine) (turns : List ℕ) → IsJob job → Starts job start → Along (Stands job) (TurnTells job) job start first_book turns }
+{}
+
+/// In every run of every job, an RSTORSSP whose look has passed takes a shadow stack exactly where the book
+/// has a parked one with its token at the operand, and is otherwise `#CP` with code 4 and the word found.
+pub fn every_restore_is_exact()
+    ensures { (job : JobData) (start : Machine) (turns : List ℕ) → IsJob job → Starts job start → RestoresExactly job start first_book turns }
+{}
+
+/// In every run of every job, the first exchange of an entry into the kernel takes the supervisor stack of
+/// the thread's processor exactly where the book has it free, and otherwise a busy record stands with the
+/// word found; and on the way out the thread that holds the stack finds the kernel's return address below
+/// the token, and the token busy.
+pub fn every_gate_is_exact()
+    ensures { (job : JobData) (start : Machine) (turns : List ℕ) → IsJob job → Starts job start → GatesExactly job start first_book turns }
 {}
 
 /// After every run of every job, whatever thread had which turn, the word EXIT is 0, 256 and an exit
