@@ -29,7 +29,7 @@ use Rattle.cet_page.specs.Trail.{row_trail, trail_of}
 use Rattle.cet_own.specs.Event.{events_by, turn_changes, events_from}
 use Rattle.cet_own.specs.Safe.{KeepsStack}
 use Rattle.cet_own.specs.Told.{told_in, told_spans, first_span, kept_pointer, kept_pointers}
-use Rattle.cet_own.proofs.Covered.{Covered, told_numbers, AllEnded, LastCovered}
+use Rattle.cet_own.specs.Covered.{Covered, told_numbers, AllEnded, LastCovered}
 use Rattle.cet_own.proofs.Drawing.{times, occurs, once_here, HasSpan}
 use Rattle.cet_own.proofs.Drawn.{Drawn, nothing_drawn, drawn}
 use Rattle.cet_own.proofs.Numbers.{core_number}

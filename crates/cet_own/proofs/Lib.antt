@@ -15,7 +15,6 @@ pub mod TellingRows
 pub mod Drawing
 pub mod Recorded
 pub mod ToldLaws
-pub mod Covered
 pub mod CoveredRun
 pub mod ClassRun
 pub mod TokenWords

@@ -10,4 +10,5 @@ pub mod Enters
 pub mod Gates
 pub mod Stands
 pub mod Told
+pub mod Covered
 pub mod Class

@@ -6,6 +6,7 @@ ghost use Rattle.cet_book.specs.Book.{first_book};
 ghost use Rattle.cet_page.specs.Machine.{Machine, Starts, run};
 ghost use Rattle.cet_page.specs.Numbered.{BirthsAreTold, ClosedAreAll, CountsLow, DrawsRight, Named, Numbered};
 ghost use Rattle.cet_own.specs.Along.{Along};
+ghost use Rattle.cet_own.specs.Covered.{AllEnded, LastCovered};
 ghost use Rattle.cet_own.specs.ExitWord.{EndsRight};
 ghost use Rattle.cet_own.specs.Gates.{GatesExactly, RestoresExactly, TurnTells};
 ghost use Rattle.cet_own.specs.Safe.{Safe};
@@ -63,6 +64,13 @@ pub fn every_run_switches()
 /// many of its newest entries as the counts add up to.
 pub fn every_run_raises()
     ensures { (job : JobData) (start : Machine) (turns : List ℕ) → IsJob job → Starts job start → Raises job start turns }
+{}
+
+/// What every run leaves in which every thread has ended meets the conditions under which words tell a book:
+/// they are in step with its last book, and the stacks that its records tell of, with the pointers of the
+/// threads that keep theirs, are regions of that book, none twice, with all that are current, parked or left.
+pub fn every_run_is_covered()
+    ensures { (job : JobData) (start : Machine) (turns : List ℕ) → IsJob job → Starts job start → AllEnded (run job start turns).threads → LastCovered job start turns }
 {}
 
 /// After every run of every job the thread at each place of the list has that number, and there are as

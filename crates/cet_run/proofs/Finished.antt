@@ -13,7 +13,7 @@ use Rattle.cet_book.specs.declared.regions.StackReport.{StackReport}
 use Rattle.cet_page.specs.Machine.{Machine, Starts, Thread, machine, run}
 use Rattle.cet_own.specs.ExitWord.{IsExitWord}
 use Rattle.cet_own.specs.Told.{kept_pointers, told_spans}
-use Rattle.cet_own.proofs.Covered.{AllEnded, LastCovered, told_numbers}
+use Rattle.cet_own.specs.Covered.{AllEnded, LastCovered, told_numbers}
 use Rattle.cet_own.proofs.CoveredRun.{last_covered}
 use Rattle.cet_own.proofs.Run.{exit_run, safe_run, stands_run}
 use Rattle.cet_run.specs.Outcome.{process_end, thread_out}
