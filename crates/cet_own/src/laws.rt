@@ -1,12 +1,13 @@
 //! Laws over every run of every job.
 
-ghost use Rattle.std.specs.Prelude.{ℕ, List};
+ghost use Rattle.std.specs.Prelude.{◌≡◌, ℕ, List, Some};
 ghost use Rattle.cet_words.specs.Job.{JobData, IsJob};
-ghost use Rattle.cet_book.specs.Book.{first_book};
+ghost use Rattle.cet_book.specs.Book.{Book, first_book};
 ghost use Rattle.cet_page.specs.Machine.{Machine, Starts, run};
 ghost use Rattle.cet_page.specs.Numbered.{BirthsAreTold, ClosedAreAll, CountsLow, DrawsRight, Named, Numbered};
 ghost use Rattle.cet_own.specs.Along.{Along};
 ghost use Rattle.cet_own.specs.Covered.{AllEnded, LastCovered};
+ghost use Rattle.cet_own.specs.Event.{book_of};
 ghost use Rattle.cet_own.specs.ExitWord.{EndsRight};
 ghost use Rattle.cet_own.specs.Gates.{GatesExactly, RestoresExactly, TurnTells};
 ghost use Rattle.cet_own.specs.Safe.{Safe};
@@ -64,6 +65,12 @@ pub fn every_run_switches()
 /// many of its newest entries as the counts add up to.
 pub fn every_run_raises()
     ensures { (job : JobData) (start : Machine) (turns : List ℕ) → IsJob job → Starts job start → Raises job start turns }
+{}
+
+/// After every run of every job the ownership invariant holds of the words and the threads and of that book
+/// to which the run's events lead, one after another.
+pub fn every_last_book_stands()
+    ensures { (job : JobData) (start : Machine) (turns : List ℕ) → IsJob job → Starts job start → (b : Book) → book_of job start turns ≡ Some b → Stands job (run job start turns) b }
 {}
 
 /// What every run leaves in which every thread has ended meets the conditions under which words tell a book:
