@@ -19,6 +19,7 @@ pub mod CoveredRun
 pub mod ClassRun
 pub mod TokenWords
 pub mod Fits
+pub mod Switches
 pub mod HeldAfter
 pub mod Owed
 pub mod Told

@@ -1,7 +1,9 @@
 -- Where each thread of a machine stands, and one access of a thread. Source: own.
 use Rattle.std.proofs.Common.{List, [], ◌≡◌, ℕ, ◌+◌, Bool, true, false, Option, Some, None, refl, sym, ◌∙◌, ap, subst}
 use Rattle.std.specs.Prelude.{option_map, ◌==◌, if◌then◌else◌}
+use Rattle.cet_words.specs.Change.{Change}
 use Rattle.cet_words.specs.Job.{JobData, IsJob}
+use Rattle.cet_words.specs.declared.accesses.Access.{Access}
 use Rattle.cet_isa.specs.declared.threads.Arch.{Arch}
 use Rattle.cet_isa.specs.declared.threads.End.{End}
 use Rattle.cet_isa.specs.declared.threads.End.TheVariants as ending
@@ -127,8 +129,8 @@ came_stands job core held seen past before s child (Completed Stopped left value
 
 -- a row that goes on has its trail, and one that is over leaves none
 pub came_still : (job : JobData) (arch : Arch) (held : Option ℕ) (seen : ValsData) (c : Played Finish) (words : List ℕ) (t : ℕ) (b : Book) →
-    Still words t b (trail seen.accesses (row job (unheld arch)) seen.values []) → Still words t b (trail_of job (core_by job arch held seen c))
-came_still job arch held seen (Wants a changes) words t b h = h
+    ((a : Access) (changes : ℕ → List Change) → c ≡ Wants a changes → Still words t b (row_trail job arch seen)) → Still words t b (trail_of job (core_by job arch held seen c))
+came_still job arch held seen (Wants a changes) words t b h = h a changes refl
 came_still job arch held seen (Faulted e) words t b h = still_none words t b
 came_still job arch held seen (Completed (Noted next r) left values) words t b h = still_none words t b
 came_still job arch held seen (Completed (Posted next) left values) words t b h = still_none words t b
