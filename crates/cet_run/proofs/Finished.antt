@@ -84,6 +84,7 @@ module _ (job : JobData) (start : Machine) (turns words : List ℕ) (outs : List
       let covers =
       subst (λ spans. Covers last.book (told_numbers last.book end.threads) spans pointers) (sym same_spans)
       (subst (Covers last.book (told_numbers last.book end.threads) (told_spans end.threads)) (sym left.pointers_left) last.covered.covers) in
+      let stood = last_stands job start turns is left.starts last.book last.last in
       record {
         is_job = is;
         start = start;
@@ -96,7 +97,7 @@ module _ (job : JobData) (start : Machine) (turns words : List ℕ) (outs : List
         is = outcome_read end last.book outs stacks process exit (e ∙ ap (λ l. slice_index l exit_word) left.words_left) left.threads_left (read last.book (told_numbers last.book end.threads) step covers) p;
         safe = safe_run job start turns is left.starts;
         stands = stands_run job start turns is left.starts;
-        last = last_stands job start turns is left.starts last.book last.last;
+        last = stood;
         switched = switches_run job start turns is left.starts;
         raises = raises_run job start turns is left.starts;
         exit = exit_run job start turns is left.starts;
