@@ -26,7 +26,7 @@ pub record Covered (job : JobData) (m : Machine) (b : Book) : Type 0 where
 abbrev pub AllEnded : List Thread → Type 0
 AllEnded threads = (t : ℕ) (thread : Thread) → slice_get threads t ≡ Some thread → (e : End) × (thread.core.over ≡ Some e)
 
--- the last book of a run in which every thread has ended, and that it is covered
+-- the last book of a run, and that a report of what the run has left shows what the book does
 pub record LastCovered (job : JobData) (start : Machine) (turns : List ℕ) : Type 0 where
   pub book : Book
   pub last : book_of job start turns ≡ Some book
