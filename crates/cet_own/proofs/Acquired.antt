@@ -25,12 +25,12 @@ use Rattle.cet_own.specs.declared.access_classes.Class.TheVariants as class
 use Rattle.cet_own.proofs.Changed.{Spares, changed, place_spares, place_restorers}
 use Rattle.cet_own.proofs.ClassLaws.{exchange_does, exchange_fails}
 use Rattle.cet_own.proofs.Classes.{Spared, leaves_by, next_other, no_count_by, other_word, quiet}
-use Rattle.cet_own.proofs.Holds.{IsMaker, Sound, Holds}
+use Rattle.cet_own.specs.Holds.{IsMaker, Sound, Holds}
 use Rattle.cet_own.proofs.Kept.{ending_out, restorers_out, size_kept, pages_out, pages_same, gates_out, gates_same}
 use Rattle.cet_own.proofs.Marks.{WritesAt, marks_write}
 use Rattle.cet_own.proofs.Fits.{of_class, is_acquire}
 use Rattle.cet_own.proofs.HeldAfter.{exchange_misses, keeps_note, no_token, notes_gate}
-use Rattle.cet_own.proofs.Owed.{Owed}
+use Rattle.cet_own.specs.Owed.{Owed}
 use Rattle.cet_own.proofs.Writes.{in_place, list_kept, list_free, slot_same, top_even}
 
 -- region q, which thread t may take from its own region m, has its token at p

@@ -22,17 +22,17 @@ use Rattle.cet_page.specs.Script.{birth}
 use Rattle.cet_page.specs.Trail.{Visit}
 use Rattle.cet_own.specs.Class.{class_at}
 use Rattle.cet_own.specs.Past.{next_word, numbered}
-use Rattle.cet_own.specs.Stands.{OwnWord, own_slot, below_token}
+use Rattle.cet_own.specs.Facts.{OwnWord, own_slot, below_token}
 use Rattle.cet_own.specs.declared.access_classes.Class.TheVariants as class
 use Rattle.cet_own.proofs.Changed.{Spares, changed}
 use Rattle.cet_own.proofs.Classes.{Spared, word_other, keeps_restorers}
-use Rattle.cet_own.proofs.Counters.{Bears, bears_child, bears_nobody}
+use Rattle.cet_own.specs.Claims.{Bears, bears_child, bears_nobody}
 use Rattle.cet_own.proofs.Fits.{of_class, none_of}
-use Rattle.cet_own.proofs.Holds.{IsMaker, Sound, Holds}
+use Rattle.cet_own.specs.Holds.{IsMaker, Sound, Holds}
 use Rattle.cet_own.proofs.Kept.{ending_out, restorers_out, size_kept, lists_out, pages_out, pages_same, gates_out, gates_same}
 use Rattle.cet_own.proofs.Marks.{SameTokens, marks_out, marks_same}
 use Rattle.cet_own.proofs.HeldAfter.{notes_gate}
-use Rattle.cet_own.proofs.Owed.{Owed}
+use Rattle.cet_own.specs.Owed.{Owed}
 use Rattle.cet_own.proofs.Writes.{stack_agrees, top_even}
 
 -- the counter is no thread's own

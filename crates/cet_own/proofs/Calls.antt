@@ -32,8 +32,9 @@ use Rattle.cet_page.specs.declared.finishes.Finish.{Finish}
 use Rattle.cet_page.specs.declared.finishes.Finish.TheVariants.{Noted, Posted, Exited, Stopped}
 use Rattle.cet_own.specs.Safe.{IsElsewhere, ReturnsBy}
 use Rattle.cet_own.specs.ToldTokens.{TokensBy}
-use Rattle.cet_own.proofs.Standing.{stacked, AtRest, HasNone}
-use Rattle.cet_own.proofs.Owed.{State}
+use Rattle.cet_own.proofs.Standing.{stacked}
+use Rattle.cet_own.specs.Claims.{AtRest, HasNone}
+use Rattle.cet_own.specs.Owed.{State}
 use Rattle.cet_own.proofs.Classes.{pushes}
 use Rattle.cet_own.proofs.Parts.{Claim, one_after, claim_bind, claim_cond, check_address_then, store_look_then, shadow_look_then, store_then}
 use Rattle.cet_own.proofs.OperandParts.{read_operand_then}
@@ -41,21 +42,8 @@ use Rattle.cet_own.proofs.Places.{page_word, shadow_slot, below_is, room_below}
 use Rattle.cet_own.specs.Past.{drew, numbered}
 use Rattle.cet_own.proofs.Progress.{Progress, progress, untouched}
 use Rattle.cet_page.specs.Trail.{Visit}
+use Rattle.cet_own.specs.Threads.{entries_of, Ends}
 use Rattle.cet_own.proofs.Resting.{Resting, rest_kept, rest_stacked, rested}
-
--- the entries of a thread's region
-abbrev pub entries_of : (t : ℕ) → Book → List Entry
-entries_of t b = (region b (current_of t b)).entries
-
--- What holds at the end of a row: the thread is at rest, or has nothing left, and a return goes right by the entries
--- before the last access.
-abbrev pub Ends : JobData → Arch → (past : List Visit) → (before s : State) → Finish → Type 0
-Ends job arch past before s (Noted next r) =
-    AtRest arch.number s.book next.ssp × ((held now : Option ℕ) → ReturnsBy job (entries_of arch.number before.book) (record arch { held = held }) (kept_by arch now next) r r.what) × TokensBy before.book s.book r r.what
-Ends job arch past before s (Posted next) = AtRest arch.number s.book next.ssp × (drew past ≡ false) × (numbered past ≡ false) × (next.rip ≡ arch.rip)
-Ends job arch past before s (Exited next r status) =
-    HasNone arch.number s.book × ((held now : Option ℕ) → ReturnsBy job (entries_of arch.number before.book) (record arch { held = held }) (kept_by arch now next) r r.what) × TokensBy before.book s.book r r.what
-Ends job arch past before s Stopped = AtRest arch.number s.book arch.ssp × (drew past ≡ false) × (numbered past ≡ false)
 
 -- the same of the part of an instruction
 abbrev pub EndsRow : JobData → Arch → (past : List Visit) → (before s : State) → Arch × Record → Type 0

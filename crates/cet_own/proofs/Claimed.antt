@@ -24,18 +24,18 @@ use Rattle.cet_book.proofs.Ways.{claimed_way}
 use Rattle.cet_page.specs.Script.{birth}
 use Rattle.cet_page.specs.Trail.{Visit}
 use Rattle.cet_own.specs.Past.{draw_word, drew}
-use Rattle.cet_own.specs.Stands.{OwnWord, own_slot, below_token}
+use Rattle.cet_own.specs.Facts.{OwnWord, own_slot, below_token}
 use Rattle.cet_own.specs.Class.{class_at}
 use Rattle.cet_own.specs.declared.access_classes.Class.TheVariants as class
 use Rattle.cet_own.proofs.Changed.{Spares, changed}
 use Rattle.cet_own.proofs.Classes.{Spared, word_other, keeps_restorers}
-use Rattle.cet_own.proofs.Counters.{draws_pages}
-use Rattle.cet_own.proofs.Holds.{InUse, Marks, Sound, Holds}
+use Rattle.cet_own.specs.Claims.{draws_pages}
+use Rattle.cet_own.specs.Holds.{InUse, Marks, Sound, Holds}
 use Rattle.cet_own.proofs.Kept.{ending_out, restorers_out, size_kept, lists_out, pages_out, gates_out, gates_same}
 use Rattle.cet_own.proofs.Marks.{parked_place}
 use Rattle.cet_own.proofs.Fits.{of_class, none_of, is_claim}
 use Rattle.cet_own.proofs.HeldAfter.{notes_gate}
-use Rattle.cet_own.proofs.Owed.{Owed}
+use Rattle.cet_own.specs.Owed.{Owed}
 use Rattle.cet_own.proofs.Writes.{in_there, list_kept, slot_out}
 use Rattle.cet_book.proofs.Changes.{same_book}
 

@@ -18,14 +18,14 @@ use Rattle.cet_book.proofs.Removes.{Removal, returned_is}
 use Rattle.cet_book.proofs.Top.{top_is}
 use Rattle.cet_book.specs.Stack.{slot}
 use Rattle.cet_book.proofs.Ways.{with_current_at, called_way, ended_way, freed_way, busied_way}
-use Rattle.cet_own.proofs.Holds.{Sound, Holds, IsOut, NoAction}
-use Rattle.cet_own.specs.Stands.{IsEntry, busy}
+use Rattle.cet_own.specs.Holds.{Sound, Holds, IsOut, NoAction}
+use Rattle.cet_own.specs.Facts.{IsEntry, busy, OwnWord, own_slot, below_token}
 use Rattle.cet_book.proofs.Held.{Free}
 use Rattle.cet_own.proofs.Kept.{holds_ended, holds_out, holds_entry, holds_below_token}
 use Rattle.cet_own.proofs.Own.{below_top, holds_push, holds_pop}
 use Rattle.cet_own.proofs.Fits.{of_class, none_of, none_held, some_held, is_push, is_load, is_entry, is_end}
 use Rattle.cet_own.proofs.HeldAfter.{keeps_note, notes_gate, taken_own, no_token, exchange_misses, takes_note, gives_note}
-use Rattle.cet_own.proofs.Owed.{Owed}
+use Rattle.cet_own.specs.Owed.{Owed}
 use Rattle.cet_book.proofs.Changes.{same_book, then_by}
 use Rattle.std.proofs.lemmas.Bool.Decides.{nat_tests}
 use Rattle.cet_page.specs.Script.{birth, held_after}
@@ -34,10 +34,9 @@ use Rattle.cet_own.specs.ExitWord.{IsEnding}
 use Rattle.cet_own.specs.Class.{class_at}
 use Rattle.cet_own.specs.Past.{next_word, draw_word, restorer_word, frame_pushed, below_frame, held_by, leaves_word}
 use Rattle.cet_own.specs.declared.access_classes.Class.TheVariants as class
-use Rattle.cet_own.proofs.Counters.{CountsBy, no_count, LeavesCounters, alters}
-use Rattle.cet_own.specs.Stands.{OwnWord, own_slot, below_token}
-use Rattle.cet_own.proofs.Standing.{Stacked}
-use Rattle.cet_own.proofs.Still.{KeepsRestorers, TellsBelow, tells_below, not_below}
+use Rattle.cet_own.proofs.Counters.{LeavesCounters}
+use Rattle.cet_own.specs.Claims.{CountsBy, no_count, alters, Stacked, KeepsRestorers, TellsBelow}
+use Rattle.cet_own.proofs.Still.{tells_below, not_below}
 use Rattle.cet_own.proofs.ClassLaws.{one_book, sound_after, wrote, exchange_does, exchange_fails, holds_gate, holds_end}
 
 pub own_region : {image : ImageData} {words : List ℕ} {b : Book} (t m : ℕ) → Holds image words b → (region b m).holder ≡ Current t → Owned t m b

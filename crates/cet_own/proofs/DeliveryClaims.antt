@@ -39,19 +39,21 @@ use Rattle.cet_page.specs.declared.actions.FramePlaces.{FramePlaces}
 use Rattle.cet_page.specs.declared.checks.Kind.TheVariants as kind
 use Rattle.cet_own.specs.ExitWord.{IsEnding, killed}
 use Rattle.cet_own.specs.Past.{drew, has_restorer, left_in, numbered}
-use Rattle.cet_own.specs.Stands.{IsRestorer}
-use Rattle.cet_own.proofs.Calls.{Ends, own_kept}
+use Rattle.cet_own.specs.Facts.{IsRestorer}
+use Rattle.cet_own.proofs.Calls.{own_kept}
+use Rattle.cet_own.specs.Threads.{Ends}
 use Rattle.cet_own.proofs.Endings.{by_signal}
 use Rattle.cet_own.proofs.GateParts.{gate_out_then}
-use Rattle.cet_own.proofs.Holds.{IsOut}
+use Rattle.cet_own.specs.Holds.{IsOut}
 use Rattle.cet_own.proofs.KernelParts.{Leaves, Within}
-use Rattle.cet_own.proofs.Owed.{State, own_stack}
+use Rattle.cet_own.specs.Owed.{State, own_stack}
 use Rattle.cet_own.proofs.Parts.{Claim, claim_bind, claim_cond, end_then, fetch_and_then, kernel_load_known, kernel_load_then, one_after}
 use Rattle.cet_own.proofs.Places.{below_is, room_below, room_two_below, shadow_slot}
 use Rattle.cet_own.proofs.Progress.{Progress, untouched}
 use Rattle.cet_own.proofs.Pushed.{stores_marker, stores_restorer}
 use Rattle.cet_own.proofs.Resting.{Inside, inside_kept, inside_left, inside_stacked, rested}
-use Rattle.cet_own.proofs.Standing.{Stacked, stacked}
+use Rattle.cet_own.proofs.Standing.{stacked}
+use Rattle.cet_own.specs.Claims.{Stacked}
 use Rattle.cet_own.proofs.StructureParts.{shadow_probe_then, store_each_claim, store_span_claim}
 use Rattle.cet_own.proofs.TokenWords.{frame_word_is}
 

@@ -27,10 +27,10 @@ use Rattle.cet_own.specs.Gates.{AccessGates, ThreadGates, TurnGates}
 use Rattle.cet_own.specs.Restores.{RestoresRight, ThreadRestores, TurnRestores}
 use Rattle.cet_own.specs.ToldTokens.{AccessTokens, IsToken, NotedTokens, ThreadTokens, TurnTokens}
 use Rattle.cet_own.proofs.Marks.{parked_place}
-use Rattle.cet_own.proofs.Owed.{State}
+use Rattle.cet_own.specs.Owed.{State}
 use Rattle.cet_own.proofs.Places.{shadow_page, shadow_slot}
 use Rattle.cet_own.proofs.StandsAt.{core_at, token_found}
-use Rattle.cet_own.proofs.Threads.{ThreadStands}
+use Rattle.cet_own.specs.Threads.{ThreadStands}
 use Rattle.cet_own.proofs.TokenWords.{restore_token_is}
 use Rattle.cet_own.proofs.Turns.{Invariant}
 

@@ -23,12 +23,12 @@ use Rattle.cet_page.specs.Script.{Script, ◌>>=◌}
 use Rattle.cet_page.specs.Parts.{compare_exchange_as, store, store_as, load, load_as}
 use Rattle.cet_page.specs.declared.finishes.Leaving.TheVariants as leaving
 use Rattle.cet_page.specs.Gate.{gate_in, gate_out}
-use Rattle.cet_own.specs.Stands.{busy}
+use Rattle.cet_own.specs.Facts.{busy, below_token}
 use Rattle.cet_own.proofs.Popped.{pops_frame}
-use Rattle.cet_own.proofs.Standing.{Stacked, HasNone, stacked}
+use Rattle.cet_own.proofs.Standing.{stacked}
+use Rattle.cet_own.specs.Claims.{Stacked, HasNone}
 use Rattle.cet_book.proofs.Held.{Free, given_held}
-use Rattle.cet_own.specs.Stands.{below_token}
-use Rattle.cet_own.proofs.Owed.{State, own_stack}
+use Rattle.cet_own.specs.Owed.{State, own_stack}
 use Rattle.cet_own.proofs.Classes.{refused, settles, reloads, enters, leaves, exits}
 use Rattle.cet_own.proofs.Parts.{Claim, one_after, claim_bind, read_entry_then}
 use Rattle.cet_own.specs.Past.{left_in, below_frame}

@@ -14,8 +14,8 @@ use Rattle.cet_page.specs.Script.{Script, ◌>>=◌}
 use Rattle.cet_page.specs.Values.{width, limit}
 use Rattle.cet_page.specs.declared.checks.Kind.TheVariants as kind
 use Rattle.cet_page.specs.declared.checks.Who.TheVariants.{User}
-use Rattle.cet_own.proofs.Holds.{IsOut}
-use Rattle.cet_own.proofs.Owed.{State}
+use Rattle.cet_own.specs.Holds.{IsOut}
+use Rattle.cet_own.specs.Owed.{State}
 use Rattle.cet_own.proofs.Classes.{free_loads, stores}
 use Rattle.cet_own.proofs.Parts.{Claim, claim_bind, check_address_then, look_then, store_look_then}
 use Rattle.cet_own.proofs.Places.{page_word}

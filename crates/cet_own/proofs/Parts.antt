@@ -22,27 +22,22 @@ use Rattle.cet_page.specs.declared.checks.Kind.TheVariants as kind
 use Rattle.cet_page.specs.declared.checks.Who.{Who}
 use Rattle.cet_page.specs.declared.checks.Who.TheVariants.{User}
 use Rattle.cet_own.specs.Safe.{AtReturn, IsReturnFault}
-use Rattle.cet_own.proofs.Frame.{Steady, steady_bind, steady_cond}
+use Rattle.cet_own.proofs.Frame.{steady_bind, steady_cond}
+use Rattle.cet_own.specs.Frame.{Steady}
 use Rattle.cet_own.specs.ToldTokens.{MissesToken}
 use Rattle.cet_book.specs.Facts.{In}
-use Rattle.cet_own.proofs.Holds.{IsOut}
-use Rattle.cet_own.proofs.Standing.{Stacked, AtRest, free_kept}
-use Rattle.cet_own.proofs.Owed.{State, state_after, Known, rules}
+use Rattle.cet_own.specs.Holds.{IsOut}
+use Rattle.cet_own.proofs.Standing.{free_kept}
+use Rattle.cet_own.specs.Claims.{Stacked, AtRest}
+use Rattle.cet_own.specs.Owed.{State, state_after, Known, rules}
 use Rattle.cet_own.specs.ExitWord.{IsEnding}
 use Rattle.cet_own.proofs.Classes.{looks, loads, stores as stored, exchanges, finishes, swaps, adds, ands, ors, clears as cleared, free_loads}
 use Rattle.cet_own.proofs.Places.{store_page, entry_there, shadow_page, in_page}
 use Rattle.cet_own.specs.Past.{left_in, frame_pushed, below_frame}
 use Rattle.cet_own.proofs.Progress.{Progress, progress, untouched}
 use Rattle.cet_page.specs.Trail.{Visit, visit}
+use Rattle.cet_own.specs.Threads.{During, Fails}
 use Rattle.cet_own.proofs.Resting.{Resting, rest_kept, Inside, inside_kept, inside_left, rest_stacked, inside_stacked, rested}
-
--- SSP is at the top of the thread's region before each access
-abbrev pub During : Arch → List Visit → State → Type 0
-During arch past s = Stacked arch.number s.book (below_frame (frame_pushed past) arch.ssp)
-
--- a fault leaves the thread as it was, and one of a return has its names
-abbrev pub Fails : JobData → Arch → State → Fault → Type 0
-Fails job arch s e = AtRest arch.number s.book arch.ssp × (AtReturn job arch → IsReturnFault e.name e.code) × MissesToken s.book e.code e.a e.name
 
 -- what a thread claims of a script
 abbrev pub Claim : {A : Type 0} → JobData → Arch → (Q : List Visit → State → State → A → Type 0) → (past : List Visit) → (before s : State) → Script A → Type 0

@@ -22,11 +22,12 @@ use Rattle.cet_own.specs.declared.access_classes.Class.TheVariants as class
 use Rattle.cet_own.proofs.ClassLaws.{exchange_does, holds_gate, one_book, sound_after}
 use Rattle.cet_own.proofs.Classes.{leaves_by, next_other, no_count_by, other_word, own_region, token_held, token_spares}
 use Rattle.cet_own.proofs.Fits.{is_end, of_class, some_held}
-use Rattle.cet_own.proofs.Holds.{Holds, Sound}
+use Rattle.cet_own.specs.Holds.{Holds, Sound}
 use Rattle.cet_own.proofs.HeldAfter.{gives_note, notes_gate}
-use Rattle.cet_own.proofs.Owed.{Owed}
+use Rattle.cet_own.specs.Owed.{Owed}
 use Rattle.cet_own.proofs.Own.{holds_pop}
-use Rattle.cet_own.proofs.Still.{KeepsRestorers, not_below, tells_below}
+use Rattle.cet_own.proofs.Still.{not_below, tells_below}
+use Rattle.cet_own.specs.Claims.{KeepsRestorers}
 
 -- the frame's entry goes, and then a stack is given back
 record Went (t m k : ℕ) (es : List Entry) (b next : Book) : Type 0 where

@@ -17,12 +17,12 @@ use Rattle.cet_page.specs.declared.checks.Who.TheVariants.{User}
 use Rattle.cet_page.specs.declared.services.Errno.{Errno}
 use Rattle.cet_page.specs.declared.services.Errno.TheVariants as errno
 use Rattle.cet_own.specs.Safe.{IsElsewhere}
-use Rattle.cet_own.proofs.Calls.{Ends}
+use Rattle.cet_own.specs.Threads.{Ends}
 use Rattle.cet_own.proofs.CloneClaims.{clone_claim}
 use Rattle.cet_own.proofs.Endings.{by_status}
 use Rattle.cet_own.proofs.GateParts.{exit_out_then, gate_out_then}
 use Rattle.cet_own.proofs.KernelParts.{Leaves, Within, failed_claim, probe_then, serve_claim}
-use Rattle.cet_own.proofs.Owed.{State, own_stack}
+use Rattle.cet_own.specs.Owed.{State, own_stack}
 use Rattle.cet_own.proofs.Parts.{Claim, claim_bind, claim_cond, clears_claim, end_then, kernel_load_then, store_then}
 use Rattle.cet_own.proofs.Places.{load_page, page_word, store_page}
 use Rattle.cet_own.proofs.Progress.{untouched}

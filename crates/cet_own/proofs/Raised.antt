@@ -21,12 +21,12 @@ use Rattle.cet_own.specs.Class.{class_at}
 use Rattle.cet_own.specs.declared.access_classes.Class.TheVariants as class
 use Rattle.cet_own.proofs.ClassLaws.{one_book}
 use Rattle.cet_own.proofs.Classes.{leaves_by, no_count_by, own_region}
-use Rattle.cet_own.proofs.Holds.{Sound, Holds}
+use Rattle.cet_own.specs.Holds.{Sound, Holds}
 use Rattle.cet_own.proofs.Own.{holds_pop}
 use Rattle.cet_own.proofs.Fits.{of_class, none_held, is_look}
 use Rattle.cet_own.proofs.HeldAfter.{notes_gate}
-use Rattle.cet_own.proofs.Owed.{Owed}
-use Rattle.cet_own.proofs.Still.{KeepsRestorers}
+use Rattle.cet_own.specs.Owed.{Owed}
+use Rattle.cet_own.specs.Claims.{KeepsRestorers}
 
 sound_removed : {t m : ℕ} {b next : Book} → Owned t m b → Removal t m b next → Sound b → Sound next
 sound_removed o r s =

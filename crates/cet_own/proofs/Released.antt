@@ -22,13 +22,13 @@ use Rattle.cet_own.specs.Class.{class_at}
 use Rattle.cet_own.specs.declared.access_classes.Class.TheVariants as class
 use Rattle.cet_own.proofs.Changed.{Spares, changed, place_spares, place_restorers}
 use Rattle.cet_own.proofs.Classes.{leaves_by, next_other, no_count_by, other_word}
-use Rattle.cet_own.proofs.Holds.{IsMaker, Sound, Holds}
+use Rattle.cet_own.specs.Holds.{IsMaker, Sound, Holds}
 use Rattle.cet_own.proofs.Kept.{ending_out, restorers_out, size_kept, pages_out, pages_same, gates_out, gates_same}
 use Rattle.cet_own.proofs.Marks.{WritesAt, marks_write, other_holder}
 use Rattle.cet_own.proofs.Own.{none_leads, tail_of}
 use Rattle.cet_own.proofs.Fits.{of_class, none_held, is_release}
 use Rattle.cet_own.proofs.HeldAfter.{notes_gate}
-use Rattle.cet_own.proofs.Owed.{Owed}
+use Rattle.cet_own.specs.Owed.{Owed}
 use Rattle.cet_own.proofs.Writes.{in_place, list_kept, list_free}
 
 module _ {t m s : ℕ} {es : List Entry} {b : Book} (l : Linked t m s es b) (room : (region b s).start + 8 ≤ top (region b s)) where

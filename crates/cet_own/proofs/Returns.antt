@@ -33,11 +33,12 @@ use Rattle.cet_own.specs.Safe.{GoesRight}
 use Rattle.cet_book.specs.Facts.{In}
 use Rattle.cet_own.proofs.Standing.{stacked}
 use Rattle.cet_book.proofs.Held.{Free}
-use Rattle.cet_own.proofs.Owed.{State, state_after, HeadWord, Known, Owed, own_stack}
+use Rattle.cet_own.specs.Owed.{State, state_after, HeadWord, Known, Owed, own_stack}
 use Rattle.cet_own.proofs.Classes.{free_loads, pops}
 use Rattle.cet_own.proofs.Parts.{Claim, one_after, claim_bind, check_address_then, look_then, shadow_look_then, load_then}
 use Rattle.cet_own.proofs.Places.{shadow_slot, above_is, entry_at}
-use Rattle.cet_own.proofs.Calls.{entries_of, EndsRow, own_kept}
+use Rattle.cet_own.proofs.Calls.{EndsRow, own_kept}
+use Rattle.cet_own.specs.Threads.{entries_of}
 use Rattle.cet_own.proofs.Progress.{Progress, progress, untouched}
 use Rattle.cet_page.specs.Trail.{Visit, visit}
 use Rattle.cet_own.proofs.Resting.{Resting, rest_kept, rest_stacked, rested}

@@ -18,12 +18,13 @@ use Rattle.cet_own.specs.Along.{Along}
 use Rattle.cet_own.specs.ExitWord.{EndsRight}
 use Rattle.cet_own.specs.Event.{turn_changes}
 use Rattle.cet_own.specs.Safe.{AccessReturns, TurnReturns, IsSafeAt, Safe}
-use Rattle.cet_own.proofs.Owed.{State}
+use Rattle.cet_own.specs.Owed.{State}
 use Rattle.cet_own.specs.ToldTokens.{TurnTokens}
 use Rattle.cet_own.proofs.First.{first_holds, first_threads, first_still, first_paid, first_made}
-use Rattle.cet_own.specs.Stands.{Stands, busy}
+use Rattle.cet_own.specs.Facts.{busy}
+use Rattle.cet_own.specs.Stands.{Stands}
 use Rattle.cet_own.proofs.StandsAt.{stands_at}
-use Rattle.cet_own.proofs.Threads.{CoreStands, ThreadStands}
+use Rattle.cet_own.specs.Threads.{CoreStands, ThreadStands}
 use Rattle.cet_own.proofs.Turns.{Invariant, safe_at, Turned, TurnedBy, stays, acts, ReadsBelow}
 
 -- a thread's turn, by its end

@@ -39,18 +39,20 @@ use Rattle.cet_page.specs.declared.checks.Kind.TheVariants as kind
 use Rattle.cet_page.specs.declared.checks.Who.TheVariants.{User}
 use Rattle.cet_own.specs.Safe.{IsElsewhere}
 use Rattle.cet_own.proofs.Acquired.{takes, misses}
-use Rattle.cet_own.proofs.Calls.{entries_of, EndsRow, own_kept}
+use Rattle.cet_own.proofs.Calls.{EndsRow, own_kept}
+use Rattle.cet_own.specs.Threads.{entries_of}
 use Rattle.cet_own.proofs.Classes.{free_loads, looks}
 use Rattle.cet_own.proofs.Looks.{shadow_store_look_then, entries_at}
 use Rattle.cet_own.proofs.TokenWords.{restore_token_is, previous_token_is}
-use Rattle.cet_own.proofs.Owed.{State, state_after, HeadWord, Known, Owed, own_stack}
+use Rattle.cet_own.specs.Owed.{State, state_after, HeadWord, Known, Owed, own_stack}
 use Rattle.cet_own.proofs.Parts.{Claim, one_after, claim_bind, claim_cond, check_address_as_then, shadow_look_then}
 use Rattle.cet_own.proofs.Places.{entry_there, shadow_page, shadow_slot, above_is, entry_at, room_below, in_page}
 use Rattle.cet_own.proofs.Progress.{Progress, progress, untouched}
 use Rattle.cet_own.proofs.Raised.{raises}
 use Rattle.cet_own.proofs.Released.{releases}
 use Rattle.cet_own.proofs.Resting.{Resting, rest_kept, rest_stacked, rested}
-use Rattle.cet_own.proofs.Standing.{stacked, AtRest}
+use Rattle.cet_own.proofs.Standing.{stacked}
+use Rattle.cet_own.specs.Claims.{AtRest}
 use Rattle.cet_own.proofs.Writes.{top_even}
 
 -- ---- where the word at the top leads

@@ -23,17 +23,18 @@ use Rattle.cet_page.specs.Tokens.{frame_ssp, is_frame_word}
 use Rattle.cet_page.specs.Trail.{Visit}
 use Rattle.cet_page.specs.declared.checks.Kind.TheVariants as kind
 use Rattle.cet_own.specs.Safe.{IsElsewhere}
-use Rattle.cet_own.proofs.Calls.{Ends, own_kept}
+use Rattle.cet_own.proofs.Calls.{own_kept}
+use Rattle.cet_own.specs.Threads.{Ends}
 use Rattle.cet_own.proofs.DeliveryClaims.{kill_claim}
 use Rattle.cet_own.proofs.Endings.{by_signal}
 use Rattle.cet_own.proofs.GateParts.{popped_out_then}
 use Rattle.cet_own.proofs.KernelParts.{Leaves, Within}
-use Rattle.cet_own.proofs.Owed.{HeadWord, State, own_stack}
+use Rattle.cet_own.specs.Owed.{HeadWord, State, own_stack}
 use Rattle.cet_own.proofs.Parts.{Claim, claim_bind, claim_cond, kernel_load_known}
 use Rattle.cet_own.proofs.Places.{entry_at, shadow_slot}
 use Rattle.cet_own.proofs.Progress.{untouched}
 use Rattle.cet_own.proofs.Resting.{rested}
-use Rattle.cet_own.proofs.Standing.{AtRest}
+use Rattle.cet_own.specs.Claims.{AtRest}
 use Rattle.cet_own.proofs.StructureParts.{load_span_claim, loads_claim, shadow_probe_then}
 
 -- tops lie below the end of the shadow area

@@ -23,14 +23,14 @@ use Rattle.cet_page.specs.declared.services.Errno.{Errno}
 use Rattle.cet_page.specs.declared.services.Errno.TheVariants as errno
 use Rattle.cet_own.specs.Past.{restorer_word}
 use Rattle.cet_own.specs.Safe.{IsElsewhere}
-use Rattle.cet_own.specs.Stands.{IsRestorer}
+use Rattle.cet_own.specs.Facts.{IsRestorer}
 use Rattle.cet_own.proofs.Actions.{sets_handler, sets_other, sets_restorer}
-use Rattle.cet_own.proofs.Calls.{Ends}
+use Rattle.cet_own.specs.Threads.{Ends}
 use Rattle.cet_own.proofs.Classes.{stores as stored}
 use Rattle.cet_own.proofs.DeliveryClaims.{pend_out}
 use Rattle.cet_own.proofs.GateParts.{gate_out_then}
 use Rattle.cet_own.proofs.KernelParts.{Leaves, Within, failed_claim, serve_claim}
-use Rattle.cet_own.proofs.Owed.{Owed, State, own_stack}
+use Rattle.cet_own.specs.Owed.{Owed, State, own_stack}
 use Rattle.cet_own.proofs.Parts.{Claim, claim_bind, claim_cond, fetch_or_then, kernel_load_then}
 use Rattle.cet_own.proofs.Progress.{untouched}
 use Rattle.cet_own.proofs.Resting.{inside_kept, inside_left, inside_stacked, rested}

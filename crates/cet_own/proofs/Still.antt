@@ -22,23 +22,10 @@ use Rattle.cet_page.specs.Trail.{Visit, visit}
 use Rattle.cet_own.specs.Past.{is_taking, touches, leaves_word, takes_any, left_in, left_row, restorer_word, shows_restorer, has_restorer, claimed_in}
 use Rattle.cet_book.proofs.Cases.{and_true}
 use Rattle.cet_book.proofs.Comes.{Comes, TakesNothing, AllApart, change_comes, changes_come}
-use Rattle.cet_own.specs.Stands.{HasClaimed, Restorers, IsOwnPlace, OwnWord, below_token, own_slot}
+use Rattle.cet_own.specs.Facts.{HasClaimed, Restorers, IsOwnPlace, OwnWord, below_token, own_slot}
 use Rattle.cet_own.proofs.ClaimStays.{claim_own}
+use Rattle.cet_own.specs.Claims.{KeepsRestorers, Still, TellsBelow}
 use Rattle.cet_own.proofs.Switches.{is_switch, switches}
-
-pub record Still (words : List ℕ) (t : ℕ) (b : Book) (past : List Visit) : Type 0 where
-  pub word : (w x : ℕ) → OwnWord t b w → left_in past w ≡ Some x → slice_index words w ≡ x
-  -- in its shadow stacks also what it has seen before it took a supervisor stack
-  pub place : (addr x : ℕ) → Place addr → IsOwnPlace t b addr → left_row past (slot addr) ≡ Some x → slot_word words addr ≡ x
-  pub restorer : (s : ℕ) → s < 64 → has_restorer past s ≡ true → slice_index words (restorer_word s) ≢ 0
-  -- and the stack that it has claimed
-  pub claimed : HasClaimed t (claimed_in past) b
-  -- what it read or left below the token of a stack that it holds, since it took it, is the kernel's return address
-  pub below : (k x : ℕ) → k < 8 → stack_of b k ≡ Some t → left_in past (token_word k - 1) ≡ Some x → x ≡ kernel_return
-
--- an access of thread t reads or leaves the kernel's return address there
-abbrev pub TellsBelow : (t : ℕ) → Book → Access → (v : ℕ) → Type 0
-TellsBelow t b a v = (k : ℕ) → k < 8 → stack_of b k ≡ Some t → touches a (token_word k - 1) ≡ true → leaves_word a v ≡ kernel_return
 
 -- one that goes elsewhere does
 pub tells_below : (t : ℕ) (b : Book) (v : ℕ) {a c : Access} → a ≡ c → ((k : ℕ) → k < 8 → touches c (token_word k - 1) ≡ false) → TellsBelow t b a v
@@ -133,10 +120,6 @@ left_word (access.FetchAnd word value) words w l = set_word words word w (bit_an
 left_word (access.CompareExchange word expected value) words w l = exchanged words word w value (slice_index words word == expected) l
 
 -- ---- restorers
-
--- a signal that had a restorer has one
-abbrev pub KeepsRestorers : List ℕ → List ℕ → Type 0
-KeepsRestorers words now = (s : ℕ) → s < 64 → slice_index words (restorer_word s) ≢ 0 → slice_index now (restorer_word s) ≢ 0
 
 or_true : (p q : Bool) → (p || q) ≡ true → (p ≡ true) ⊎ (q ≡ true)
 or_true true q e = inl refl

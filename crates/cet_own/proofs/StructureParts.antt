@@ -19,11 +19,11 @@ use Rattle.cet_page.specs.declared.checks.Kind.TheVariants as kind
 use Rattle.cet_page.specs.declared.checks.Who.TheVariants.{User}
 use Rattle.cet_page.specs.declared.services.Errno.TheVariants as errno
 use Rattle.cet_page.proofs.StructureLaws.{unwrapped, words_follow}
-use Rattle.cet_own.specs.Stands.{IsEntry}
+use Rattle.cet_own.specs.Facts.{IsEntry}
 use Rattle.cet_own.proofs.Classes.{stores as stored}
-use Rattle.cet_own.proofs.Holds.{IsOut}
+use Rattle.cet_own.specs.Holds.{IsOut}
 use Rattle.cet_own.proofs.KernelParts.{Within, probe_known}
-use Rattle.cet_own.proofs.Owed.{State, own_stack}
+use Rattle.cet_own.specs.Owed.{State, own_stack}
 use Rattle.cet_own.proofs.Parts.{Claim, claim_bind, claim_cond, kernel_load_then}
 use Rattle.cet_own.proofs.Places.{entry_there, in_page, load_page, shadow_page, store_page}
 use Rattle.cet_own.proofs.Progress.{Progress}

@@ -22,11 +22,10 @@ use Rattle.cet_book.proofs.Kept.{NotBorn, NoneBorn, book_kept}
 use Rattle.cet_page.specs.Trail.{Visit}
 use Rattle.cet_own.specs.Class.{all_of, class_at, is_of}
 use Rattle.cet_own.specs.Past.{below_frame, frame_pushed, pushes_frame}
-use Rattle.cet_own.specs.Stands.{IsOwnPlace}
+use Rattle.cet_own.specs.Facts.{IsOwnPlace}
 use Rattle.cet_own.specs.declared.access_classes.Class.{Class}
 use Rattle.cet_own.specs.declared.access_classes.Class.TheVariants as class
-use Rattle.cet_own.proofs.Fits.{Fits}
-use Rattle.cet_own.proofs.Standing.{Stacked}
+use Rattle.cet_own.specs.Claims.{Fits, Stacked}
 
 -- by this change the thread gets a shadow stack
 abbrev pub is_switch : Change → Bool

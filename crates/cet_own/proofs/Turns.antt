@@ -36,21 +36,20 @@ use Rattle.cet_own.specs.Safe.{AccessReturns, ThreadReturns, KeepsStack, HasStac
 use Rattle.cet_own.specs.ToldTokens.{AccessTokens, ThreadTokens}
 use Rattle.cet_page.specs.Trail.{trail_of, Visit}
 use Rattle.cet_own.specs.Past.{below_frame, frame_pushed, draw_word, next_word, in_force, touches, leaves_word}
-use Rattle.cet_own.proofs.Still.{Still, still_none}
+use Rattle.cet_own.proofs.Still.{still_none}
+use Rattle.cet_own.specs.Claims.{Still, Stacked, HasNone, CountsBy, no_count, draws_pages, bears_child, bears_nobody}
 use Rattle.cet_own.proofs.Frame.{during_at}
-use Rattle.cet_own.proofs.Holds.{Holds}
-use Rattle.cet_own.proofs.Standing.{Stacked, HasNone, has_made_kept}
-use Rattle.cet_own.specs.Stands.{HasMade}
-use Rattle.cet_own.proofs.Owed.{State, rules}
-use Rattle.cet_own.proofs.Parts.{During, Fails}
-use Rattle.cet_own.proofs.Calls.{entries_of, Ends}
-use Rattle.cet_own.proofs.Threads.{InRow, Ended, CoreStands, ThreadStands, thread_relies}
+use Rattle.cet_own.specs.Holds.{Holds}
+use Rattle.cet_own.proofs.Standing.{has_made_kept}
+use Rattle.cet_own.specs.Facts.{HasMade, thread_draws, thread_births}
+use Rattle.cet_own.specs.Owed.{State, rules}
+use Rattle.cet_own.specs.Threads.{During, Fails, entries_of, Ends, InRow, Ended, CoreStands, ThreadStands}
+use Rattle.cet_own.proofs.Threads.{thread_relies}
 use Rattle.cet_own.proofs.Turn.{Led, led}
 use Rattle.cet_own.proofs.Newborn.{IsNewborn, newborn}
 use Rattle.cet_own.proofs.ClassLaws.{one_book}
-use Rattle.cet_own.proofs.Counters.{CountsBy, no_count, draws_pages, bears_child, bears_nobody, none_born}
+use Rattle.cet_own.proofs.Counters.{none_born}
 use Rattle.cet_own.proofs.Paid.{Paid, unaltered, counters_tell, sum_moved}
-use Rattle.cet_own.specs.Stands.{thread_draws, thread_births}
 
 -- What is carried from turn to turn: words and book in step, and every thread's claim on the rest of its row.
 pub record Invariant (job : JobData) (m : Machine) (s : State) : Type 0 where

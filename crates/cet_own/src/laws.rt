@@ -11,6 +11,7 @@ ghost use Rattle.cet_own.specs.Event.{book_of};
 ghost use Rattle.cet_own.specs.ExitWord.{EndsRight};
 ghost use Rattle.cet_own.specs.Gates.{GatesExactly, RestoresExactly, TurnTells};
 ghost use Rattle.cet_own.specs.Safe.{Safe};
+ghost use Rattle.cet_own.specs.Keeps.{TurnStands};
 ghost use Rattle.cet_own.specs.Stands.{Stands};
 ghost use Rattle.cet_own.specs.Switched.{Legal, Raises, Switched};
 
@@ -26,6 +27,12 @@ pub fn every_run_is_safe()
 /// and the book; and no record tells of a restore token that didn't stand, or of one missed that did.
 pub fn every_run_stands()
     ensures { (job : JobData) (start : Machine) (turns : List ℕ) → IsJob job → Starts job start → Along (Stands job) (TurnTells job) job start first_book turns }
+{}
+
+/// The ownership invariant is inductive: in any machine of which, with a book, it holds, a turn of whatever
+/// thread keeps it, with the book that has the turn's changes.
+pub fn every_turn_stands()
+    ensures { (job : JobData) (m : Machine) (b : Book) (t : ℕ) → IsJob job → Stands job m b → TurnStands job m b t }
 {}
 
 /// In every run of every job, an RSTORSSP whose look has passed takes a shadow stack exactly where the book
