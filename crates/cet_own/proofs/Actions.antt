@@ -66,7 +66,7 @@ module _ {image : ImageData} {t k : ℕ} {past : List Visit} {b : Book} {a : Acc
       ((words : List ℕ) → Holds image words b → KeepsRestorers words (slice_set words word x)) → Owed image t k past b a v changes
   acts word x at e ev restorers keeps = record {
     notes = λ words is h. notes_gate v e ev (λ held. refl) (λ held j q. inl q);
-    below = λ words is h. (let high = at.high in tells_below t b v e (λ j l. not_below word j (λ z. omega arith)));
+    below = λ words is h. (let high = at.high in tells_below t b v e (λ j l. not_below word j (λ z. omega arith)) (λ j l. refl));
     fits = λ words is h ssp held stands note. none_of _ ev;
     counts = λ words is h. (let low = at.low in no_count_by (leaves_by e (other_word word (omega arith)) (next_other word (omega arith))) (ap birth ev));
     keeps = λ words next is h still q.

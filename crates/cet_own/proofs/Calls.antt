@@ -1,5 +1,5 @@
 -- What a thread claims of CALL and RET. Source: own.
-use Rattle.std.proofs.Common.{◌≡◌, ℕ, ◌+◌, ◌-◌, ◌/◌, ◌<◌, ◌≤◌, List, [], ◌∷◌, length, Option, refl, ◌∙◌, ap, subst, arith, false}
+use Rattle.std.proofs.Common.{◌≡◌, ℕ, ◌+◌, ◌-◌, ◌/◌, ◌<◌, ◌≤◌, List, [], ◌∷◌, length, refl, ◌∙◌, ap, subst, arith}
 use Rattle.std.specs.Prelude.{◌==◌, ℤ}
 use Rattle.std.specs.Int.{w64, cast_unsigned}
 use Rattle.cet_words.specs.Job.{JobData}
@@ -11,7 +11,6 @@ use Rattle.cet_isa.specs.declared.instructions.Operand.{Operand}
 use Rattle.cet_isa.specs.declared.instructions.Size.TheVariants as size
 use Rattle.cet_isa.specs.declared.threads.Arch.{Arch}
 use Rattle.cet_isa.specs.declared.threads.Record.{Record}
-use Rattle.cet_book.specs.declared.entries.Entry.{Entry}
 use Rattle.cet_book.specs.declared.entries.Entry.TheVariants.{Call}
 use Rattle.cet_book.specs.Book.{Book, region, top, current_of, relist}
 use Rattle.cet_book.specs.Facts.{IsReturn, In}
@@ -21,28 +20,23 @@ use Rattle.cet_book.proofs.Relies.{Relies, owns_current}
 use Rattle.cet_book.specs.Stack.{slot}
 use Rattle.cet_book.proofs.Top.{relist_top}
 use Rattle.cet_book.proofs.Ways.{called_way}
-use Rattle.cet_page.specs.Core.{kept_by}
 use Rattle.cet_page.specs.Script.{done, ◌>>=◌}
 use Rattle.cet_page.specs.Finish.{rsp}
 use Rattle.cet_page.specs.Word64.{sub64}
 use Rattle.cet_page.specs.Flow.{called, call, call_next, relative, call_relative, call_indirect}
 use Rattle.cet_page.specs.Parts.{store_as}
 use Rattle.cet_page.specs.declared.checks.Kind.TheVariants as kind
-use Rattle.cet_page.specs.declared.finishes.Finish.{Finish}
-use Rattle.cet_page.specs.declared.finishes.Finish.TheVariants.{Noted, Posted, Exited, Stopped}
-use Rattle.cet_own.specs.Safe.{IsElsewhere, ReturnsBy}
-use Rattle.cet_own.specs.ToldTokens.{TokensBy}
+use Rattle.cet_page.specs.declared.finishes.Finish.TheVariants.{Noted}
+use Rattle.cet_own.specs.Safe.{IsElsewhere}
 use Rattle.cet_own.proofs.Standing.{stacked}
-use Rattle.cet_own.specs.Claims.{AtRest, HasNone}
 use Rattle.cet_own.specs.Owed.{State}
 use Rattle.cet_own.proofs.Classes.{pushes}
 use Rattle.cet_own.proofs.Parts.{Claim, one_after, claim_bind, claim_cond, check_address_then, store_look_then, shadow_look_then, store_then}
 use Rattle.cet_own.proofs.OperandParts.{read_operand_then}
 use Rattle.cet_own.proofs.Places.{page_word, shadow_slot, below_is, room_below}
-use Rattle.cet_own.specs.Past.{drew, numbered}
 use Rattle.cet_own.proofs.Progress.{Progress, progress, untouched}
 use Rattle.cet_page.specs.Trail.{Visit}
-use Rattle.cet_own.specs.Threads.{entries_of, Ends}
+use Rattle.cet_own.specs.Threads.{Ends}
 use Rattle.cet_own.proofs.Resting.{Resting, rest_kept, rest_stacked, rested}
 
 -- the same of the part of an instruction

@@ -139,7 +139,7 @@ module _ {image : ImageData} {t k : ℕ} {past : List Visit} {b : Book} {a : Acc
       changed (Claimed (shadow_start + 4096 * (v + 1)) pages maker) (append (claim t (shadow_start + 4096 * (v + 1)) pages maker) b) ev tt
       (λ words is h ssp held stands note. of_class class.Claim (Claimed (shadow_start + 4096 * (v + 1)) pages maker ∷ []) ev refl (ap (λ c. class_at c ssp held v) e ∙ is_claim (pages + 1) ssp v held))
       (λ words is h. draws_pages (pages + 1) (omega arith) e once (ap birth ev))
-      (λ words is h. tells_below t b v e (λ j l. not_below draw_word j (λ z. omega arith)))
+      (λ words is h. tells_below t b v e (λ j l. not_below draw_word j (λ z. omega arith)) (λ j l. refl))
       (λ words is h. notes_gate v e ev (λ held. refl) (λ held j q. inl q))
       (λ words is h. claimed_way t (shadow_start + 4096 * (v + 1)) pages maker b (draw_can_claim b v pages (drawn words is h) least fits))
       (λ words is h sound.
@@ -164,7 +164,7 @@ module _ {image : ImageData} {t k : ℕ} {past : List Visit} {b : Book} {a : Acc
   pub overdraws : (n : ℕ) → a ≡ access.FetchAdd draw_word n → n ≤ 1023 → v + n < 2 ^ 64 → drew past ≡ false → changes ≡ [] → Owed image t k past b a v changes
   overdraws n e most few once ev = record {
     counts = λ words is h. draws_pages n most e once (ap birth ev);
-    below = λ words is h. tells_below t b v e (λ j l. not_below draw_word j (λ z. omega arith));
+    below = λ words is h. tells_below t b v e (λ j l. not_below draw_word j (λ z. omega arith)) (λ j l. refl);
     notes = λ words is h. notes_gate v e ev (λ held. refl) (λ held j q. inl q);
     fits = λ words is h ssp held stands note. none_of _ ev;
     keeps = λ words next is h still q. subst (Holds image (after words a)) (same_book t b next changes ev q) (does words is h).0;

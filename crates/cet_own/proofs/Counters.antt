@@ -1,16 +1,13 @@
 -- What an access does to the counter of draws and to that of threads, and births. Source: own.
-use Rattle.std.proofs.Common.{◌≡◌, ◌≢◌, ℕ, ◌+◌, ◌^◌, ◌<◌, ◌≤◌, Bool, false, List, [], ◌∷◌, None}
+use Rattle.std.proofs.Common.{◌≡◌, ◌≢◌, ℕ, ◌+◌, ◌^◌, ◌<◌, ◌≤◌, false, List, [], ◌∷◌, None}
 use Rattle.std.specs.Prelude.{slice_index}
 use Rattle.cet_words.specs.Change.{Change, Born}
 use Rattle.cet_words.specs.declared.accesses.Access.{Access}
-use Rattle.cet_words.specs.declared.accesses.Access.TheVariants as access
-use Rattle.cet_book.specs.declared.entries.Holder.TheVariants.{Maker}
-use Rattle.cet_book.specs.Book.{Book, region}
+use Rattle.cet_book.specs.Book.{Book}
 use Rattle.cet_book.proofs.Kept.{NoneBorn}
 use Rattle.cet_page.specs.Script.{birth}
-use Rattle.cet_own.specs.Claims.{HasNone, alters, Bears, CountsBy, no_count, draws_pages, bears_child, bears_nobody}
-use Rattle.cet_page.specs.Trail.{Visit}
-use Rattle.cet_own.specs.Past.{touches, draw_word, next_word, drew, numbered}
+use Rattle.cet_own.specs.Claims.{HasNone, alters}
+use Rattle.cet_own.specs.Past.{draw_word, next_word}
 use Rattle.cet_words.specs.Layout.{thread_limit}
 
 -- the access changes neither counter

@@ -4,19 +4,15 @@ use Rattle.std.specs.Prelude.{◌==◌, nat_le, nat_lt, is_some}
 use Rattle.std.proofs.lemmas.Bool.Decides.{nat_tests}
 use Rattle.cet_words.specs.Change.{Change}
 use Rattle.cet_words.specs.Layout.{first_shadow_page, first_kernel_page, first_shadow_word, first_kernel_word, draw_shadow_word, token_word}
-use Rattle.cet_words.specs.declared.accesses.Access.{Access}
 use Rattle.cet_words.specs.declared.accesses.Access.TheVariants as access
 use Rattle.cet_book.specs.Book.{Book, stack_of}
 use Rattle.cet_book.specs.Facts.{Place}
 use Rattle.cet_book.specs.Stack.{slot}
 use Rattle.cet_book.proofs.Held.{Free, Held}
 use Rattle.cet_page.specs.Tokens.{restore_token}
-use Rattle.cet_page.specs.Trail.{Visit}
 use Rattle.cet_own.specs.Class.{address_of, all_of, class_at}
-use Rattle.cet_own.specs.Past.{below_frame, frame_pushed}
 use Rattle.cet_own.specs.declared.access_classes.Class.{Class}
 use Rattle.cet_own.specs.declared.access_classes.Class.TheVariants as class
-use Rattle.cet_own.specs.Claims.{Stacked, Fits}
 use Rattle.cet_own.proofs.TokenWords.{restore_token_is}
 
 -- it is enough to say which class it is

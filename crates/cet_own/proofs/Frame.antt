@@ -1,6 +1,6 @@
 -- What a thread claims of its script, whatever the other threads do between its accesses. Source: own, in the manner of
 -- rely-guarantee reasoning.
-use Rattle.std.proofs.Common.{◌≡◌, ℕ, zero, suc, ◌+◌, Bool, true, false, cond, List, [], ◌∷◌, ◌++◌, Option, Some, refl, sym, ◌∙◌, ap, subst}
+use Rattle.std.proofs.Common.{◌≡◌, ℕ, zero, suc, ◌+◌, Bool, true, false, cond, List, [], ◌∷◌, ◌++◌, Some, refl, sym, ◌∙◌, ap, subst}
 use Rattle.cet_words.specs.Access.{answer}
 use Rattle.cet_words.specs.Change.{Change}
 use Rattle.cet_words.specs.declared.accesses.Access.{Access}

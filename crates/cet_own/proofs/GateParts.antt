@@ -157,7 +157,7 @@ module _ (job : JobData) (arch : Arch) (l : own_stack job arch.number < 8) where
         λ now r v known.
             let inside' = inside_kept r inside in
             let found : v ≡ kernel_return = known.left (token_word gate - 1) kernel_return (below_token gate l inside'.holds refl) inside.settled refl in (
-              reloads l refl found refl,
+              reloads l refl found inside'.holds refl,
               now,
               refl,
               claim_bind job arch (λ p z n x. Claim job arch Q p z n (f x)) _ now now _ _ (
@@ -197,7 +197,7 @@ module _ (job : JobData) (arch : Arch) (l : own_stack job arch.number < 8) where
             let inside' = inside_kept r inside in
             let list' : (region now.book (current_of arch.number now.book)).entries ≡ Frame ∷ es = own_entries r inside.stacked.top.has list in
             let found : v ≡ kernel_return = known.left (token_word gate - 1) kernel_return (below_token gate l inside'.holds refl) inside.settled refl in (
-              reloads l refl found refl,
+              reloads l refl found inside'.holds refl,
               now,
               refl,
               claim_bind job arch (λ p z n x. Claim job arch Q p z n (f x)) _ now now _ _ (
@@ -243,7 +243,7 @@ module _ (job : JobData) (arch : Arch) (l : own_stack job arch.number < 8) where
         λ now r v known.
             let inside' = inside_kept r inside in
             let found : v ≡ kernel_return = known.left (token_word gate - 1) kernel_return (below_token gate l inside'.holds refl) inside.settled refl in (
-              reloads l refl found refl,
+              reloads l refl found inside'.holds refl,
               now,
               refl,
               claim_bind job arch (λ p z n x. Claim job arch Q p z n (f x)) _ now now _ _ (

@@ -26,7 +26,7 @@ use Rattle.cet_own.specs.Holds.{Holds, Sound}
 use Rattle.cet_own.proofs.HeldAfter.{gives_note, notes_gate}
 use Rattle.cet_own.specs.Owed.{Owed}
 use Rattle.cet_own.proofs.Own.{holds_pop}
-use Rattle.cet_own.proofs.Still.{not_below, tells_below}
+use Rattle.cet_own.proofs.Still.{gives_back}
 use Rattle.cet_own.specs.Claims.{KeepsRestorers}
 
 -- the frame's entry goes, and then a stack is given back
@@ -52,7 +52,7 @@ pub pops_frame : {image : ImageData} {t k : ℕ} {past : List Visit} {b : Book} 
     Owed image t k past b a v changes
 pops_frame {image = image} {t = t} {k = k} {b = b} {v = v} {changes = changes} m es l e held current list ev = record {
   notes = λ words is h. notes_gate v e ev (gives_note k v l (is ∙ ap (answer words) e ∙ token_held t k h l held)) (λ note j q. cc);
-  below = λ words is h. tells_below t b v e (λ j n. not_below (token_word k) j (λ z. omega arith));
+  below = λ words is h. gives_back t b v k e l held;
   fits = λ words is h ssp noted stands note. of_class class.End (Popped ∷ Freed k ∷ []) ev refl (ap (λ c. class_at c ssp noted v) e ∙ is_end k (token k + 1) (token k) ssp v noted l (some_held b noted k held note));
   counts = λ words is h. no_count_by (leaves_by e (other_word (token_word k) (omega arith)) (next_other (token_word k) (omega arith))) (ap birth ev);
   keeps = λ words next is h still q.

@@ -133,7 +133,7 @@ module _ {image : ImageData} {t k : ℕ} {past : List Visit} {b : Book} {a : Acc
     notes = λ words is h. notes_gate v e ev (λ held. refl) (λ held j q. inl q);
     below = λ words is h.
         let high = (below_top (own_region t m h current) room).place.high in
-        tells_below t b v e (λ j l. not_below (slot (top (region b m) - 8)) j (λ z. omega arith));
+        tells_below t b v e (λ j l. not_below (slot (top (region b m) - 8)) j (λ z. omega arith)) (λ j l. refl);
     fits = λ words is h ssp held stands note. none_of _ ev;
     counts = λ words is h.
         let high = (below_top (own_region t m h current) room).place.high in
@@ -156,7 +156,7 @@ module _ {image : ImageData} {t k : ℕ} {past : List Visit} {b : Book} {a : Acc
     notes = λ words is h. notes_gate v e ev (λ held. refl) (λ held j q. inl q);
     below = λ words is h.
         let high = (lower_place image words (own_region t m h current) x room).0.high in
-        tells_below t b v e (λ j l. not_below (slot (top (region b m) - 16)) j (λ z. omega arith));
+        tells_below t b v e (λ j l. not_below (slot (top (region b m) - 16)) j (λ z. omega arith)) (λ j l. refl);
     fits = λ words is h ssp held stands note.
         let o = own_region t m h current in
         let place = (lower_place image words o x room).0 in

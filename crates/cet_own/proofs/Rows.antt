@@ -201,10 +201,10 @@ module _ (job : JobData) (j : IsJob job) (arch : Arch) where
   boundary_claim : (past : List Visit) (before s : State) → IsState arch → Resting arch.number untouched (progress past) s.book arch.ssp → Claim job arch (Ends job arch) past before s (boundary job arch)
   unfolding boundary
   boundary_claim past before s is rest =
-      load_then job arch (Ends job arch) past before s exit_word _ rest (λ now r ending.
+      load_then job arch (Ends job arch) past before s exit_word _ (λ k z. omega arith) rest (λ now r ending.
       let rest1 = rest_kept r rest in
       claim_cond job arch (Ends job arch) _ now now (ending == 0) _ _
-      (λ _. load_then job arch (Ends job arch) _ now now (pend_word arch.number) _ rest1 (λ now2 r2 pending.
+      (λ _. load_then job arch (Ends job arch) _ now now (pend_word arch.number) _ (λ k z. (let few = is.number in omega arith)) rest1 (λ now2 r2 pending.
       after_claim _ now2 now2 (pending_signal pending arch.mask) is (pending_few pending arch.mask) (rest_kept r2 rest1)))
       (λ _. (rested rest1, ap (λ (x : Progress). x.drawing) rest1.level, ap (λ (x : Progress). x.numbering) rest1.level)))
 

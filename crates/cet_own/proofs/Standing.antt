@@ -1,6 +1,5 @@
 -- Where a thread stands on its shadow stack, and that other threads leave it there. Source: own.
-use Rattle.std.proofs.Common.{ℕ, ◌≤◌, length, ◌∙◌, arith}
-use Rattle.cet_words.specs.Layout.{first_region_start, last_region_end}
+use Rattle.std.proofs.Common.{ℕ, ◌∙◌, arith}
 use Rattle.cet_book.specs.Book.{Book, current_of}
 use Rattle.cet_book.specs.Shape.{Shape}
 use Rattle.cet_book.proofs.Relies.{Relies}

@@ -1,13 +1,13 @@
 -- What is carried from turn to turn, from the public invariant: so that one is inductive. Source: own.
-use Rattle.std.proofs.Common.{◌≡◌, ◌≢◌, ℕ, ◌+◌, ◌-◌, ◌*◌, ◌%◌, ◌<◌, ◌≤◌, ◌⊎◌, inl, inr, zero, suc, List, [], ◌∷◌, length, Bool, true, false, Option, Some, None, refl, sym, ◌∙◌, ap, subst, arith}
+use Rattle.std.proofs.Common.{◌≡◌, ◌≢◌, ℕ, ◌+◌, ◌-◌, ◌<◌, ◌≤◌, ◌⊎◌, inl, inr, zero, suc, List, [], ◌∷◌, length, Bool, true, false, Option, Some, None, refl, sym, ◌∙◌, ap, subst, arith}
 use Rattle.std.specs.Prelude.{slice_get, slice_index, is_some, if◌then◌else◌}
 use Rattle.std.proofs.lemmas.Bool.{cases_lt}
 use Rattle.cet_words.specs.Job.{JobData}
-use Rattle.cet_words.specs.Layout.{kernel_return, token_word}
+use Rattle.cet_words.specs.Layout.{token_word}
 use Rattle.cet_book.specs.declared.entries.Holder.{Holder}
 use Rattle.cet_book.specs.declared.entries.Holder.TheVariants.{Maker, Current, Parked, Left, Lost}
-use Rattle.cet_book.specs.Book.{Book, region, top, current_of, stack_of}
-use Rattle.cet_book.specs.Facts.{In, IsParkedAt, Place}
+use Rattle.cet_book.specs.Book.{Book, region, top, stack_of}
+use Rattle.cet_book.specs.Facts.{In, Place}
 use Rattle.cet_book.specs.Shape.{HolderFits, IsBook, Shape}
 use Rattle.cet_book.specs.Stack.{slot, slot_word}
 use Rattle.cet_book.proofs.Edits.{current_of_is, is_there}
@@ -19,7 +19,6 @@ use Rattle.cet_own.specs.Facts.{IsOwnPlace, OwnWord, below_token, own_slot}
 use Rattle.cet_own.specs.Holds.{Holds, InUse, IsMaker, Marks}
 use Rattle.cet_own.specs.Past.{leaves_word, left_in, left_row, takes_any, touches}
 use Rattle.cet_own.specs.Stands.{Stands}
-use Rattle.cet_own.specs.ToldTokens.{IsToken}
 use Rattle.cet_own.proofs.Marks.{parked_place}
 use Rattle.cet_own.proofs.TokenWords.{restore_token_is}
 use Rattle.cet_own.proofs.Turns.{Invariant}

@@ -13,24 +13,23 @@ use Rattle.cet_page.specs.Script.{Played, Completed, Faulted, Wants}
 use Rattle.cet_page.specs.ValsData.{ValsData, no_vals}
 use Rattle.cet_page.specs.Row.{row}
 use Rattle.cet_page.specs.Core.{Core, After, unheld, kept_by, faulted, core_by, noted_by}
-use Rattle.cet_page.specs.Within.{Waits, Rests, CoreAt, IsCore}
+use Rattle.cet_page.specs.Within.{CoreAt, IsCore}
 use Rattle.cet_page.specs.Machine.{Thread}
 use Rattle.cet_page.specs.declared.finishes.Finish.{Finish}
 use Rattle.cet_page.specs.declared.finishes.Finish.TheVariants.{Noted, Posted, Exited, Stopped}
 use Rattle.cet_own.specs.Safe.{NotedReturns}
 use Rattle.cet_own.specs.ToldTokens.{NotedTokens}
-use Rattle.cet_page.specs.Trail.{Visit, row_trail, trail, trail_of}
+use Rattle.cet_page.specs.Trail.{Visit, row_trail, trail_of}
 use Rattle.cet_own.specs.Past.{held_in}
 use Rattle.cet_own.specs.Facts.{AllTold}
 use Rattle.cet_own.proofs.Told.{all_last, free_note}
 use Rattle.cet_own.proofs.Still.{still_none}
-use Rattle.cet_own.specs.Claims.{Still, AtRest, HasNone}
+use Rattle.cet_own.specs.Claims.{Still, AtRest}
 use Rattle.cet_own.proofs.Frame.{others_at, OnCame}
-use Rattle.cet_own.specs.Frame.{SteadyAt}
 use Rattle.cet_own.proofs.Standing.{stacked_kept, rest_kept, none_kept}
 use Rattle.cet_book.proofs.Held.{Held}
 use Rattle.cet_own.specs.Owed.{State, own_stack, rules}
-use Rattle.cet_own.specs.Threads.{During, Fails, entries_of, Ends, Left, InRow, Ended, CoreStands, ThreadStands}
+use Rattle.cet_own.specs.Threads.{During, Fails, entries_of, Ends, Left, InRow, CoreStands, ThreadStands}
 use Rattle.cet_own.proofs.Rows.{row_claim}
 
 -- ---- what the others do

@@ -15,7 +15,7 @@ use Rattle.cet_page.specs.Script.{birth, held_after}
 use Rattle.cet_page.specs.Trail.{Visit}
 use Rattle.cet_own.specs.Class.{all_of, class_at}
 use Rattle.cet_own.specs.Facts.{HasClaimed, IsOwnPlace, OwnWord}
-use Rattle.cet_own.specs.Past.{below_frame, claimed_in, draw_word, drew, frame_pushed, has_restorer, held_by, leaves_word, left_in, left_row, next_word, numbered, restorer_word, touches}
+use Rattle.cet_own.specs.Past.{below_frame, claimed_in, draw_word, drew, frame_pushed, frees_token, has_restorer, held_by, leaves_word, left_in, left_row, next_word, numbered, restorer_word, touches}
 
 -- ---- where a thread stands
 
@@ -48,9 +48,13 @@ pub record Still (words : List ℕ) (t : ℕ) (b : Book) (past : List Visit) : T
   -- what it read or left below the token of a stack that it holds, since it took it, is the kernel's return address
   pub below : (k x : ℕ) → k < 8 → stack_of b k ≡ Some t → left_in past (token_word k - 1) ≡ Some x → x ≡ kernel_return
 
--- an access of thread t reads or leaves the kernel's return address there
-abbrev pub TellsBelow : (t : ℕ) → Book → Access → (v : ℕ) → Type 0
-TellsBelow t b a v = (k : ℕ) → k < 8 → stack_of b k ≡ Some t → touches a (token_word k - 1) ≡ true → leaves_word a v ≡ kernel_return
+-- of a supervisor stack and the word below its token
+pub record TellsBelow (t : ℕ) (b : Book) (a : Access) (v : ℕ) : Type 0 where
+  -- an access of that word is by the thread that holds the stack, and reads or leaves the kernel's return address
+  pub holder : (k : ℕ) → k < 8 → touches a (token_word k - 1) ≡ true → stack_of b k ≡ Some t
+  pub address : (k : ℕ) → k < 8 → touches a (token_word k - 1) ≡ true → leaves_word a v ≡ kernel_return
+  -- and so is the exchange that gives the stack back
+  pub frees : (k : ℕ) → k < 8 → frees_token a k ≡ true → stack_of b k ≡ Some t
 
 -- a signal that had a restorer has one
 abbrev pub KeepsRestorers : List ℕ → List ℕ → Type 0

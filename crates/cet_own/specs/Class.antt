@@ -1,5 +1,5 @@
 -- The classes of accesses, by what an access can do to the book of shadow stacks, and what each may change there. Source: own.
-use Rattle.std.specs.Prelude.{◌≡◌, ℕ, ◌+◌, ◌-◌, ◌*◌, ◌%◌, ◌^◌, Bool, true, false, not, ◌&&◌, ◌||◌, ◌==◌, nat_lt, nat_le, if◌then◌else◌, List, [], ◌∷◌, Option, Some, is_some, slice_get}
+use Rattle.std.specs.Prelude.{ℕ, ◌+◌, ◌-◌, ◌*◌, ◌%◌, ◌^◌, Bool, true, false, not, ◌&&◌, ◌||◌, ◌==◌, nat_lt, nat_le, if◌then◌else◌, List, [], ◌∷◌, Option, is_some}
 use Rattle.cet_words.specs.Change.{Change, Called, Returned, Raised, Acquired, Released, Claimed, Seeded, Born, Pushed, Popped, Ended, Busied, Freed}
 use Rattle.cet_words.specs.Layout.{within, shadow_start, first_shadow_page, first_kernel_page, first_shadow_word, first_kernel_word, next_thread_word, draw_shadow_word, thread_limit, token_word}
 use Rattle.cet_words.specs.declared.accesses.Access.{Access}

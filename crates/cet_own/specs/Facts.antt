@@ -1,6 +1,6 @@
 -- The facts of the ownership invariant, of words, threads and book. Source: own.
-use Rattle.std.specs.Prelude.{◌≡◌, ◌≢◌, ℕ, ◌+◌, ◌-◌, ◌*◌, ◌%◌, ◌<◌, ◌≤◌, ◌⊎◌, ◌↔◌, true, List, [], ◌∷◌, length, slice_index}
-use Rattle.std.specs.Prelude.{slice_get, sum_by, min, bit_or, if◌then◌else◌, Option, Some, None, is_some}
+use Rattle.std.specs.Prelude.{◌≡◌, ◌≢◌, ℕ, ◌+◌, ◌-◌, ◌*◌, ◌%◌, ◌<◌, ◌≤◌, ◌⊎◌, true, List, [], ◌∷◌, length, slice_index}
+use Rattle.std.specs.Prelude.{slice_get, sum_by, min, if◌then◌else◌, Option, Some, None, is_some}
 use Rattle.cet_words.specs.Entries.{entry_of}
 use Rattle.cet_words.specs.Bytes.{code_byte}
 use Rattle.cet_words.specs.Job.{JobData, ImageData}
@@ -8,16 +8,14 @@ use Rattle.cet_words.specs.declared.accesses.Access.{Access}
 use Rattle.cet_words.specs.declared.accesses.Access.TheVariants as access
 use Rattle.cet_words.specs.Layout.{entry_word, token, token_word, action_word, first_kernel_page, first_mmap_page, first_shadow_page, page_count, shadow_start, thread_limit, thread_region_size, kernel_return}
 use Rattle.cet_book.specs.declared.entries.Holder.TheVariants.{Lost, Maker}
-use Rattle.cet_book.specs.Book.{Book, region, top, stack_of}
-use Rattle.cet_book.specs.Facts.{Bounds, In, Place, LiesIn, Owns, Stack, is_left, one, links, Returns}
-use Rattle.cet_book.specs.Stack.{slot, slot_word, tops}
+use Rattle.cet_book.specs.Book.{Book, region, stack_of}
+use Rattle.cet_book.specs.Facts.{Bounds, In, Place, LiesIn, Owns, one, Returns}
+use Rattle.cet_book.specs.Stack.{slot, slot_word}
 use Rattle.cet_page.specs.Core.{Core}
 use Rattle.cet_page.specs.Machine.{Machine, Thread}
 use Rattle.cet_page.specs.Trail.{Visit, trail_of}
 use Rattle.cet_page.specs.Within.{IsCore}
 use Rattle.cet_own.specs.Past.{held_in, left_in, left_row, restorer_word, has_restorer, draw_word, next_word, drew, numbered, NewStack, claimed_in}
-use Rattle.cet_own.specs.ToldTokens.{IsToken}
-use Rattle.cet_own.specs.Safe.{IsSafeAt}
 
 -- ---- pages and tokens
 

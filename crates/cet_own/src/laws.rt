@@ -43,8 +43,7 @@ pub fn every_restore_is_exact()
 
 /// In every run of every job, the first exchange of an entry into the kernel takes the supervisor stack of
 /// the thread's processor exactly where the book has it free, and otherwise a busy record stands with the
-/// word found; and on the way out the thread that holds the stack finds the kernel's return address below
-/// the token, and the token busy.
+/// word found; and the way out always finds the kernel's return address below the token, and the token busy.
 pub fn every_gate_is_exact()
     ensures { (job : JobData) (start : Machine) (turns : List ℕ) → IsJob job → Starts job start → GatesExactly job start first_book turns }
 {}
