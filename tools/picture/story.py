@@ -17,10 +17,11 @@ Arrow = namedtuple("Arrow", "place kind source target record")
 
 
 class Stack:
-    """A region and what stands on it now: `open` are pairs of a bar, without its end, and its address."""
+    """A region, the thread that made it, and what stands on it now: `open` are pairs of a bar, without its end, and
+    its address."""
 
     def __init__(self, number, region):
-        self.number, self.start, self.end = number, region.start, region.end
+        self.number, self.start, self.end, self.maker = number, region.start, region.end, 0
         self.open, self.holder, self.since = [], None, 0
 
 
@@ -122,10 +123,13 @@ class Story:
 
     def tell_claim(self, record, place):
         stack = self.stack_at(record.a, record)
+        stack.maker = record.thread
         self.hold(stack, "parked" if record.line in self.order.made else "lost", place)
 
     def tell_born(self, record, place):
         stack = self.stack_at(record.b, record)
+        if record.a < len(self.report.threads):
+            stack.maker = record.a
         self.hold(stack, f"current {record.a}", place)
         self.pointers[record.a] = record.b
         if record.a < len(self.report.threads):

@@ -9,7 +9,7 @@ LEFT, RIGHT, WIDTH, LEAST_WIDTH = 168, 96, 1000, 720
 CELL_MOST, CELL_LEAST = 58, 2.5
 LETTER, SIZE = 6.3, 10
 NOTE_TOP, NOTE_LINE, AXIS = 32, 14, 24
-THREAD_LANE, CALLOUT, CELL = 46, 14, 20
+THREAD_LANE, CALLOUT, CELL = 48, 14, 20
 BAND, BAR, BAR_ROOM = 9, 16, 240
 GAP = 12
 MOST_STACKS = 64
@@ -25,6 +25,10 @@ ARROWS = {"take": ("#17766a", ""), "save": ("#17766a", "4 3"), "born": ("#6b4fa3
 LEGEND = (("step", "step"), ("call", "call"), ("ret", "ret"), ("raise", "raise"), ("take", "take"), ("save", "save"),
           ("service", "kernel call"), ("delivery", "signal, sigret"), ("busy", "busy"), ("fault", "fault"),
           ("kill", "kill"))
+ARROW_LEGEND = (("take", "take: goes to a stack"), ("save", "save: leaves a token there"), ("missed", "finds no token"),
+                ("born", "starts a thread"))
+HOLDER_LEGEND = (("current 0", "held by a thread, in its colour"), ("parked", "parked, with a token"), ("left", "left"),
+                 ("lost", "lost"))
 NOTE = "a place of the axis is a record"
 NOTES = NOTE + "; of the order of two threads only births and tokens are told"
 
@@ -39,6 +43,14 @@ def fitted(text, width):
     return text[:room - 2] + ".." if room >= 6 else ""
 
 
+def band_style(holder):
+    """The colour of a band, and whether its edge is dashed."""
+    if holder.startswith("current"):
+        return THREADS[int(holder.split()[1]) % len(THREADS)], ""
+    dashes = ' stroke-dasharray="2 2"' if holder in ("left", "lost") else ""
+    return "#ffffff" if holder == "lost" else "#e3e6ea", dashes
+
+
 def clean(text):
     """A text without what XML can't have."""
     return "".join(letter if letter >= " " or letter == "\n" else "?" for letter in text)
@@ -48,7 +60,7 @@ class Drawing:
     """The parts of a picture, and how places and lanes are laid out."""
 
     def __init__(self, story, window, symbols):
-        self.story, self.window, self.symbols, self.parts = story, window, symbols, []
+        self.story, self.window, self.symbols, self.parts, self.texts = story, window, symbols, [], []
         count = window.last - window.first + 1
         self.cell = max(CELL_LEAST, min(CELL_MOST, WIDTH / count))
         self.right = LEFT + self.cell * count
@@ -77,22 +89,29 @@ class Drawing:
         return kept[:MOST_STACKS], len(there) - len(kept[:MOST_STACKS])
 
     def lay_out(self):
-        """The top of each lane, and the height of the bars."""
+        """The top of each lane, and the height of the bars. A thread's lane has those of the stacks that it made below
+        it. Entries that stand throughout have no bar."""
         self.tops, self.base, self.levels = {}, {}, {}
         y = self.top + AXIS
         for thread in self.threads:
             self.tops["thread", thread.number] = y
-            y += THREAD_LANE + GAP
-        for stack in self.stacks:
-            depths = [bar.depth for bar in self.bars if bar.stack == stack]
-            self.base[stack] = min(depths, default=0)
-            self.levels[stack] = max(depths, default=-1) - self.base[stack] + 1
-            self.tops["stack", stack] = y
-            y += BAND + max(18, self.levels[stack] * self.bar_height(stack)) + GAP + 4
+            y += THREAD_LANE
+            for stack in self.stacks:
+                if self.story.stacks[stack].maker == thread.number:
+                    self.tops["stack", stack] = y
+                    y += self.measure(stack) + GAP
+            y += GAP
         self.bottom = y
 
+    def measure(self, stack):
+        """The height of a stack's lane."""
+        bars = [bar for bar in self.bars if bar.stack == stack]
+        self.base[stack] = sum(bar.start < self.window.first and bar.end > self.window.last for bar in bars)
+        self.levels[stack] = max((bar.depth for bar in bars), default=-1) - self.base[stack] + 1
+        return BAND + max(18, self.levels[stack] * self.bar_height(stack)) + 4
+
     def bar_height(self, stack):
-        return max(3, min(BAR, BAR_ROOM / max(1, self.levels[stack])))
+        return max(2, min(BAR, BAR_ROOM / max(1, self.levels[stack])))
 
     def x(self, place):
         return LEFT + self.cell * (min(max(place, self.window.first), self.window.last + 1) - self.window.first)
@@ -109,10 +128,14 @@ class Drawing:
         self.parts.append(f'<rect x="{x:.1f}" y="{y:.1f}" width="{max(width, 0.5):.1f}" height="{height:.1f}" '
                           f'fill="{fill}"{edge}{extra}>{text}</rect>')
 
-    def text(self, x, y, text, anchor="start", fill="#1b1f24", size=SIZE, weight=None):
-        bold = f' font-weight="{weight}"' if weight else ""
-        self.parts.append(f'<text x="{x:.1f}" y="{y:.1f}" text-anchor="{anchor}" fill="{fill}" font-size="{size}"'
-                          f'{bold}>{escape(clean(text))}</text>')
+    def text(self, x, y, text, anchor="start", fill="#1b1f24", size=SIZE, bold=False, halo=None):
+        """A text, which stands above all lines. `halo` hides these behind its letters."""
+        if not text:
+            return
+        extra = ' font-weight="bold"' if bold else ""
+        extra += f' paint-order="stroke" stroke="{halo}" stroke-width="3"' if halo else ""
+        self.texts.append(f'<text x="{x:.1f}" y="{y:.1f}" text-anchor="{anchor}" fill="{fill}" font-size="{size}"'
+                          f'{extra}>{escape(clean(text))}</text>')
 
     def line(self, x, y, x2, y2, stroke, extra=""):
         self.parts.append(f'<line x1="{x:.1f}" y1="{y:.1f}" x2="{x2:.1f}" y2="{y2:.1f}" stroke="{stroke}"{extra}/>')
@@ -126,11 +149,14 @@ class Drawing:
                 x = self.x(place) + self.cell / 2
                 self.text(x, self.top + 10, str(place), "middle", "#5b6470", 9)
                 self.line(x, self.top + 14, x, self.bottom - GAP, "#eceff3")
+        for thread in self.threads[1:]:
+            y = self.tops["thread", thread.number] - GAP / 2
+            self.line(8, y, self.width - 8, y, "#dfe3e8")
 
     def thread(self, thread):
         y = self.tops["thread", thread.number]
         colour = THREADS[thread.number % len(THREADS)]
-        self.text(8, y + CALLOUT + 9, f"thread {thread.number}", fill=colour, size=12, weight="bold")
+        self.text(8, y + CALLOUT + 9, f"thread {thread.number}", fill=colour, size=12, bold=True)
         self.text(8, y + CALLOUT + 22, f"{len(thread.records)} records", fill="#5b6470")
         places = self.story.order.places[thread.number]
         shown = [record for record, place in zip(thread.records, places)
@@ -140,7 +166,7 @@ class Drawing:
         self.callouts(shown, y)
         if not places or places[-1] <= self.window.last:
             end = self.x(places[-1] + 1 if places else self.window.first)
-            self.text(end + 5, y + CALLOUT + 14, thread.end, fill="#1b1f24", weight="bold")
+            self.text(end + 5, y + CALLOUT + 14, thread.end, fill="#1b1f24", bold=True)
 
     def record(self, record, y):
         x, kind = self.x(self.story.order.place(record)), group(record)
@@ -167,11 +193,12 @@ class Drawing:
                 x = self.x(self.story.order.place(record)) + self.cell / 2
                 if all(x + half + 3 < left or right < x - half - 3 for left, right in taken):
                     taken.append((x - half, x + half))
-                    self.text(x, y + CALLOUT - 5, label(record), "middle", "#c9252d" if wanted else "#1b1f24")
+                    self.text(x, y + CALLOUT - 5, label(record), "middle", "#c9252d" if wanted else "#1b1f24",
+                              halo="#ffffff")
 
     def stack(self, number):
         stack, y = self.story.stacks[number], self.tops["stack", number]
-        self.text(8, y + 10, f"stack {stack.start:x}", size=12, weight="bold")
+        self.text(8, y + 10, f"stack {stack.start:x}", size=12, bold=True)
         deeper = self.base[number]
         note = f"under {deeper} more entries" if deeper else f"to {stack.end:x}"
         self.text(8, y + 23, note, fill="#5b6470")
@@ -182,31 +209,30 @@ class Drawing:
             if bar.stack == number:
                 self.bar(bar, y + BAND)
         if self.window.last == self.window.all:
-            self.text(self.right + 5, y + 9, self.story.report.regions[number].holder, weight="bold")
+            self.text(self.right + 5, y + 9, self.story.report.regions[number].holder, bold=True)
 
     def band(self, hold, y):
         start, end = self.middle(hold.start), self.middle(hold.end)
         if hold.start == 1:
             start = self.x(1)
-        fill = "#e3e6ea"
-        if hold.holder.startswith("current"):
-            fill = THREADS[int(hold.holder.split()[1]) % len(THREADS)]
-        elif hold.holder == "lost":
-            fill = "#ffffff"
-        dashes = ' stroke-dasharray="2 2"' if hold.holder in ("left", "lost") else ""
-        self.rect(start, y, end - start, BAND, fill, "#9aa3ae", f"{hold.holder}", dashes + ' class="hold"')
+        fill, dashes = band_style(hold.holder)
+        self.rect(start, y, end - start, BAND, fill, "#9aa3ae", hold.holder, dashes + ' class="hold"')
 
     def bar(self, bar, y):
-        height = self.bar_height(bar.stack)
-        start, end = self.middle(bar.start), self.middle(bar.end)
-        top = y + 2 + (bar.depth - self.base[bar.stack]) * height
+        level, height = bar.depth - self.base[bar.stack], self.bar_height(bar.stack)
+        if level < 0:
+            return
+        start, end, top = self.middle(bar.start), self.middle(bar.end), y + 2 + level * height
         fill, edge = BARS[bar.kind]
         name = bar_name(bar, self.symbols, "{:x}".format)
         hover = f"{name}\nopened: {where(bar.opened, self.symbols)}"
         hover += f"\nclosed: {where(bar.closed, self.symbols)}" if bar.closed else "\nopen at the end"
-        self.rect(start, top, end - start, max(2, height - 1), fill, edge, hover, ' class="bar"')
+        if height < 5:
+            self.rect(start, top, end - start, height, (fill, edge)[level % 2], None, hover, ' class="bar"')
+            return
+        self.rect(start, top, end - start, height - 1, fill, edge, hover, ' class="bar"')
         if height >= 12:
-            self.text(start + 4, top + 11, fitted(name, end - start - 2))
+            self.text(start + 4, top + 11, fitted(name, end - start - 2), halo=fill)
 
     def anchor(self, end):
         """Where an arrow meets a lane; nothing where the lane isn't shown."""
@@ -252,34 +278,30 @@ class Drawing:
                               "</marker>")
 
     def legend(self):
-        x, y = 8, self.bottom + 6
-        for kind, name in LEGEND:
-            width = len(name) * LETTER + 26
+        """What the colours, arrows and bands are, in rows."""
+        y = self.legend_row(self.bottom + 4, LEGEND, 15, lambda x, y, kind: self.rect(x, y, 11, 11, FILLS[kind]))
+        y = self.legend_row(y, ARROW_LEGEND, 26, self.legend_arrow)
+        self.height = self.legend_row(y, HOLDER_LEGEND, 26, self.legend_holder) + 4
+
+    def legend_row(self, y, items, space, draw_sign):
+        x = 8
+        for kind, name in items:
+            width = space + len(name) * LETTER + 14
             if x + width > self.width:
                 x, y = 8, y + 18
-            self.rect(x, y, 11, 11, FILLS[kind])
-            self.text(x + 15, y + 10, name, fill="#3a424d")
+            draw_sign(x, y, kind)
+            self.text(x + space, y + 10, name, fill="#3a424d")
             x += width
-        x, y = 8, y + 20
-        for kind, name in (("take", "take: goes to a stack"), ("save", "save: leaves a token there"),
-                           ("missed", "finds no token"), ("born", "starts a thread")):
-            colour, dashes = ARROWS[kind]
-            extra = ' stroke-width="1.4"' + (f' stroke-dasharray="{dashes}"' if dashes else "")
-            width = len(name) * LETTER + 42
-            if x + width > self.width:
-                x, y = 8, y + 18
-            self.line(x, y + 6, x + 20, y + 6, colour, f'{extra} marker-end="url(#{kind})"')
-            self.text(x + 26, y + 10, name, fill="#3a424d")
-            x += width
-        x, y = 8, y + 20
-        for holder, name in (("current 0", "held by a thread, in its colour"), ("parked", "parked, with a token"),
-                             ("left", "left"), ("lost", "lost")):
-            fill = THREADS[0] if holder == "current 0" else "#ffffff" if holder == "lost" else "#e3e6ea"
-            dashes = ' stroke-dasharray="2 2"' if holder in ("left", "lost") else ""
-            self.rect(x, y + 2, 20, 8, fill, "#9aa3ae", extra=dashes)
-            self.text(x + 26, y + 10, name, fill="#3a424d")
-            x += len(name) * LETTER + 42
-        self.height = y + 24
+        return y + 20
+
+    def legend_arrow(self, x, y, kind):
+        colour, dashes = ARROWS[kind]
+        dashed = f' stroke-dasharray="{dashes}"' if dashes else ""
+        self.line(x, y + 6, x + 20, y + 6, colour, f' stroke-width="1.4"{dashed} marker-end="url(#{kind})"')
+
+    def legend_holder(self, x, y, holder):
+        fill, dashes = band_style(holder)
+        self.rect(x, y + 2, 20, 8, fill, "#9aa3ae", extra=dashes)
 
     def told(self):
         """The lines below the title."""
@@ -291,7 +313,7 @@ class Drawing:
         return [*lines, NOTES if len(self.story.report.threads) > 1 else NOTE]
 
     def heading(self):
-        self.text(8, 16, self.story.report.process, size=13, weight="bold")
+        self.text(8, 16, self.story.report.process, size=13, bold=True)
         for number, line in enumerate(self.notes):
             self.text(8, NOTE_TOP + NOTE_LINE * number, line, fill="#5b6470")
 
@@ -312,7 +334,7 @@ class Drawing:
                 f'viewBox="0 0 {self.width:.0f} {self.height:.0f}" role="img" aria-label={title} '
                 'font-family="DejaVu Sans Mono, Menlo, Consolas, monospace">',
                 '<rect width="100%" height="100%" fill="#ffffff"/>', "<defs>", *self.parts, "</defs>"]
-        return "\n".join([*head, *body, "</svg>"]) + "\n"
+        return "\n".join([*head, *body, *self.texts, "</svg>"]) + "\n"
 
 
 def draw(story, window, symbols):
