@@ -55,7 +55,7 @@ draw() {
 
 build() {
     make -s OUT="$work" "$1" || fail "the images of $1 aren't built"
-    for program in recursion pointers coroutine; do
+    for program in recursion pointers coroutine instead; do
         compare "$work/$program.$1"
     done
     [ "$(grep -c '^0 take ' "$work/coroutine.$1.report")" = 22 ] || fail "coroutine.$1 doesn't switch 22 times"

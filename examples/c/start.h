@@ -18,6 +18,13 @@ static inline word kernel(word number, word first, word second, word third)
     return result;
 }
 
+/* The value, in a register: the compiler can neither work on its place in memory nor make it part of an instruction. */
+static inline word in_register(word value)
+{
+    __asm__("" : "+r"(value));
+    return value;
+}
+
 enum { EXIT_GROUP = 231, MAP_SHADOW_STACK = 453 };
 
 __attribute__((noreturn)) static inline void leave(word status)

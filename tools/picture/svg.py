@@ -200,7 +200,7 @@ class Drawing:
         stack, y = self.story.stacks[number], self.tops["stack", number]
         self.text(8, y + 10, f"stack {stack.start:x}", size=12, bold=True)
         deeper = self.base[number]
-        note = f"under {deeper} more entries" if deeper else f"to {stack.end:x}"
+        note = f"older: {deeper}" if deeper else f"to {stack.end:x}"
         self.text(8, y + 23, note, fill="#5b6470")
         for hold in self.holds:
             if hold.stack == number:
