@@ -5,8 +5,8 @@
 /* All numbers have 64 bits: a store of an `int` would be one of 32 bits, which the machine doesn't have. */
 typedef unsigned long word;
 
-/* What the program does; its result is the exit status. */
-word program(void);
+/* What the program does; its result is the exit status. It is called, so that its return is checked as well. */
+__attribute__((noinline)) word program(void);
 
 static inline word kernel(word number, word first, word second, word third)
 {
