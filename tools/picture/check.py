@@ -1,7 +1,8 @@
 #!/usr/bin/env python3
 """Checks picture.py: the pictures of all reports of examples/ and its cases, of long reports and of ones with 32
-threads, what is answered to faulty input, and that docs/pictures/ has the pictures of the examples. It needs nothing
-but Python, and ends with status 1 where something is wrong."""
+threads, what is answered to faulty input, and that docs/pictures/ has the pictures of the examples and of the guide.
+The first argument may name another program than the one that `rt ci` has left, which draws those of the guide; nothing
+else needs one. It ends with status 1 where something is wrong."""
 import json
 import random
 import re
@@ -16,7 +17,7 @@ sys.dont_write_bytecode = True
 
 from made import Made
 from picture import picture
-from pictures import stale
+from pictures import BUILT, stale
 from report import Faulty, read_report
 from story import Story
 from symbols import read_symbols
@@ -117,7 +118,8 @@ def check_end(totals, name, data):
 
 
 def check_svg(totals, name, data, text, whole=True):
-    """Well-formed, all inside the picture, and, where it has all of the report, a part for each that should have one."""
+    """Well-formed, all inside the picture, and, where it has all of the report, a part for each that should have
+    one."""
     root = tree.fromstring(text)
     width, height = float(root.get("width")), float(root.get("height"))
     counts = Counter(part.get("class") for part in root.iter())
@@ -175,7 +177,11 @@ def check_reports(totals):
         check_svg(totals, name, data, picture(["svg"], data))
         check_json(totals, name, data, picture(["json"], data))
     totals.require(totals.reports >= LEAST_REPORTS, f"only {totals.reports} reports")
-    for line in stale():
+
+
+def check_pictures(totals):
+    """The pictures of the documents, each of which is in one of them."""
+    for line in stale(sys.argv[1] if len(sys.argv) > 1 else BUILT):
         totals.require(False, line)
 
 
@@ -217,7 +223,8 @@ def check_faulty(totals):
     many = Made(33, 5).text().encode()
     place = many.index(b"thread 32 ")
     wanted = f"line {many.count(bytes([10]), 0, place) + 1}: there are no more than 32"
-    totals.require(answer(["svg"], many).startswith(wanted), f"33 threads: {answer(['svg'], many)!r}, and not {wanted!r}")
+    found = answer(["svg"], many)
+    totals.require(found.startswith(wanted), f"33 threads: {found!r}, and not {wanted!r}")
     for _, data in [*reports()][:5]:
         for length in range(len(data)):
             found = answer(["json"], data[:length])
@@ -234,7 +241,8 @@ def check_changed(totals):
         place = chance.randrange(len(lines))
         words = lines[place].rstrip("\n").split(" ")
         other = chance.choice(chance.choice(lines).rstrip("\n").split(" "))
-        words[chance.randrange(len(words))] = chance.choice([other, "", "x", "0", "31", "f" * 16, "18446744073709551616"])
+        new = chance.choice([other, "", "x", "0", "31", "f" * 16, "18446744073709551616"])
+        words[chance.randrange(len(words))] = new
         lines[place] = " ".join(words) + "\n"
         if chance.random() < 0.3:
             del lines[chance.randrange(len(lines))]
@@ -249,7 +257,8 @@ def check_symbols(totals):
     for address, name in ((0x401000, "_start"), (0x401010, "inner"), (0x401014, "inner+0x4"), (0x400fff, "400fff"),
                           (0x900000, "900000")):
         totals.require(symbols.name(address) == name, f"{address:x} is {symbols.name(address)}, and not {name}")
-    for data, wanted in ((b"", "line 1: "), (text + b"401000 T _start\n", "line 4: "), (b"nm: no symbols\n", "line 1: ")):
+    for data, wanted in ((b"", "line 1: "), (text + b"401000 T _start\n", "line 4: "),
+                         (b"nm: no symbols\n", "line 1: ")):
         try:
             read_symbols(data)
             totals.require(False, f"symbols are taken: {data!r}")
@@ -265,7 +274,8 @@ def check_program(totals):
                                 (["svg", "--from", "0"], sound, 1), (["svg", "--from", "2"], sound, 1),
                                 (["svg", "--from", "x"], sound, 1), (["svg", "--to"], sound, 1),
                                 (["json", "--from=3"], sound, 1), (["svg", "--symbols", "/nowhere"], sound, 1),
-                                (["svg", "--symbols", str(HERE)], sound, 1), (["svg", "--to", "1", "--to", "1"], sound, 1)):
+                                (["svg", "--symbols", str(HERE)], sound, 1),
+                                (["svg", "--to", "1", "--to", "1"], sound, 1)):
         run = subprocess.run([sys.executable, HERE / "picture.py", *words], input=data, capture_output=True)
         lines = run.stderr.decode().splitlines()
         told = run.returncode == status and len(lines) == status and bool(run.stdout) == (status == 0)
@@ -274,11 +284,12 @@ def check_program(totals):
 
 def main():
     totals = Totals()
-    for check in (check_reports, check_long, check_faulty, check_changed, check_symbols, check_program):
+    for check in (check_reports, check_pictures, check_long, check_faulty, check_changed, check_symbols, check_program):
         check(totals)
     for line in totals.wrong[:20]:
         print(f"picture: {line}")
-    print(f"picture: {totals.reports} reports drawn, {totals.faulty} faulty inputs; {len(totals.wrong)} things are wrong")
+    print(f"picture: {totals.reports} reports drawn, {totals.faulty} faulty inputs; "
+          f"{len(totals.wrong)} things are wrong")
     return 1 if totals.wrong else 0
 
 

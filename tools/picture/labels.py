@@ -30,7 +30,7 @@ def read_listing(text):
 
 
 def labels(source, addresses):
-    """The labels of the text with their addresses. A directive that puts bytes into the text is more than this reads."""
+    """The labels of the text with their addresses. A directive that puts bytes into the text is more than is read."""
     found, place, in_text = [], 0, True
     for number, line in enumerate(source.splitlines(), 1):
         line = re.split("[;#]", line)[0]

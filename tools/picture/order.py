@@ -12,7 +12,8 @@ MOST_CHOICES = 20000
 
 class State:
     """How far each thread is, which are born, the restore tokens there are, the words that restores have left, the
-    threads of the restores so far as pairs of a thread and those before it, and the records so far where they are kept."""
+    threads of the restores so far as pairs of a thread and those before it, and the records so far where they are
+    kept."""
 
     def __init__(self, threads, order=None):
         self.next, self.born, self.tokens, self.words = [0] * threads, {0}, Counter(), frozenset()
@@ -134,7 +135,7 @@ class Order:
         return causes
 
     def find_places(self):
-        """A record's place is known once those of all that it needs are: a cause that comes later counts for nothing."""
+        """The places of each thread's records. A cause that comes later in the order counts for nothing."""
         places = [[] for _ in self.threads]
         for record in self.records:
             place = places[record.thread][-1] if places[record.thread] else 0

@@ -120,7 +120,8 @@ class Reader:
         found = []
         while (text := self.next("the line of its process")).startswith(" "):
             if not ENTRY.fullmatch(text):
-                self.fail(f"an entry is '  blank', or '  frame', '  ret' or '  prev' with a value, and not {shown(text)}")
+                self.fail("an entry is '  blank', or '  frame', '  ret' or '  prev' with a value, "
+                          f"and not {shown(text)}")
             if len(found) == size // 8:
                 self.fail(f"the stack has room for {len(found)} entries")
             self.place += 1
