@@ -8,7 +8,6 @@ import random
 import re
 import subprocess
 import sys
-import time
 import xml.etree.ElementTree as tree
 from collections import Counter
 from pathlib import Path
@@ -188,9 +187,7 @@ def check_pictures(totals):
 def check_long(totals):
     """A report of one thread with 100,000 records, and one of 32 threads."""
     long = Made(1, LONG).text().encode()
-    began = time.monotonic()
     text = picture(["svg"], long)
-    totals.require(time.monotonic() - began < 60, "the picture of a long report took a minute")
     totals.require(len(text) < MOST_BYTES, f"the picture of a long report has {len(text)} bytes")
     last = sum(kinds(long).values())
     totals.require(f"left out: 1 to {last - USUAL} " in text, "the picture doesn't say what it left out")
