@@ -50,7 +50,7 @@ compare() {
 draw() {
     nm "$1" > "$1.symbols" || fail "nm doesn't read $1"
     "$picture" svg --symbols "$1.symbols" < "$1.report" > "$1.svg" || fail "$1 has no picture"
-    grep -q ">$2</text>" "$1.svg" || fail "the picture of $1 doesn't name $2"
+    grep -q "<title>$2" "$1.svg" || fail "the picture of $1 doesn't name $2"
 }
 
 build() {

@@ -79,15 +79,16 @@ def window_of_all(last, first, end):
 
 def main():
     try:
-        made = picture(sys.argv[1:], sys.stdin.buffer.read())
-        sys.stdout.buffer.write(made.encode())
-        sys.stdout.buffer.flush()
+        with open(0, "rb", closefd=False) as file:
+            data = file.read()
+        made = picture(sys.argv[1:], data).encode()
+        with open(1, "wb", closefd=False) as file:
+            file.write(made)
     except (Faulty, Wrong) as error:
         print(f"picture: {error}", file=sys.stderr)
         return 1
     except OSError as error:
         print(f"picture: {error.strerror}", file=sys.stderr)
-        sys.stdout = None
         return 1
     return 0
 

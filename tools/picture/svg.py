@@ -176,10 +176,12 @@ class Drawing:
                   hover=where(record, self.symbols), extra=' class="record"')
         if self.fits(record):
             fill = "#ffffff" if kind in LIGHT_TEXT else "#1b1f24"
-            self.text(x + self.cell / 2, y + CALLOUT + 14, label(record), "middle", fill)
+            self.text(x + self.cell / 2, y + CALLOUT + 14, self.fits(record), "middle", fill)
 
     def fits(self, record):
-        return len(label(record)) * LETTER + 4 <= self.cell
+        """The longest name of the record that its cell has room for; nothing where it has none."""
+        names = [name for name in (label(record), record.name) if len(name) * LETTER + 4 <= self.cell]
+        return names[0] if names else ""
 
     def callouts(self, records, y):
         """Labels above the cells that are too narrow for theirs: faults first, and others where there is room."""
