@@ -21,7 +21,7 @@ from report import Faulty, read_report
 from story import Story
 from symbols import read_symbols
 from trace import HOLDERS, RECORDS, STACKS
-from window import USUAL, Wrong
+from window import MOST, USUAL, Wrong
 
 HERE = Path(__file__).resolve().parent
 EXAMPLES = HERE.parents[1] / "examples"
@@ -69,13 +69,18 @@ class Totals:
 
 
 def reports():
-    """The names and bytes of the reports that are stated in examples/."""
+    """The names and bytes of the reports that are stated in examples/, but for those of the last records alone."""
     for path in sorted(EXAMPLES.glob("*.report")):
-        yield path.name, path.read_bytes()
+        if path not in last_records():
+            yield path.name, path.read_bytes()
     for path in sorted((EXAMPLES / "cases").glob("*.case")):
         output = path.read_text().partition("output:\n")[2]
         if output.startswith("cetvm report 1\n"):
             yield path.name, output.encode()
+
+
+def last_records():
+    return [path.with_suffix(".report") for path in EXAMPLES.glob("*.words") if "--trace last" in path.read_text()]
 
 
 def pushes(data):
@@ -173,7 +178,7 @@ def check_reports(totals):
     for name, data in reports():
         totals.reports += 1
         check_end(totals, name, data)
-        check_svg(totals, name, data, picture(["svg"], data))
+        check_svg(totals, name, data, picture(["svg", "--from", "1", "--to", str(MOST)], data))
         check_json(totals, name, data, picture(["json"], data))
     totals.require(totals.reports >= LEAST_REPORTS, f"only {totals.reports} reports")
 
@@ -217,6 +222,9 @@ def check_faulty(totals):
         totals.require(found.startswith(wanted), f"{name}: {found!r}, and not {wanted!r}")
         totals.faulty += 1
     totals.require(answer(["svg"], (START + KILL + END).encode()) == "drawn", "the sound report is refused")
+    for path in last_records():
+        found = answer(["svg"], path.read_bytes())
+        totals.require("a picture needs all" in found, f"{path.name} has the last records alone: {found!r}")
     many = Made(33, 5).text().encode()
     place = many.index(b"thread 32 ")
     wanted = f"line {many.count(bytes([10]), 0, place) + 1}: there are no more than 32"

@@ -31,9 +31,11 @@ BUILT = TOP / "crates" / "cetvm" / "out" / "cetvm"
 Picture = namedtuple("Picture", "name source words runtime places", defaults=(None, False, (None, None)))
 ALL = (
     *(Picture(name, name) for name in (
-        "smashed_return", "there_and_back", "chain_of_stacks", "race_for_one_token", "handler_returns",
-        "signal_and_longjmp", "forged_frame", "ping_pong", "thread_and_child")),
-    Picture("race_other_end", "race_for_one_token", "replay --schedule 0*41,1*4"),
+        "smashed_return", "there_and_back", "chain_of_stacks", "handler_returns", "signal_and_longjmp", "ping_pong",
+        "thread_and_child")),
+    Picture("race_for_one_token", "token_race"),
+    Picture("race_of_the_second", "token_race_of_the_second"),
+    Picture("forged_frame", "sigreturn_forged"),
     Picture("signal_on_a_switched_stack", "guide signal", "run --signals 0:12:10"),
     Picture("announced_too_early", "guide early", "replay --schedule 0*180,1*400", True),
 )
