@@ -230,7 +230,7 @@ def check_faulty(totals):
     wanted = f"line {many.count(bytes([10]), 0, place) + 1}: there are no more than 32"
     found = answer(["svg"], many)
     totals.require(found.startswith(wanted), f"33 threads: {found!r}, and not {wanted!r}")
-    for _, data in [*reports()][:5]:
+    for data in sorted((data for _, data in reports()), key=len)[:12]:
         for length in range(len(data)):
             found = answer(["json"], data[:length])
             totals.require(re.match(r"line \d+: ", found), f"cut at {length}: {found!r}")
