@@ -16,7 +16,7 @@ use Rattle.cet_book.specs.Book.{Book, region, top, current_of, relist}
 use Rattle.cet_book.specs.Facts.{IsReturn, In}
 use Rattle.cet_book.proofs.Edits.{Owned, owned, current_holds}
 use Rattle.cet_book.proofs.Kept.{book_kept}
-use Rattle.cet_book.proofs.Relies.{Relies, owns_current}
+use Rattle.cet_book.specs.Relied.{Relies, owns_current}
 use Rattle.cet_book.specs.Stack.{slot}
 use Rattle.cet_book.proofs.Top.{relist_top}
 use Rattle.cet_book.proofs.Ways.{called_way}

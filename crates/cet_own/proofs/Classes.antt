@@ -20,7 +20,7 @@ use Rattle.cet_book.specs.Stack.{slot}
 use Rattle.cet_book.proofs.Ways.{with_current_at, called_way, ended_way, freed_way, busied_way}
 use Rattle.cet_own.specs.Holds.{Sound, Holds, IsOut, NoAction}
 use Rattle.cet_own.specs.Facts.{IsEntry, busy, OwnWord, own_slot, below_token}
-use Rattle.cet_book.proofs.Held.{Free}
+use Rattle.cet_book.specs.Relied.{Free}
 use Rattle.cet_own.proofs.Kept.{holds_ended, holds_out, holds_entry, holds_below_token}
 use Rattle.cet_own.proofs.Own.{below_top, holds_push, holds_pop}
 use Rattle.cet_own.proofs.Fits.{of_class, none_of, none_held, some_held, is_push, is_load, is_entry, is_end}

@@ -12,7 +12,7 @@ use Rattle.cet_book.specs.Book.{Book, Region, region, top, current_of}
 use Rattle.cet_book.specs.declared.entries.Holder.TheVariants.{Current}
 use Rattle.cet_book.proofs.Edits.{current_holds}
 use Rattle.cet_book.proofs.Hand.{hand, Made, bears, born_others, hand_same, hand_other}
-use Rattle.cet_book.proofs.Top.{AtTop}
+use Rattle.cet_book.specs.Relied.{AtTop}
 use Rattle.cet_book.proofs.Ways.{born_way}
 use Rattle.cet_page.specs.Finish.{rdi, rsi}
 use Rattle.cet_page.specs.MapShadowStack.{drawn_page, drawn_start}

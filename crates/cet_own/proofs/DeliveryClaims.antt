@@ -20,7 +20,7 @@ use Rattle.cet_book.specs.Facts.{In, IsReturn}
 use Rattle.cet_book.specs.Shape.{Shape}
 use Rattle.cet_book.proofs.Edits.{Owned, owned}
 use Rattle.cet_book.proofs.Kept.{book_kept}
-use Rattle.cet_book.proofs.Relies.{Relies}
+use Rattle.cet_book.specs.Relied.{Relies}
 use Rattle.cet_book.proofs.Top.{relist_top}
 use Rattle.cet_book.proofs.Ways.{pushed_way}
 use Rattle.cet_book.specs.Stack.{slot}

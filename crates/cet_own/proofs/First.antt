@@ -22,7 +22,8 @@ use Rattle.cet_own.specs.ExitWord.{IsExitWord}
 use Rattle.cet_own.specs.Past.{restorer_word, next_word, draw_word}
 use Rattle.cet_own.specs.Holds.{Marks, Pages, Gates, Holds}
 use Rattle.cet_own.specs.Facts.{Restorers, IsEntry, busy, HasMade}
-use Rattle.cet_book.proofs.Held.{Free, held_free}
+use Rattle.cet_book.specs.Relied.{Free}
+use Rattle.cet_book.proofs.Held.{held_free}
 use Rattle.cet_own.specs.Claims.{AtRest, HasNone, Still}
 use Rattle.cet_own.proofs.Rows.{row_claim}
 use Rattle.cet_page.specs.Trail.{trail_of}

@@ -8,7 +8,7 @@ use Rattle.cet_words.specs.declared.accesses.Access.TheVariants as access
 use Rattle.cet_book.specs.Book.{Book, stack_of}
 use Rattle.cet_book.specs.Facts.{Place}
 use Rattle.cet_book.specs.Stack.{slot}
-use Rattle.cet_book.proofs.Held.{Free, Held}
+use Rattle.cet_book.specs.Relied.{Free, Held}
 use Rattle.cet_page.specs.Tokens.{restore_token}
 use Rattle.cet_own.specs.Class.{address_of, all_of, class_at}
 use Rattle.cet_own.specs.declared.access_classes.Class.{Class}

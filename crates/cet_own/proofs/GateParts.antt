@@ -16,7 +16,6 @@ use Rattle.cet_book.proofs.Edits.{Owned, owned, current_holds}
 use Rattle.cet_book.proofs.Hand.{hand, end_none}
 use Rattle.cet_book.proofs.Supervisor.{stack_of-put_stack, current_of-put_stack}
 use Rattle.cet_book.proofs.Kept.{book_kept}
-use Rattle.cet_book.proofs.Relies.{Relies, owns_current}
 use Rattle.cet_book.proofs.Top.{relist_top}
 use Rattle.cet_book.proofs.Ways.{busied_way, freed_way, ended_way, popped_way}
 use Rattle.cet_page.specs.Script.{Script, ◌>>=◌}
@@ -27,7 +26,8 @@ use Rattle.cet_own.specs.Facts.{busy, below_token}
 use Rattle.cet_own.proofs.Popped.{pops_frame}
 use Rattle.cet_own.proofs.Standing.{stacked}
 use Rattle.cet_own.specs.Claims.{Stacked, HasNone}
-use Rattle.cet_book.proofs.Held.{Free, given_held}
+use Rattle.cet_book.specs.Relied.{Relies, owns_current, Free}
+use Rattle.cet_book.proofs.Held.{given_held}
 use Rattle.cet_own.specs.Owed.{State, own_stack}
 use Rattle.cet_own.proofs.Classes.{refused, settles, reloads, enters, leaves, exits}
 use Rattle.cet_own.proofs.Parts.{Claim, one_after, claim_bind, read_entry_then}

@@ -9,7 +9,8 @@ use Rattle.cet_words.specs.Change.{Change, Called, Returned, Raised, Acquired, R
 use Rattle.cet_book.specs.Book.{Book, book_after, books_after}
 use Rattle.cet_book.specs.Shape.{IsBook}
 use Rattle.cet_book.proofs.Changes.{same_book, then_by}
-use Rattle.cet_book.proofs.Held.{Held, held_by_change, change_held}
+use Rattle.cet_book.specs.Relied.{Held}
+use Rattle.cet_book.proofs.Held.{held_by_change, change_held}
 use Rattle.cet_book.proofs.Kept.{book_kept}
 use Rattle.cet_page.specs.Script.{held_after}
 use Rattle.cet_own.specs.Past.{held_by, held_where, stack_at}

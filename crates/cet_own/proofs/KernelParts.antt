@@ -15,7 +15,7 @@ use Rattle.cet_page.specs.declared.checks.Kind.{Kind}
 use Rattle.cet_page.specs.declared.checks.Who.{Who}
 use Rattle.cet_page.specs.declared.finishes.Leaving.{Leaving}
 use Rattle.cet_page.specs.declared.services.Errno.{Errno}
-use Rattle.cet_book.proofs.Relies.{Relies}
+use Rattle.cet_book.specs.Relied.{Relies}
 use Rattle.cet_own.specs.Past.{left_in}
 use Rattle.cet_own.specs.Safe.{IsElsewhere}
 use Rattle.cet_own.specs.Facts.{IsEntry}

@@ -13,7 +13,7 @@ use Rattle.cet_isa.specs.declared.threads.Arch.{Arch}
 use Rattle.cet_book.specs.Book.{Book, region, top}
 use Rattle.cet_book.specs.Facts.{In}
 use Rattle.cet_book.specs.Shape.{Shape}
-use Rattle.cet_book.proofs.Relies.{Relies}
+use Rattle.cet_book.specs.Relied.{Relies}
 use Rattle.cet_page.specs.Page.{allows}
 use Rattle.cet_page.specs.Parts.{look}
 use Rattle.cet_page.specs.Script.{Script, ◌>>=◌}

@@ -19,8 +19,8 @@ use Rattle.cet_book.proofs.Append.{append, append_length, append_new}
 use Rattle.cet_book.proofs.Edits.{current_holds}
 use Rattle.cet_book.proofs.Hand.{hand, Made, seeds, hand_same, hand_other, hand_current}
 use Rattle.cet_book.proofs.Kept.{claims}
-use Rattle.cet_book.proofs.Relies.{Relies, append_relies}
-use Rattle.cet_book.proofs.Top.{AtTop}
+use Rattle.cet_book.proofs.Relies.{append_relies}
+use Rattle.cet_book.specs.Relied.{Relies, AtTop}
 use Rattle.cet_book.proofs.Ways.{claimed_way, seeded_way}
 use Rattle.cet_page.specs.Finish.{rdi, rdx, rsi}
 use Rattle.cet_page.specs.Gate.{Work, failed}

@@ -12,7 +12,7 @@ use Rattle.cet_isa.specs.Address.{canonical}
 use Rattle.cet_isa.specs.declared.threads.Arch.{Arch}
 use Rattle.cet_isa.specs.declared.threads.Fault.{Fault}
 use Rattle.cet_book.specs.Book.{Book, book_after, region, top}
-use Rattle.cet_book.proofs.Relies.{Relies}
+use Rattle.cet_book.specs.Relied.{Relies}
 use Rattle.cet_page.specs.Script.{Script, done, fault, ◌>>=◌, no_changes}
 use Rattle.cet_page.specs.Page.{allows, page_fault}
 use Rattle.cet_page.specs.Parts.{clears, check_address, check_address_as, look_in_as, look, look_as, read_entry, load_as, load, store_as, store}

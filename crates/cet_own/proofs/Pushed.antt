@@ -15,7 +15,7 @@ use Rattle.cet_book.specs.Facts.{In, IsReturn, Owns, Place, Stack}
 use Rattle.cet_book.specs.Stack.{slot, slot_word, tops}
 use Rattle.cet_book.proofs.Changes.{same_book}
 use Rattle.cet_book.proofs.Edits.{Owned}
-use Rattle.cet_book.proofs.Relies.{owns_current}
+use Rattle.cet_book.specs.Relied.{owns_current}
 use Rattle.cet_book.proofs.Relist.{relist_all, relist_holder, relist_other, relist_same}
 use Rattle.cet_book.proofs.Top.{top_is}
 use Rattle.cet_book.proofs.Ways.{pushed_way}

@@ -12,7 +12,7 @@ use Rattle.cet_book.specs.Shape.{StackShape}
 use Rattle.cet_book.specs.declared.entries.Holder.TheVariants.{Current}
 use Rattle.cet_book.proofs.Addresses.{removal_returns}
 use Rattle.cet_book.proofs.Edits.{Owned}
-use Rattle.cet_book.proofs.Held.{Free}
+use Rattle.cet_book.specs.Relied.{Free}
 use Rattle.cet_book.proofs.Removes.{Removal, shortened, raised_all}
 use Rattle.cet_book.proofs.Ways.{with_current_at}
 use Rattle.cet_page.specs.Script.{birth}

@@ -14,7 +14,7 @@ use Rattle.cet_book.specs.declared.entries.Entry.{Entry}
 use Rattle.cet_book.specs.declared.entries.Entry.TheVariants.{Previous}
 use Rattle.cet_book.specs.declared.entries.Holder.TheVariants.{Current, Parked}
 use Rattle.cet_book.proofs.Unlink.{Linked, linked_left, left_there, unlink_all, unlink_same, unlink_other, unlink_top, unlink_gone}
-use Rattle.cet_book.proofs.Held.{Free}
+use Rattle.cet_book.specs.Relied.{Free}
 use Rattle.cet_book.proofs.Ways.{released_way}
 use Rattle.cet_page.specs.Script.{birth}
 use Rattle.cet_page.specs.Trail.{Visit}

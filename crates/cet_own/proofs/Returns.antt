@@ -19,7 +19,7 @@ use Rattle.cet_book.specs.Book.{Region, Book, region, top, current_of, relist, u
 use Rattle.cet_book.proofs.Edits.{Owned, owned}
 use Rattle.cet_book.proofs.Removes.{returned_is, shortened}
 use Rattle.cet_book.specs.Stack.{slot, tops}
-use Rattle.cet_book.proofs.Top.{AtTop, removal_top}
+use Rattle.cet_book.proofs.Top.{removal_top}
 use Rattle.cet_book.proofs.Unlink.{Linked, left_there}
 use Rattle.cet_book.proofs.Ways.{with_current_at}
 use Rattle.cet_page.specs.Script.{done, fault, ◌>>=◌}
@@ -32,7 +32,7 @@ use Rattle.cet_page.specs.declared.checks.Who.TheVariants.{User}
 use Rattle.cet_own.specs.Safe.{GoesRight}
 use Rattle.cet_book.specs.Facts.{In}
 use Rattle.cet_own.proofs.Standing.{stacked}
-use Rattle.cet_book.proofs.Held.{Free}
+use Rattle.cet_book.specs.Relied.{AtTop, Free}
 use Rattle.cet_own.specs.Owed.{State, state_after, HeadWord, Known, Owed, own_stack}
 use Rattle.cet_own.proofs.Classes.{plain_loads, pops}
 use Rattle.cet_own.proofs.Parts.{Claim, one_after, claim_bind, check_address_then, look_then, shadow_look_then, load_then}

@@ -20,11 +20,10 @@ use Rattle.cet_book.specs.declared.entries.Entry.TheVariants.{Call, Restorer, Fr
 use Rattle.cet_book.specs.declared.entries.Holder.TheVariants.{Parked}
 use Rattle.cet_book.proofs.Acquire.{Takes, acquire_shape}
 use Rattle.cet_book.proofs.Edits.{Owned, owned}
-use Rattle.cet_book.proofs.Held.{Free}
 use Rattle.cet_book.proofs.Kept.{book_kept}
-use Rattle.cet_book.proofs.Relies.{Relies, owns_current}
 use Rattle.cet_book.proofs.Removes.{raised_shortened}
-use Rattle.cet_book.proofs.Top.{AtTop, acquired_top, released_top, raised_top, top_is}
+use Rattle.cet_book.specs.Relied.{Free, Relies, owns_current, AtTop}
+use Rattle.cet_book.proofs.Top.{acquired_top, released_top, raised_top, top_is}
 use Rattle.cet_book.proofs.Unlink.{Linked, linked_left, left_there}
 use Rattle.cet_book.proofs.Ways.{acquired_way, released_way, raised_way}
 use Rattle.cet_page.specs.Operands.{effective, register}

@@ -2,10 +2,9 @@
 use Rattle.std.proofs.Common.{ℕ, ◌∙◌, arith}
 use Rattle.cet_book.specs.Book.{Book, current_of}
 use Rattle.cet_book.specs.Shape.{Shape}
-use Rattle.cet_book.proofs.Relies.{Relies}
-use Rattle.cet_book.proofs.Top.{AtTop, top_relies}
+use Rattle.cet_book.proofs.Top.{top_relies}
 use Rattle.cet_own.specs.Facts.{HasMade}
-use Rattle.cet_book.proofs.Held.{Free}
+use Rattle.cet_book.specs.Relied.{Relies, AtTop, Free}
 use Rattle.cet_own.specs.Claims.{Stacked, AtRest, HasNone}
 
 pub stacked : (t : ℕ) (b : Book) (ssp : ℕ) → Shape b → AtTop t b ssp → Stacked t b ssp

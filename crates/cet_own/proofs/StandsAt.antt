@@ -3,7 +3,7 @@ use Rattle.cet_book.proofs.Supervisor.{stack_there}
 use Rattle.cet_own.specs.Claims.{Still}
 use Rattle.cet_own.specs.Past.{held_in, left_in}
 use Rattle.cet_own.proofs.Told.{free_note}
-use Rattle.cet_book.proofs.Held.{Free, Held}
+use Rattle.cet_book.specs.Relied.{Free, Held}
 use Rattle.cet_page.specs.Trail.{Visit, row_trail, trail_of}
 use Rattle.cet_words.specs.Layout.{token_word, kernel_return}
 use Rattle.std.proofs.Common.{◌≡◌, ℕ, ◌+◌, ◌-◌, ◌<◌, inl, inr, List, Option, Some, None, ap, sym, ◌∙◌, subst, arith, true, refl}

@@ -7,7 +7,7 @@ use Rattle.cet_isa.specs.declared.threads.Arch.{Arch}
 use Rattle.cet_book.specs.Book.{region}
 use Rattle.cet_book.specs.Facts.{In, LiesIn}
 use Rattle.cet_book.specs.Shape.{Shape}
-use Rattle.cet_book.proofs.Relies.{Relies, relies_same, relies_then}
+use Rattle.cet_book.specs.Relied.{Relies, relies_same, relies_then}
 use Rattle.cet_page.specs.Page.{allows}
 use Rattle.cet_page.specs.Parts.{load_as, loads, probe, store_each}
 use Rattle.cet_page.specs.Script.{Script, done, ◌>>=◌}

@@ -15,7 +15,7 @@ use Rattle.cet_book.proofs.Cases.{and_true, if_some, with_current_some}
 use Rattle.cet_book.proofs.Changes.{same_book, then_by}
 use Rattle.cet_book.proofs.Comes.{changes_last}
 use Rattle.cet_book.proofs.Edits.{owned, owned_only, current_holds}
-use Rattle.cet_book.proofs.Held.{Held}
+use Rattle.cet_book.specs.Relied.{Held}
 use Rattle.cet_book.proofs.Kept.{book_kept}
 use Rattle.cet_page.specs.Trail.{Visit}
 use Rattle.cet_own.specs.Class.{all_of, class_at, is_of}

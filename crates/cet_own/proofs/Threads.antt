@@ -8,7 +8,6 @@ use Rattle.cet_isa.specs.declared.threads.Arch.{Arch}
 use Rattle.cet_isa.specs.declared.threads.End.{End}
 use Rattle.cet_isa.specs.declared.threads.End.TheVariants as ending
 use Rattle.cet_book.specs.Book.{Book}
-use Rattle.cet_book.proofs.Relies.{Relies}
 use Rattle.cet_page.specs.Script.{Played, Completed, Faulted, Wants}
 use Rattle.cet_page.specs.ValsData.{ValsData, no_vals}
 use Rattle.cet_page.specs.Row.{row}
@@ -27,7 +26,7 @@ use Rattle.cet_own.proofs.Still.{still_none}
 use Rattle.cet_own.specs.Claims.{Still, AtRest}
 use Rattle.cet_own.proofs.Frame.{others_at, OnCame}
 use Rattle.cet_own.proofs.Standing.{stacked_kept, rest_kept, none_kept}
-use Rattle.cet_book.proofs.Held.{Held}
+use Rattle.cet_book.specs.Relied.{Relies, Held}
 use Rattle.cet_own.specs.Owed.{State, own_stack, rules}
 use Rattle.cet_own.specs.Threads.{During, Fails, entries_of, Ends, Left, InRow, CoreStands, ThreadStands}
 use Rattle.cet_own.proofs.Rows.{row_claim}

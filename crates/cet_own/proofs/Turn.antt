@@ -5,7 +5,6 @@ use Rattle.cet_words.specs.Job.{JobData, IsJob}
 use Rattle.cet_words.specs.declared.accesses.Access.{Access}
 use Rattle.cet_book.specs.Book.{Book, books_after}
 use Rattle.cet_book.proofs.Kept.{NoneBorn, others_rely}
-use Rattle.cet_book.proofs.Relies.{Relies}
 use Rattle.cet_isa.specs.declared.threads.Arch.{Arch}
 use Rattle.cet_page.specs.Script.{Played, Completed, Faulted, Wants, held_after}
 use Rattle.cet_page.specs.declared.finishes.Finish.{Finish}
@@ -35,7 +34,7 @@ use Rattle.cet_own.proofs.Still.{still_own, still_kept}
 use Rattle.cet_own.proofs.Switches.{goes_calm, switches}
 use Rattle.cet_own.proofs.Frame.{during_at, goes, on_came, OnCame}
 use Rattle.cet_own.specs.Holds.{Holds}
-use Rattle.cet_book.proofs.Held.{Held}
+use Rattle.cet_book.specs.Relied.{Relies, Held}
 use Rattle.cet_own.proofs.HeldAfter.{changes_held}
 use Rattle.cet_own.specs.Owed.{State, Owed, own_stack, rules}
 use Rattle.cet_own.proofs.ClassLaws.{known}

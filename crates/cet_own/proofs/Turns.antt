@@ -21,7 +21,7 @@ use Rattle.cet_words.specs.Change.{Change, Born}
 use Rattle.cet_words.specs.declared.accesses.Access.TheVariants as access
 use Rattle.cet_isa.specs.declared.threads.Arch.{Arch}
 use Rattle.cet_book.proofs.Kept.{NoneBorn}
-use Rattle.cet_book.proofs.Relies.{Relies}
+use Rattle.cet_book.specs.Relied.{Relies}
 use Rattle.cet_book.proofs.Hand.{hand, Made}
 use Rattle.cet_book.proofs.Ways.{born_way}
 use Rattle.cet_page.specs.Core.{Core, unheld, row_played, taken, next_changes, child_core, child_of, born}

@@ -9,8 +9,7 @@ use Rattle.cet_book.specs.declared.entries.Holder.TheVariants.{Maker}
 use Rattle.cet_book.specs.Book.{Book, region, current_of, stack_of}
 use Rattle.cet_book.specs.Facts.{Place}
 use Rattle.cet_book.specs.Stack.{slot, slot_word}
-use Rattle.cet_book.proofs.Held.{Free, Held}
-use Rattle.cet_book.proofs.Top.{AtTop}
+use Rattle.cet_book.specs.Relied.{Free, Held, AtTop}
 use Rattle.cet_page.specs.Script.{birth, held_after}
 use Rattle.cet_page.specs.Trail.{Visit}
 use Rattle.cet_own.specs.Class.{all_of, class_at}

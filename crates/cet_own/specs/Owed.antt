@@ -10,7 +10,7 @@ use Rattle.cet_words.specs.declared.accesses.Access.TheVariants as access
 use Rattle.cet_book.specs.Facts.{IsParkedAt, Place, LiesIn}
 use Rattle.cet_book.specs.declared.entries.Entry.{Entry}
 use Rattle.cet_book.specs.Book.{Book, region, top, current_of, stack_of, books_after}
-use Rattle.cet_book.proofs.Relies.{Relies, relies_same, relies_then}
+use Rattle.cet_book.specs.Relied.{Relies, relies_same, relies_then}
 use Rattle.cet_book.specs.Stack.{slot, word_of, tops}
 use Rattle.cet_own.specs.Frame.{Rules}
 use Rattle.cet_own.specs.Holds.{Sound, Holds}

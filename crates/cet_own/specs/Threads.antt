@@ -7,7 +7,7 @@ use Rattle.cet_isa.specs.declared.threads.End.TheVariants as ending
 use Rattle.cet_isa.specs.declared.threads.Fault.{Fault}
 use Rattle.cet_book.specs.declared.entries.Entry.{Entry}
 use Rattle.cet_book.specs.Book.{Book, region, current_of}
-use Rattle.cet_book.proofs.Held.{Held}
+use Rattle.cet_book.specs.Relied.{Held}
 use Rattle.cet_page.specs.Core.{Core, kept_by, unheld}
 use Rattle.cet_page.specs.Machine.{Thread}
 use Rattle.cet_page.specs.Row.{row}
