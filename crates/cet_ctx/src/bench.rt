@@ -45,14 +45,9 @@ stack: .zero 4096
 stack_end: .quad 0
 ";
 
-/// A program, of at most 4,096 bytes, that swaps `n` times to a second context and back, as assembler text that needs the runtime behind it.
-/// `n` is 1 to 1,000.
-#[tactic(auto, using(crate::proofs::Lengths::bench_short))]
-pub fn bench_text(alloc: Global, n: u32) -> Result<Bytes, NoMemory>
-    requires low { 1 ≤ n }
-    requires high { n ≤ 1000 }
-    ensures text { IfOk result (λ text. text ≡ bench n) }
-    ensures short { IfOk result (λ text. length text ≤ most_text) }
+/// The program, with this number for its count.
+fn text_with(alloc: Global, n: u32) -> Result<Bytes, NoMemory>
+    ensures { IfOk result (λ text. text ≡ bench n) }
 {
     let mut text = Bytes::new(alloc);
     text.extend(alloc, SETUP.as_bytes())?;
@@ -60,5 +55,17 @@ pub fn bench_text(alloc: Global, n: u32) -> Result<Bytes, NoMemory>
     put_decimal(alloc, &mut text, n as u64)?;
     text.extend(alloc, b"\n")?;
     text.extend(alloc, ROUNDS.as_bytes())?;
+    Ok(text)
+}
+
+/// A program, of at most 4,096 bytes, that swaps `n` times to a second context and back, as assembler text that needs the
+/// runtime behind it. `n` is 1 to 1,000.
+pub fn bench_text(alloc: Global, n: u32) -> Result<Bytes, NoMemory>
+    requires low { 1 ≤ n }
+    requires high { n ≤ 1000 }
+    ensures text { IfOk result (λ text. text ≡ bench n) }
+    ensures short { IfOk result (λ text. length text ≤ most_text) }
+{
+    let text = text_with(alloc, n)?;
     Ok(text)
 }
