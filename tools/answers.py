@@ -192,7 +192,8 @@ def missing(found, page):
         if not any(f" {name} " in text for text in answers["program"]):
             yield f"record {name}"
     machine = (TOP / "docs/machine.md").read_text()
-    for number in re.findall(r"^\| (\d+) \| [a-z_0-9]+ ?\|?", machine.split("## Kernel calls")[1].split("\n### ")[0], re.MULTILINE):
+    calls = machine.split("## Kernel calls")[1].split("\n### ")[0]
+    for number in re.findall(r"^\| (\d+) \| \w+ [(|]", calls, re.MULTILINE):
         if not re.search(rf"^#+ {number} ", page, re.MULTILINE) and f"({number})" not in page:
             yield f"kernel call {number}"
 

@@ -1,9 +1,9 @@
 #!/usr/bin/env python3
-"""Runs the commands of docs/guide.md, one block `sh` after the other, and compares what each prints with the block
-`text` behind it: its standard output, then its standard error. A line `..` there stands for any lines. A block without
-such a quote has to end with status 0.
+"""Runs the commands of README.md, docs/guide.md and docs/differences.md, one block `sh` after the other, and compares
+what each prints with the block `text` behind it: its standard output, then its standard error. A line `..` there stands
+for any lines. A block without such a quote has to end with status 0.
 
-    tools/guide.py [CETVM [DOCUMENT]]
+    tools/guide.py [CETVM [DOCUMENT..]]
 
 CETVM, else the program that `rt ci` has left, is `cetvm` in the commands. They run at the top of the clone, and their
 `/tmp/` is a folder that is removed at the end."""
@@ -16,7 +16,7 @@ from pathlib import Path
 
 TOP = Path(__file__).resolve().parents[1]
 BUILT = TOP / "crates/cetvm/out/cetvm"
-GUIDE = TOP / "docs/guide.md"
+DOCUMENTS = ("README.md", "docs/guide.md", "docs/differences.md")
 FENCE = re.compile(r"^```(\w*)\n(.*?)^```$", re.MULTILINE | re.DOTALL)
 ANY = ".."
 SECONDS = 300
@@ -69,20 +69,26 @@ def differences(document, work):
             yield f"the commands from line {line} on print something else:\n    " + "\n    ".join(printed)
 
 
-def main():
-    cetvm = Path(sys.argv[1] if len(sys.argv) > 1 else BUILT).resolve()
-    path = Path(sys.argv[2] if len(sys.argv) > 2 else GUIDE)
-    if not os.access(cetvm, os.X_OK):
-        sys.exit(f"guide: no program at {cetvm}")
+def tried(path, cetvm):
+    """How many blocks of commands a document has, and what differs."""
     document = path.read_text()
     with tempfile.TemporaryDirectory() as work:
         (Path(work) / "bin").mkdir()
         (Path(work) / "bin/cetvm").symlink_to(cetvm)
-        wrong = list(differences(document, work))
+        return len(steps(document)), [f"{path.name}: {text}" for text in differences(document, work)]
+
+
+def main():
+    cetvm = Path(sys.argv[1] if len(sys.argv) > 1 else BUILT).resolve()
+    if not os.access(cetvm, os.X_OK):
+        sys.exit(f"guide: no program at {cetvm}")
+    count, wrong = 0, []
+    for name in sys.argv[2:] or DOCUMENTS:
+        blocks, found = tried(TOP / name, cetvm)
+        count, wrong = count + blocks, wrong + found
     for text in wrong:
-        print(f"guide: {path.name}: {text}")
-    count = len(steps(document))
-    print(f"guide: {count} blocks of commands in {path.name}, {len(wrong)} print something else")
+        print(f"guide: {text}")
+    print(f"guide: {count} blocks of commands, {len(wrong)} print something else")
     sys.exit(bool(wrong) or not count)
 
 
