@@ -23,16 +23,31 @@ IMAGE = TOP / "crates/cetvm/stdin"
 KINDS = ("command", "words", "text", "change", "program", "arguments")
 ARGUMENTS = ("rdi", "rsi", "rdx", "r10")
 SPAN = re.compile(r"`([^`]+)`")
-# Of a record: thread, name, RIP, code, A and B. The last two and RIP are hexadecimal.
-HEXADECIMAL = (2, 4, 5)
+# An address or a value in a report.
+DIGITS = re.compile(r"[0-9a-f]{16}")
 SECONDS = 300
 
 Row = namedtuple("Row", "place section kind answers examples ends")
 Answer = namedtuple("Answer", "status line output")
 
 
+class Faulty(Exception):
+    """The page isn't written as it should be."""
+
+
 def cells(line):
     return [cell.strip() for cell in line.strip().strip("|").split(" | ")]
+
+
+def row(place, section, heads, found):
+    if len(found) != len(heads):
+        raise Faulty(f"line {place}: the row has {len(found)} cells, and its table {len(heads)}")
+    named = dict(zip(heads, found))
+    kind = next(head for head in heads if head in KINDS)
+    answers, examples, ends = named[heads[0]], SPAN.findall(named[kind]), SPAN.findall(named.get("ends", ""))
+    if not SPAN.search(answers) or not examples or kind == "program" and not ends:
+        raise Faulty(f"line {place}: the row has no answer, no example or no end")
+    return Row(place, section, kind, answers, examples, ends)
 
 
 def rows(page):
@@ -46,14 +61,15 @@ def rows(page):
         elif heads is None:
             heads = cells(line)
         elif not line.startswith("|--") and set(heads) & set(KINDS):
-            kind = next(head for head in heads if head in KINDS)
-            found = dict(zip(heads, cells(line)))
-            yield Row(place, section, kind, found[heads[0]], SPAN.findall(found[kind]), SPAN.findall(found.get("ends", "")))
+            yield row(place, section, heads, cells(line))
 
 
 def behind(page):
     """The text that stands behind the program of each kernel call."""
-    return re.search(r"^```asm\n(.*?)^```$", page, re.MULTILINE | re.DOTALL).group(1)
+    found = re.search(r"^```asm\n(.*?)^```$", page, re.MULTILINE | re.DOTALL)
+    if not found:
+        raise Faulty("there is no block `asm`")
+    return found[1]
 
 
 class Machine:
@@ -85,12 +101,9 @@ def source(example):
     return re.sub(rb"\\x([0-9a-f]{2})", lambda found: bytes.fromhex(found[1].decode()), text.encode())
 
 
-def short(record):
+def short(line):
     """A line of a report without the leading zeros of its addresses and values."""
-    words = record.split(" ")
-    if len(words) != 6 or not words[0].isdigit():
-        return record
-    return " ".join(word.lstrip("0") or "0" if place in HEXADECIMAL else word for place, word in enumerate(words))
+    return " ".join(word.lstrip("0") or "0" if DIGITS.fullmatch(word) else word for word in line.split())
 
 
 def shown(answer):
@@ -198,21 +211,28 @@ def missing(found, page):
             yield f"kernel call {number}"
 
 
-def main():
-    cetvm = Path(sys.argv[1] if len(sys.argv) > 1 else BUILT).resolve()
-    if not os.access(cetvm, os.X_OK):
-        sys.exit(f"answers: no program at {cetvm}")
-    page = PAGE.read_text()
+def differences(cetvm, page):
+    """How many examples and rows there are, and what differs."""
     found, text = list(rows(page)), behind(page)
     wrong = [f"the page lacks {name}" for name in missing(found, page)]
     with tempfile.TemporaryDirectory() as work:
         machine = Machine(cetvm, Path(work))
-        for row in found:
-            wrong += [f"line {row.place}: `{row.examples[0] if row.examples else '?'}` {said}"
-                      for said in CHECKS[row.kind](machine, row, text)]
+        for one in found:
+            wrong += [f"line {one.place}: `{one.examples[0]}` {said}" for said in CHECKS[one.kind](machine, one, text)]
+    return sum(len(one.examples) for one in found), len(found), wrong
+
+
+def main():
+    cetvm = Path(sys.argv[1] if len(sys.argv) > 1 else BUILT).resolve()
+    if not os.access(cetvm, os.X_OK):
+        sys.exit(f"answers: no program at {cetvm}")
+    try:
+        examples, count, wrong = differences(cetvm, PAGE.read_text())
+    except (Faulty, OSError, ValueError, subprocess.TimeoutExpired) as error:
+        sys.exit(f"answers: {error}")
     for line in wrong:
         print(f"answers: {line}")
-    print(f"answers: {sum(len(row.examples) for row in found)} examples in {len(found)} rows, {len(wrong)} answers differ")
+    print(f"answers: {examples} examples in {count} rows, {len(wrong)} answers differ")
     sys.exit(bool(wrong))
 
 

@@ -22,6 +22,10 @@ ANY = ".."
 SECONDS = 300
 
 
+class Faulty(Exception):
+    """A document isn't written as it should be."""
+
+
 def steps(document):
     """Each block of commands, with its line in the document and the block of text that quotes its output, or None."""
     found = []
@@ -32,7 +36,7 @@ def steps(document):
         elif kind == "text" and found and found[-1][2] is None:
             found[-1][2] = text
         elif kind:
-            raise ValueError(f"line {document.count(chr(10), 0, fence.start()) + 1}: a block `{kind}` with no command")
+            raise Faulty(f"line {document.count(chr(10), 0, fence.start()) + 1}: a block `{kind}` with no command")
     return found
 
 
@@ -83,9 +87,12 @@ def main():
     if not os.access(cetvm, os.X_OK):
         sys.exit(f"guide: no program at {cetvm}")
     count, wrong = 0, []
-    for name in sys.argv[2:] or DOCUMENTS:
-        blocks, found = tried(TOP / name, cetvm)
-        count, wrong = count + blocks, wrong + found
+    try:
+        for name in sys.argv[2:] or DOCUMENTS:
+            blocks, found = tried(TOP / name, cetvm)
+            count, wrong = count + blocks, wrong + found
+    except (Faulty, OSError, ValueError, subprocess.TimeoutExpired) as error:
+        sys.exit(f"guide: {error}")
     for text in wrong:
         print(f"guide: {text}")
     print(f"guide: {count} blocks of commands, {len(wrong)} print something else")
