@@ -1,7 +1,8 @@
 //! A program that makes work: two contexts that swap a given number of times.
 
-ghost use Rattle.std.specs.Prelude.{◌≡◌, ◌≤◌, ◌++◌, IfOk, OnOk};
+ghost use Rattle.std.specs.Prelude.{◌≡◌, ◌≤◌, ◌++◌, length, IfOk, OnOk};
 ghost use Rattle.cet_ctx.specs.Bench.{bench};
+ghost use Rattle.cet_ctx.specs.Lines.{most_text};
 
 use cet_base::put_decimal;
 use cet_words::{Bytes, NoMemory};
@@ -44,12 +45,14 @@ stack: .zero 4096
 stack_end: .quad 0
 ";
 
-/// A program that swaps `n` times to a second context and back, as assembler text that needs the runtime behind it.
+/// A program, of at most 4,096 bytes, that swaps `n` times to a second context and back, as assembler text that needs the runtime behind it.
 /// `n` is 1 to 1,000.
+#[tactic(auto, using(crate::proofs::Lengths::bench_short))]
 pub fn bench_text(alloc: Global, n: u32) -> Result<Bytes, NoMemory>
     requires low { 1 ≤ n }
     requires high { n ≤ 1000 }
-    ensures { IfOk result (λ text. text ≡ bench n) }
+    ensures text { IfOk result (λ text. text ≡ bench n) }
+    ensures short { IfOk result (λ text. length text ≤ most_text) }
 {
     let mut text = Bytes::new(alloc);
     text.extend(alloc, SETUP.as_bytes())?;

@@ -52,7 +52,7 @@ entries_of t b = (region b (current_of t b)).entries
 abbrev pub Ends : JobData → Arch → (past : List Visit) → (before s : State) → Finish → Type 0
 Ends job arch past before s (Noted next r) =
     AtRest arch.number s.book next.ssp × ((held now : Option ℕ) → ReturnsBy job (entries_of arch.number before.book) (record arch { held = held }) (kept_by arch now next) r r.what) × TokensBy before.book s.book r r.what
-Ends job arch past before s (Posted next) = AtRest arch.number s.book next.ssp × (drew past ≡ false) × (numbered past ≡ false)
+Ends job arch past before s (Posted next) = AtRest arch.number s.book next.ssp × (drew past ≡ false) × (numbered past ≡ false) × (next.rip ≡ arch.rip)
 Ends job arch past before s (Exited next r status) =
     HasNone arch.number s.book × ((held now : Option ℕ) → ReturnsBy job (entries_of arch.number before.book) (record arch { held = held }) (kept_by arch now next) r r.what) × TokensBy before.book s.book r r.what
 Ends job arch past before s Stopped = AtRest arch.number s.book arch.ssp × (drew past ≡ false) × (numbered past ≡ false)

@@ -119,7 +119,7 @@ module _ (job : JobData) (j : IsJob job) (arch : Arch) (l : own_stack job arch.n
   kill_claim past before s signal is within =
       let apart : (exit_word == token_word gate - 1) ≡ false = (let n : exit_word ≢ token_word gate - 1 = omega arith in grind (arith, nat_tests)) in
       end_then job arch (Leaves job arch l) past before s (0x200 + signal) _ is (inside_stacked within) (λ now r found.
-      gate_out_then job arch l (Ends job arch) _ now now _ (inside_left (rw apart refl) (inside_kept r within)) (λ p z n rest. (rested rest, λ held later. tt, tt)))
+      gate_out_then job arch l (Ends job arch) _ now now _ (inside_left (rw apart refl) (inside_kept r within)) (λ p z n rest. (rested rest, λ held later. refl, tt)))
 
   -- ---- the places of a frame
 
@@ -253,7 +253,7 @@ module _ (job : JobData) (j : IsJob job) (arch : Arch) (l : own_stack job arch.n
       push_or_kill_claim _ now3 now3 signal cause (record { handler = handler; flags = flags; restorer = restorer; mask = mask }) is_return within3)))
 
   ignore_claim : (past : List Visit) (before s : State) (signal : ℕ) (cause : Option Fault) → IsEnding (0x200 + signal) → Inner past s → Claim job arch (Leaves job arch l) past before s (ignore arch signal cause)
-  ignore_claim past before s signal None is within = gate_out_then job arch l (Ends job arch) past before s _ within (λ p z n rest. (rested rest, λ held later. tt, tt))
+  ignore_claim past before s signal None is within = gate_out_then job arch l (Ends job arch) past before s _ within (λ p z n rest. (rested rest, λ held later. refl, tt))
   ignore_claim past before s signal (Some e) is within = kill_claim past before s signal is within
 
   handle_claim : (past : List Visit) (before s : State) (signal : ℕ) (cause : Option Fault) → signal < 64 → IsEnding (0x200 + signal) → Inner past s → Claim job arch (Leaves job arch l) past before s (handle arch signal cause)

@@ -15,11 +15,11 @@ pub mod TellingRows
 pub mod Drawing
 pub mod Recorded
 pub mod ToldLaws
-pub mod Covered
 pub mod CoveredRun
 pub mod ClassRun
 pub mod TokenWords
 pub mod Fits
+pub mod Switches
 pub mod HeldAfter
 pub mod Owed
 pub mod Told
@@ -63,6 +63,7 @@ pub mod Newborn
 pub mod First
 pub mod Turns
 pub mod StandsAt
+pub mod Exchanges
 pub mod Run
 pub mod Switched
 pub mod Numbers

@@ -139,7 +139,7 @@ module _ (job : JobData) (j : IsJob job) (arch : Arch) where
   entered_claim past before s work rest h =
       gate_in_then job arch (stack_below job arch.number j) (Ends job arch) past before s (inside arch (own_stack job arch.number) work) rest
       (λ p z n within. claim_bind job arch (Ends job arch) p z n work (leave (own_stack job arch.number)) (h p z n within))
-      (λ p z n found busy rest'. (rested rest', λ held now. tt, record { stack = own_stack job arch.number; few = stack_below job arch.number j; address = refl; found = busy.0; held = busy.1 }))
+      (λ p z n found busy rest'. (rested rest', λ held now. refl, record { stack = own_stack job arch.number; few = stack_below job arch.number j; address = refl; found = busy.0; held = busy.1 }))
 
   -- ---- instructions
 
@@ -213,7 +213,7 @@ module _ (job : JobData) (j : IsJob job) (arch : Arch) where
   posting_claim past before s signal is rest =
       fetch_or_then job arch (Ends job arch) past before s (pend_word arch.number) _ _ (pend_out arch.number is.number) (rest_stacked rest) (λ now r v.
       let rest1 = rest_kept r rest in
-      (rested rest1, ap (λ (x : Progress). x.drawing) rest1.level, ap (λ (x : Progress). x.numbering) rest1.level))
+      (rested rest1, ap (λ (x : Progress). x.drawing) rest1.level, ap (λ (x : Progress). x.numbering) rest1.level, refl))
 
   between_claim : (past : List Visit) (before s : State) (o : Option ℕ) → IsState arch → Resting arch.number untouched (progress past) s.book arch.ssp → Claim job arch (Ends job arch) past before s (between job arch o)
   between_claim past before s None is rest = boundary_claim past before s is rest

@@ -3,7 +3,10 @@ use Rattle.cet_book.proofs.Supervisor.{stack_there}
 use Rattle.cet_words.specs.declared.accesses.Access.{Access}
 use Rattle.cet_words.specs.Layout.{token}
 use Rattle.cet_words.specs.Access.{answer}
-use Rattle.cet_own.specs.Gates.{AccessGates, TurnGates, TurnTells}
+use Rattle.cet_own.specs.Enters.{TurnEnters}
+use Rattle.cet_own.specs.Gates.{AccessGates, GatesExactly, RestoresExactly, TurnGates, TurnTells}
+use Rattle.cet_own.specs.Restores.{TurnRestores}
+use Rattle.cet_own.proofs.Exchanges.{turn_enters, turn_restores}
 use Rattle.std.proofs.Common.{◌≡◌, ℕ, List, [], ◌∷◌, Option, Some, None, refl, sym, ◌∙◌, ap, subst, ◌+◌, ◌<◌, arith}
 use Rattle.std.specs.Prelude.{slice_get, ◌↔◌}
 use Rattle.cet_words.specs.Job.{JobData, IsJob}
@@ -76,12 +79,25 @@ pub record Goes (job : JobData) (m : Machine) (t : ℕ) (s : State) : Type 0 whe
   pub returns : TurnReturns job m s.book t
   pub restores : TurnTokens job m s.book next.book t
   pub gates : TurnGates job m s.book t
+  pub takes : TurnRestores job m s.book t
+  pub enters : TurnEnters job m s.book t
+
+-- and what it takes, by what it tells and finds of tokens
+turn_from : (job : JobData) (j : IsJob job) (m : Machine) (t : ℕ) (s : State) → Invariant job m s → Turned job m t s (slice_get m.threads t) → Goes job m t s
+unfolding turn_changes step
+turn_from job j m t s st d = record {
+  next = d.next;
+  is = d.is;
+  stands = d.stands;
+  returns = d.returns;
+  restores = d.restores;
+  gates = d.gates;
+  takes = turn_restores job m t s d.next.book st d.restores;
+  enters = turn_enters job m t s j st d.gates;
+}
 
 pub turn : (job : JobData) (j : IsJob job) (m : Machine) (t : ℕ) (s : State) → Invariant job m s → Goes job m t s
-unfolding turn_changes step
-turn job j m t s st =
-    let d = turned_by job j m t s (slice_get m.threads t) st refl (st.threads t) in
-    record { next = d.next; is = d.is; stands = d.stands; returns = d.returns; restores = d.restores; gates = d.gates }
+turn job j m t s st = turn_from job j m t s st (turned_by job j m t s (slice_get m.threads t) st refl (st.threads t))
 
 -- what the invariant tells at each moment, and each turn of itself, holds along a run
 pub along_from : (At : Machine → Book → Type 0) (Turn : Machine → (before after : Book) → ℕ → Type 0) (job : JobData) (j : IsJob job) → ((m : Machine) (s : State) → Invariant job m s → At m s.book) →
@@ -106,7 +122,15 @@ safe_run job start turns j s =
 
 pub stands_run : (job : JobData) (start : Machine) (turns : List ℕ) → IsJob job → Starts job start → Along (Stands job) (TurnTells job) job start first_book turns
 stands_run job start turns j s =
-    along_from (Stands job) (TurnTells job) job j (stands_at job) (λ m t s d. record { tokens = d.restores; gates = d.gates }) turns start (record { book = first_book }) (first_stands job start j s)
+    along_from (Stands job) (TurnTells job) job j (stands_at job) (λ m t s d. record { tokens = d.restores; gates = d.gates; restores = d.takes; enters = d.enters }) turns start (record { book = first_book }) (first_stands job start j s)
+
+pub restores_run : (job : JobData) (start : Machine) (turns : List ℕ) → IsJob job → Starts job start → RestoresExactly job start first_book turns
+restores_run job start turns j s =
+    along_from (λ m b. Unit {0}) (λ m b next t. TurnRestores job m b t) job j (λ m s st. tt) (λ m t s d. d.takes) turns start (record { book = first_book }) (first_stands job start j s)
+
+pub gates_run : (job : JobData) (start : Machine) (turns : List ℕ) → IsJob job → Starts job start → GatesExactly job start first_book turns
+gates_run job start turns j s =
+    along_from (λ m b. Unit {0}) (λ m b next t. TurnEnters job m b t × TurnGates job m b t) job j (λ m s st. tt) (λ m t s d. (d.enters, d.gates)) turns start (record { book = first_book }) (first_stands job start j s)
 
 -- EXIT at a run's end
 exit_from : (job : JobData) (j : IsJob job) (turns : List ℕ) (m : Machine) (s : State) → Invariant job m s → EndsRight (run job m turns)

@@ -125,7 +125,11 @@ module _ (job : JobData) (m : Machine) (s : State) (st : Invariant job m s) wher
       below = λ t thread e k own q. below_told t k (trail_of job thread.core) (st.still t thread e) own (left_in (trail_of job thread.core) (token_word k - 1)) refl q;
     };
     restorers = st.holds.restorers;
-    steady_rows = λ t thread e. record { word = (st.still t thread e).word; claimed = (st.still t thread e).claimed };
+    steady_rows = λ t thread e. record {
+      word = (st.still t thread e).place;
+      below = λ k x l own q. (st.still t thread e).word (token_word k - 1) x (below_token k l own refl) q;
+      claimed = (st.still t thread e).claimed;
+    };
     counters = record { drawn = st.holds.marks.drawn; least = st.paid.least; number = st.paid.number };
     made = st.made;
     bounds = all_bounds;

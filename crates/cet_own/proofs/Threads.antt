@@ -1,7 +1,9 @@
 -- Where each thread of a machine stands, and one access of a thread. Source: own.
 use Rattle.std.proofs.Common.{List, [], ◌≡◌, ℕ, ◌+◌, Bool, true, false, Option, Some, None, refl, sym, ◌∙◌, ap, subst}
 use Rattle.std.specs.Prelude.{option_map, ◌==◌, if◌then◌else◌}
+use Rattle.cet_words.specs.Change.{Change}
 use Rattle.cet_words.specs.Job.{JobData, IsJob}
+use Rattle.cet_words.specs.declared.accesses.Access.{Access}
 use Rattle.cet_isa.specs.declared.threads.Arch.{Arch}
 use Rattle.cet_isa.specs.declared.threads.End.{End}
 use Rattle.cet_isa.specs.declared.threads.End.TheVariants as ending
@@ -115,20 +117,20 @@ pub came_stands : (job : JobData) (core : Core) (held : Option ℕ) (seen : Vals
     OnCame (rules job core.arch.number) (During (unheld core.arch)) (Ends job (unheld core.arch)) (λ p. Fails job (unheld core.arch)) past before s c → IsCore job (core_by job core.arch held seen c) →
     CoreStands job core.arch.number s (core_by job core.arch held seen c) (core_by job core.arch held seen c).over ×
     NotedReturns job (entries_of core.arch.number before.book) core (left_by job core.arch held seen c child) (noted_by core.arch c) × NotedTokens before.book s.book (noted_by core.arch c)
-came_stands job core held seen past before s child (Wants a changes) note holding own told j l o w = (record { waits = w; number = refl; holding = holding; own = own; told = told; before = before; left = l }, tt, tt)
+came_stands job core held seen past before s child (Wants a changes) note holding own told j l o w = (record { waits = w; number = refl; holding = holding; own = own; told = told; before = before; left = l }, refl, tt)
 came_stands job core held seen past before s child (Faulted e) note holding own told j l o w =
     (recorded_stands job (kept_by core.arch held (faulted core.arch e)) s (core.arch.count + 1 == job.limit) (free_note core.arch.number s.book held o.0.free note) j o.0 w, λ r. (o.1 r, refl, refl), o.2)
 came_stands job core held seen past before s child (Completed (Noted next r) left values) note holding own told j l o w =
     (recorded_stands job (kept_by core.arch held next) s (next.count == job.limit) (free_note core.arch.number s.book held o.0.free note) j o.0 w, o.1 core.arch.held held, o.2)
 came_stands job core held seen past before s child (Completed (Posted next) left values) note holding own told j l o w =
-    (recorded_stands job (kept_by core.arch held next) s false (free_note core.arch.number s.book held o.0.free note) j o.0 w, tt, tt)
+    (recorded_stands job (kept_by core.arch held next) s false (free_note core.arch.number s.book held o.0.free note) j o.0 w, o.3, tt)
 came_stands job core held seen past before s child (Completed (Exited next r status) left values) note holding own told j l o w = ((o.0, w, refl), o.1 core.arch.held held, o.2)
-came_stands job core held seen past before s child (Completed Stopped left values) note holding own told j l o w = ((o.0, refl, w, refl), tt, tt)
+came_stands job core held seen past before s child (Completed Stopped left values) note holding own told j l o w = ((o.0, refl, w, refl), refl, tt)
 
 -- a row that goes on has its trail, and one that is over leaves none
 pub came_still : (job : JobData) (arch : Arch) (held : Option ℕ) (seen : ValsData) (c : Played Finish) (words : List ℕ) (t : ℕ) (b : Book) →
-    Still words t b (trail seen.accesses (row job (unheld arch)) seen.values []) → Still words t b (trail_of job (core_by job arch held seen c))
-came_still job arch held seen (Wants a changes) words t b h = h
+    ((a : Access) (changes : ℕ → List Change) → c ≡ Wants a changes → Still words t b (row_trail job arch seen)) → Still words t b (trail_of job (core_by job arch held seen c))
+came_still job arch held seen (Wants a changes) words t b h = h a changes refl
 came_still job arch held seen (Faulted e) words t b h = still_none words t b
 came_still job arch held seen (Completed (Noted next r) left values) words t b h = still_none words t b
 came_still job arch held seen (Completed (Posted next) left values) words t b h = still_none words t b

@@ -5,7 +5,10 @@ pub mod Switched
 pub mod ExitWord
 pub mod Safe
 pub mod ToldTokens
+pub mod Restores
+pub mod Enters
 pub mod Gates
 pub mod Stands
 pub mod Told
+pub mod Covered
 pub mod Class

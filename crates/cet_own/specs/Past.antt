@@ -43,8 +43,13 @@ abbrev pub takes_any : List Change → Bool
 takes_any [] = false
 takes_any (c ∷ cs) = is_taking c || takes_any cs
 
--- What the row last read or wrote in a word. Where it got a stack since, nothing is said: the word may be one of that stack,
--- and have been another thread's.
+-- what the row last read or wrote in a word
+abbrev pub left_row : List Visit → (word : ℕ) → Option ℕ
+left_row [] w = None
+left_row (x ∷ past) w = if touches x.access w then Some (leaves_word x.access x.answer) else left_row past w
+
+-- The same, where it got no stack since. Else nothing is said: the word may be the one below the token of that stack, and have been
+-- another thread's.
 abbrev pub left_in : List Visit → (word : ℕ) → Option ℕ
 left_in [] w = None
 left_in (x ∷ past) w =

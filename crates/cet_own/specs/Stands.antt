@@ -16,7 +16,7 @@ use Rattle.cet_page.specs.Core.{Core}
 use Rattle.cet_page.specs.Machine.{Machine, Thread}
 use Rattle.cet_page.specs.Trail.{Visit, trail_of}
 use Rattle.cet_page.specs.Within.{IsCore}
-use Rattle.cet_own.specs.Past.{held_in, left_in, restorer_word, has_restorer, draw_word, next_word, drew, numbered, NewStack, claimed_in}
+use Rattle.cet_own.specs.Past.{held_in, left_in, left_row, restorer_word, has_restorer, draw_word, next_word, drew, numbered, NewStack, claimed_in}
 use Rattle.cet_own.specs.ToldTokens.{IsToken}
 use Rattle.cet_own.specs.Safe.{IsSafeAt}
 
@@ -154,8 +154,10 @@ pub record SupervisorTokens (job : JobData) (m : Machine) (b : Book) : Type 0 wh
       slice_index m.words (token_word k - 1) ≡ kernel_return
 
 pub record SteadyRow (job : JobData) (words : List ℕ) (b : Book) (t : ℕ) (core : Core) : Type 0 where
-  -- what a row has read or written in a word of its thread's own is still there
-  pub word : (word x : ℕ) → OwnWord t b word → left_in (trail_of job core) word ≡ Some x → slice_index words word ≡ x
+  -- what a row has read or written in a word of the thread's own shadow stacks is still there
+  pub word : (addr x : ℕ) → Place addr → IsOwnPlace t b addr → left_row (trail_of job core) (slot addr) ≡ Some x → slot_word words addr ≡ x
+  -- and so is what it has, since it took a supervisor stack, below the token of that one
+  pub below : (k x : ℕ) → k < 8 → stack_of b k ≡ Some t → left_in (trail_of job core) (token_word k - 1) ≡ Some x → slice_index words (token_word k - 1) ≡ x
   -- the stack that it has claimed is in the book, and nobody else's
   pub claimed : HasClaimed t (claimed_in (trail_of job core)) b
 
