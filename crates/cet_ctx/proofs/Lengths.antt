@@ -14,7 +14,7 @@ pub runtime_short : length runtime ≤ most_text
 runtime_short = leb-true (length runtime) most_text refl
 
 -- what stands behind the line of the count
-rest : List (List ℕ)
+abbrev rest : List (List ℕ)
 rest = rounds ++ work ++ places
 
 front_short : length (text_of setup) ≤ 1000

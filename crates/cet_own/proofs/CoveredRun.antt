@@ -34,11 +34,11 @@ use Rattle.cet_own.specs.Covered.{Covered, told_numbers, AllEnded, LastCovered}
 use Rattle.cet_own.proofs.Drawing.{times, occurs, once_here, HasSpan}
 use Rattle.cet_own.proofs.Drawn.{Drawn, nothing_drawn, drawn}
 use Rattle.cet_own.proofs.Numbers.{core_number}
-use Rattle.cet_own.proofs.Owed.{State}
+use Rattle.cet_own.specs.Owed.{State}
 use Rattle.cet_own.proofs.Recorded.{Recorded, ThreadSpans, row_drawn, used, shown, recorded_turn}
 use Rattle.cet_own.proofs.Run.{turn, first_stands}
 use Rattle.cet_own.proofs.StandsAt.{stands_at, token_found}
-use Rattle.cet_own.proofs.Threads.{Ended, CoreStands, ThreadStands}
+use Rattle.cet_own.specs.Threads.{Ended, CoreStands, ThreadStands}
 use Rattle.cet_own.proofs.ToldLaws.{order_times, order_all, flat_times, flat_all, flat_has, same_sums, times_place, one_place, map_back}
 use Rattle.cet_own.proofs.Turns.{Invariant, safe_at}
 use Rattle.cet_own.proofs.Views.{kept_there}

@@ -1,17 +1,17 @@
 -- What the exchange of RSTORSSP and the first one of the kernel's entry come to, by the book. Source: own.
-use Rattle.std.proofs.Common.{◌≡◌, ℕ, ◌+◌, ◌-◌, ◌<◌, ◌≤◌, Option, Some, None, refl, sym, ◌∙◌, ap, subst, arith}
-use Rattle.std.specs.Prelude.{◌↔◌, ◌/◌, ◌%◌, List, slice_get, slice_index}
+use Rattle.std.proofs.Common.{◌≡◌, ℕ, ◌+◌, ◌-◌, ◌<◌, Option, Some, None, refl, sym, ◌∙◌, ap, subst, arith}
+use Rattle.std.specs.Prelude.{◌/◌, List, slice_get, slice_index}
 use Rattle.std.proofs.Math.Nat.{mod-lt}
 use Rattle.cet_words.specs.Access.{answer}
 use Rattle.cet_words.specs.Job.{JobData, IsJob}
 use Rattle.cet_words.specs.Layout.{first_shadow_page, page_at, shadow_start, token, word_in}
 use Rattle.cet_isa.specs.declared.threads.Arch.{Arch}
 use Rattle.cet_isa.specs.declared.threads.End.{End}
-use Rattle.cet_book.specs.Book.{Book, region, top, stack_of}
+use Rattle.cet_book.specs.Book.{Book, region, top}
 use Rattle.cet_book.specs.Facts.{Place}
 use Rattle.cet_book.specs.Shape.{Shape}
 use Rattle.cet_book.specs.Stack.{slot_word}
-use Rattle.cet_page.specs.Core.{Core, next_access, taken}
+use Rattle.cet_page.specs.Core.{Core, taken}
 use Rattle.cet_page.specs.Entering.{AtGate, at_syscall, at_signal, at_fault, gate_exchange}
 use Rattle.cet_page.specs.Gate.{stack_of as own_stack}
 use Rattle.cet_page.specs.Machine.{Machine, Thread}
@@ -27,10 +27,10 @@ use Rattle.cet_own.specs.Gates.{AccessGates, ThreadGates, TurnGates}
 use Rattle.cet_own.specs.Restores.{RestoresRight, ThreadRestores, TurnRestores}
 use Rattle.cet_own.specs.ToldTokens.{AccessTokens, IsToken, NotedTokens, ThreadTokens, TurnTokens}
 use Rattle.cet_own.proofs.Marks.{parked_place}
-use Rattle.cet_own.proofs.Owed.{State}
+use Rattle.cet_own.specs.Owed.{State}
 use Rattle.cet_own.proofs.Places.{shadow_page, shadow_slot}
 use Rattle.cet_own.proofs.StandsAt.{core_at, token_found}
-use Rattle.cet_own.proofs.Threads.{ThreadStands}
+use Rattle.cet_own.specs.Threads.{ThreadStands}
 use Rattle.cet_own.proofs.TokenWords.{restore_token_is}
 use Rattle.cet_own.proofs.Turns.{Invariant}
 

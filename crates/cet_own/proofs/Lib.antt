@@ -1,6 +1,5 @@
 pub mod Endings
 pub mod Frame
-pub mod Holds
 pub mod Standing
 pub mod Writes
 pub mod Marks
@@ -21,7 +20,6 @@ pub mod TokenWords
 pub mod Fits
 pub mod Switches
 pub mod HeldAfter
-pub mod Owed
 pub mod Told
 pub mod ClassLaws
 pub mod Classes
@@ -64,6 +62,7 @@ pub mod First
 pub mod Turns
 pub mod StandsAt
 pub mod Exchanges
+pub mod StandsBack
 pub mod Run
 pub mod Switched
 pub mod Numbers

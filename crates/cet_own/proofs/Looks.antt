@@ -20,8 +20,8 @@ use Rattle.cet_page.specs.Script.{Script, ◌>>=◌}
 use Rattle.cet_page.specs.Trail.{Visit, visit}
 use Rattle.cet_page.specs.declared.checks.Kind.TheVariants as kind
 use Rattle.cet_page.specs.declared.checks.Who.TheVariants.{User}
-use Rattle.cet_own.specs.Stands.{IsEntry}
-use Rattle.cet_own.proofs.Owed.{State, Known}
+use Rattle.cet_own.specs.Facts.{IsEntry}
+use Rattle.cet_own.specs.Owed.{State, Known}
 use Rattle.cet_own.proofs.Parts.{Claim, look_then}
 use Rattle.cet_own.proofs.Places.{low_bits, entry_there, shadow_page, in_page}
 use Rattle.cet_own.proofs.Progress.{progress, untouched}

@@ -33,13 +33,13 @@ use Rattle.cet_page.specs.declared.services.Errno.{Errno}
 use Rattle.cet_page.specs.declared.services.Errno.TheVariants as errno
 use Rattle.cet_own.specs.Past.{draw_word, drew, left_in}
 use Rattle.cet_own.specs.Safe.{IsElsewhere}
-use Rattle.cet_own.proofs.Calls.{Ends}
+use Rattle.cet_own.specs.Threads.{Ends}
 use Rattle.cet_own.proofs.Claimed.{draws, overdraws, draw_can_claim}
 use Rattle.cet_own.proofs.Classes.{makes_page}
 use Rattle.cet_own.proofs.GateParts.{gate_out_then}
 use Rattle.cet_own.proofs.KernelParts.{counted_by, Leaves, Within, failed_claim}
 use Rattle.cet_own.proofs.TokenWords.{restore_token_is}
-use Rattle.cet_own.proofs.Owed.{State, state_after, Known, Owed, own_stack}
+use Rattle.cet_own.specs.Owed.{State, state_after, Known, Owed, own_stack}
 use Rattle.cet_own.proofs.Parts.{Claim, one_after, claim_bind}
 use Rattle.cet_own.proofs.Places.{shadow_slot}
 use Rattle.cet_own.proofs.Progress.{Progress, progress, untouched}

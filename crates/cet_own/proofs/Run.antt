@@ -1,5 +1,4 @@
 -- The invariant holds along every run from the start, and what follows from it. Source: own.
-use Rattle.cet_book.proofs.Supervisor.{stack_there}
 use Rattle.cet_words.specs.declared.accesses.Access.{Access}
 use Rattle.cet_words.specs.Layout.{token}
 use Rattle.cet_words.specs.Access.{answer}
@@ -7,7 +6,7 @@ use Rattle.cet_own.specs.Enters.{TurnEnters}
 use Rattle.cet_own.specs.Gates.{AccessGates, GatesExactly, RestoresExactly, TurnGates, TurnTells}
 use Rattle.cet_own.specs.Restores.{TurnRestores}
 use Rattle.cet_own.proofs.Exchanges.{turn_enters, turn_restores}
-use Rattle.std.proofs.Common.{◌≡◌, ℕ, List, [], ◌∷◌, Option, Some, None, refl, sym, ◌∙◌, ap, subst, ◌+◌, ◌<◌, arith}
+use Rattle.std.proofs.Common.{◌≡◌, ℕ, List, [], ◌∷◌, Option, Some, None, refl, sym, ◌∙◌, ap, subst, ◌+◌, arith}
 use Rattle.std.specs.Prelude.{slice_get, ◌↔◌}
 use Rattle.cet_words.specs.Job.{JobData, IsJob}
 use Rattle.cet_isa.specs.declared.threads.End.{End}
@@ -18,12 +17,13 @@ use Rattle.cet_own.specs.Along.{Along}
 use Rattle.cet_own.specs.ExitWord.{EndsRight}
 use Rattle.cet_own.specs.Event.{turn_changes}
 use Rattle.cet_own.specs.Safe.{AccessReturns, TurnReturns, IsSafeAt, Safe}
-use Rattle.cet_own.proofs.Owed.{State}
+use Rattle.cet_own.specs.Owed.{State}
 use Rattle.cet_own.specs.ToldTokens.{TurnTokens}
 use Rattle.cet_own.proofs.First.{first_holds, first_threads, first_still, first_paid, first_made}
-use Rattle.cet_own.specs.Stands.{Stands, busy}
+use Rattle.cet_own.specs.Facts.{busy}
+use Rattle.cet_own.specs.Stands.{Stands}
 use Rattle.cet_own.proofs.StandsAt.{stands_at}
-use Rattle.cet_own.proofs.Threads.{CoreStands, ThreadStands}
+use Rattle.cet_own.specs.Threads.{CoreStands, ThreadStands}
 use Rattle.cet_own.proofs.Turns.{Invariant, safe_at, Turned, TurnedBy, stays, acts, ReadsBelow}
 
 -- a thread's turn, by its end
@@ -45,17 +45,9 @@ finds_gate : (job : JobData) (m : Machine) (t : ℕ) (s : State) (thread : Threa
 finds_gate job m t s thread st found None r = tt
 finds_gate job m t s thread st found (Some a) r = record {
   enters = λ k value l e. free_by (stack_of s.book k) (token k) (answer m.words a) (ap (answer m.words) e ∙ st.holds.gates k l);
-  reads = λ k held e. (let own = owned k held in r k (few k own) own e);
-  leaves = λ k expected value held e.
-      let own = owned k held in
-      ap (answer m.words) e ∙ st.holds.gates k (few k own) ∙ ap (λ o. token k + busy o) own;
+  reads = λ k l e. r.0 k l e;
+  leaves = λ k l e. ap (answer m.words) e ∙ st.holds.gates k l ∙ ap (λ o. token k + busy o) (r.1 k l e);
 }
-  where
-    owned : (k : ℕ) → thread.core.arch.held ≡ Some k → stack_of s.book k ≡ Some t
-    owned k held = ((safe_at job m s st).held t thread found k).0 held
-
-    few : (k : ℕ) → stack_of s.book k ≡ Some t → k < 8
-    few k own = let eight = st.holds.sound.book.stacks.eight in let there = stack_there t k s.book own in omega arith
 
 turned_by : (job : JobData) (j : IsJob job) (m : Machine) (t : ℕ) (s : State) (o : Option Thread) → Invariant job m s → slice_get m.threads t ≡ o → ThreadStands job t s o → Turned job m t s o
 turned_by job j m t s None st found at = record { next = s; is = refl; stands = st; returns = tt; restores = tt; gates = tt }

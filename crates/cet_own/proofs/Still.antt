@@ -1,17 +1,17 @@
 -- What a row has seen of words of its thread's own is still there, whatever the others did since. Source: own.
 use Rattle.std.proofs.Common.{◌⊎◌, ◌≡◌, ◌≢◌, ℕ, ◌+◌, ◌%◌, ◌^◌, ◌<◌, inl, inr, Bool, true, false, List, [], ◌∷◌, length, Some, None}
 use Rattle.std.proofs.Common.{refl, sym, ◌∙◌, ap, subst, arith, get_or-set_other, get_or-set_same, ◌-◌, Option}
-use Rattle.std.specs.Prelude.{◌||◌, nat_lt, slice_index, slice_set, bit_or, bit_and, ◌==◌, if◌then◌else◌}
+use Rattle.std.specs.Prelude.{◌||◌, ◌&&◌, nat_lt, slice_index, slice_set, bit_or, bit_and, ◌==◌, if◌then◌else◌}
 use Rattle.std.proofs.lemmas.Bool.Decides.{eqb_tells, nat_tests}
 use Rattle.std.proofs.lemmas.Bool.{false≢true, eqb-true}
-use Rattle.cet_words.specs.Layout.{action_word, word_count, token_word, kernel_return}
+use Rattle.cet_words.specs.Layout.{action_word, word_count, token, token_word, kernel_return}
 use Rattle.cet_words.specs.Access.{answer, after}
 use Rattle.cet_words.specs.Job.{ImageData}
 use Rattle.cet_words.specs.Change.{Change, Acquired, Busied}
 use Rattle.cet_words.specs.declared.accesses.Access.{Access}
 use Rattle.cet_words.specs.declared.accesses.Access.TheVariants as access
-use Rattle.cet_book.specs.Book.{Book, book_after, books_after, put_stack, stack_of}
-use Rattle.cet_book.specs.Facts.{In, Place}
+use Rattle.cet_book.specs.Book.{Book, book_after, books_after, stack_of}
+use Rattle.cet_book.specs.Facts.{Place}
 use Rattle.cet_book.specs.Stack.{slot, slot_word}
 use Rattle.cet_book.specs.Shape.{IsBook}
 use Rattle.cet_book.proofs.Changes.{same_book, then_by}
@@ -19,33 +19,48 @@ use Rattle.cet_book.proofs.Edited.{busied_is}
 use Rattle.cet_book.proofs.Kept.{NotBorn, NoneBorn, book_kept}
 use Rattle.cet_own.proofs.Writes.{in_there}
 use Rattle.cet_page.specs.Trail.{Visit, visit}
-use Rattle.cet_own.specs.Past.{is_taking, touches, leaves_word, takes_any, left_in, left_row, restorer_word, shows_restorer, has_restorer, claimed_in}
+use Rattle.cet_own.specs.Past.{frees_token, is_taking, touches, leaves_word, takes_any, left_in, left_row, restorer_word, shows_restorer, has_restorer, claimed_in}
 use Rattle.cet_book.proofs.Cases.{and_true}
 use Rattle.cet_book.proofs.Comes.{Comes, TakesNothing, AllApart, change_comes, changes_come}
-use Rattle.cet_own.specs.Stands.{HasClaimed, Restorers, IsOwnPlace, OwnWord, below_token, own_slot}
+use Rattle.cet_own.specs.Facts.{HasClaimed, Restorers, IsOwnPlace, OwnWord, below_token, own_slot}
 use Rattle.cet_own.proofs.ClaimStays.{claim_own}
+use Rattle.cet_own.specs.Claims.{KeepsRestorers, Still, TellsBelow}
 use Rattle.cet_own.proofs.Switches.{is_switch, switches}
 
-pub record Still (words : List ℕ) (t : ℕ) (b : Book) (past : List Visit) : Type 0 where
-  pub word : (w x : ℕ) → OwnWord t b w → left_in past w ≡ Some x → slice_index words w ≡ x
-  -- in its shadow stacks also what it has seen before it took a supervisor stack
-  pub place : (addr x : ℕ) → Place addr → IsOwnPlace t b addr → left_row past (slot addr) ≡ Some x → slot_word words addr ≡ x
-  pub restorer : (s : ℕ) → s < 64 → has_restorer past s ≡ true → slice_index words (restorer_word s) ≢ 0
-  -- and the stack that it has claimed
-  pub claimed : HasClaimed t (claimed_in past) b
-  -- what it read or left below the token of a stack that it holds, since it took it, is the kernel's return address
-  pub below : (k x : ℕ) → k < 8 → stack_of b k ≡ Some t → left_in past (token_word k - 1) ≡ Some x → x ≡ kernel_return
-
--- an access of thread t reads or leaves the kernel's return address there
-abbrev pub TellsBelow : (t : ℕ) → Book → Access → (v : ℕ) → Type 0
-TellsBelow t b a v = (k : ℕ) → k < 8 → stack_of b k ≡ Some t → touches a (token_word k - 1) ≡ true → leaves_word a v ≡ kernel_return
-
 -- one that goes elsewhere does
-pub tells_below : (t : ℕ) (b : Book) (v : ℕ) {a c : Access} → a ≡ c → ((k : ℕ) → k < 8 → touches c (token_word k - 1) ≡ false) → TellsBelow t b a v
-tells_below t b v e n k l h q = absurd (false≢true (sym (n k l) ∙ sym (ap (λ x. touches x (token_word k - 1)) e) ∙ q))
-
 pub not_below : (word k : ℕ) → word ≢ token_word k - 1 → (word == token_word k - 1) ≡ false
 not_below word k n = grind (arith, nat_tests)
+
+pub tells_below : (t : ℕ) (b : Book) (v : ℕ) {a c : Access} → a ≡ c → ((k : ℕ) → k < 8 → touches c (token_word k - 1) ≡ false) → ((k : ℕ) → k < 8 → frees_token c k ≡ false) → TellsBelow t b a v
+tells_below t b v e n m = record {
+  holder = λ k l q. absurd (false≢true (sym (n k l) ∙ sym (ap (λ x. touches x (token_word k - 1)) e) ∙ q));
+  address = λ k l q. absurd (false≢true (sym (n k l) ∙ sym (ap (λ x. touches x (token_word k - 1)) e) ∙ q));
+  frees = λ k l q. absurd (false≢true (sym (m k l) ∙ sym (ap (λ x. frees_token x k) e) ∙ q));
+}
+
+-- an exchange of another word, or of another token than the busy one
+pub not_freed : (word expected value k : ℕ) → (word ≡ token_word k → expected ≡ token k + 1 → ⊥) → frees_token (access.CompareExchange word expected value) k ≡ false
+not_freed word expected value k n = elim (eqb_tells word (token_word k)) [
+  | inr u ↦ rw u.0 refl
+  | inl u ↦ elim (eqb_tells expected (token k + 1)) [
+    | inl w ↦ absurd (n u.1 w.1)
+    | inr w ↦ rw (u.0, w.0) refl
+  ]
+]
+
+-- one that gives back the stack that the thread holds
+pub gives_back : (t : ℕ) (b : Book) (v k : ℕ) {a : Access} → a ≡ access.CompareExchange (token_word k) (token k + 1) (token k) → k < 8 → stack_of b k ≡ Some t → TellsBelow t b a v
+gives_back t b v k e l held =
+    let none : (j : ℕ) → (token_word k == token_word j - 1) ≡ false = λ j. not_below (token_word k) j (λ z. omega arith) in
+    record {
+      holder = λ j m q. absurd (false≢true (sym (none j) ∙ sym (ap (λ x. touches x (token_word j - 1)) e) ∙ q));
+      address = λ j m q. absurd (false≢true (sym (none j) ∙ sym (ap (λ x. touches x (token_word j - 1)) e) ∙ q));
+      frees = λ j m q.
+          let both = and_true (token_word k == token_word j) (token k + 1 == token j + 1 && token k == token j) (sym (ap (λ x. frees_token x j) e) ∙ q) in
+          let at : token_word k ≡ token_word j = eqb-true (token_word k) (token_word j) both.0 in
+          let same : k ≡ j = omega arith in
+          subst (λ i. stack_of b i ≡ Some t) same held;
+    }
 
 pub word_there : (t : ℕ) (b : Book) (w : ℕ) → OwnWord t b w → w < word_count
 word_there t b w (own_slot addr p o e) = let low = p.low in let high = p.high in omega arith
@@ -134,10 +149,6 @@ left_word (access.CompareExchange word expected value) words w l = exchanged wor
 
 -- ---- restorers
 
--- a signal that had a restorer has one
-abbrev pub KeepsRestorers : List ℕ → List ℕ → Type 0
-KeepsRestorers words now = (s : ℕ) → s < 64 → slice_index words (restorer_word s) ≢ 0 → slice_index now (restorer_word s) ≢ 0
-
 or_true : (p q : Bool) → (p || q) ≡ true → (p ≡ true) ⊎ (q ≡ true)
 or_true true q e = inl refl
 or_true false q e = inr e
@@ -197,7 +208,7 @@ still_own words t b next past a cs size signals restorers tells book none q calm
   below = λ k x l own e.
       let held : takes_any cs ≡ false → stack_of b k ≡ Some t = λ f. (changes_come t t cs b next book q none (nothing_taken t cs f)).holds k own in
       below_by (left_in past (token_word k - 1)) x (leaves_word a (answer words a)) (takes_any cs) (touches a (token_word k - 1))
-      (λ f g. tells k l (held f) g) (λ f g. h.below k x l (held f) g) e;
+      (λ f g. tells.address k l g) (λ f g. h.below k x l (held f) g) e;
   restorer = λ s l e. elim (or_true (shows_restorer a (answer words a) s) (has_restorer past s) e) [
     | inl u ↦ restorer_shown a words s size signals l u
     | inr u ↦ restorers s l (h.restorer s l u)

@@ -1,32 +1,28 @@
 -- An access that brings its thread a shadow stack is the last of its row: else one pointer in force would be at the tops of two.
 -- Source: own.
-use Rattle.std.proofs.Common.{◌≡◌, ◌≢◌, ℕ, ◌+◌, ◌-◌, ◌<◌, ◌≤◌, inl, inr, Bool, true, false, List, [], ◌∷◌, length, Option, Some, refl, sym, ◌∙◌, ap, subst, arith}
+use Rattle.std.proofs.Common.{◌≡◌, ◌≢◌, ℕ, ◌<◌, inl, inr, Bool, true, false, List, [], ◌∷◌, length, Option, Some, refl, sym, ◌∙◌, ap, subst, arith}
 use Rattle.std.specs.Prelude.{◌||◌, nat_lt}
 use Rattle.std.proofs.lemmas.Bool.{cases_lt, false≢true}
 use Rattle.std.proofs.lemmas.Bool.Decides.{nat_tests}
-use Rattle.cet_words.specs.Change.{Change, Acquired, Busied}
+use Rattle.cet_words.specs.Change.{Change, Acquired}
 use Rattle.cet_words.specs.declared.accesses.Access.{Access}
 use Rattle.cet_book.specs.declared.entries.Holder.{Holder}
 use Rattle.cet_book.specs.declared.entries.Holder.TheVariants.{Maker, Current, Parked, Left, Lost}
-use Rattle.cet_book.specs.Book.{Book, region, top, current_of, parked_at, put_stack, acquire, acquired, book_after, books_after}
-use Rattle.cet_book.specs.Facts.{In}
+use Rattle.cet_book.specs.Book.{Book, region, current_of, parked_at, acquire, acquired, book_after, books_after}
 use Rattle.cet_book.specs.Shape.{IsBook}
 use Rattle.cet_book.proofs.Acquire.{parked_at_holds, Takes, acquire_all}
 use Rattle.cet_book.proofs.Cases.{and_true, if_some, with_current_some}
 use Rattle.cet_book.proofs.Changes.{same_book, then_by}
-use Rattle.cet_book.proofs.Comes.{change_comes, changes_last}
-use Rattle.cet_book.proofs.Edited.{busied_is}
+use Rattle.cet_book.proofs.Comes.{changes_last}
 use Rattle.cet_book.proofs.Edits.{owned, owned_only, current_holds}
 use Rattle.cet_book.proofs.Held.{Held}
-use Rattle.cet_book.proofs.Kept.{NotBorn, NoneBorn, book_kept}
+use Rattle.cet_book.proofs.Kept.{book_kept}
 use Rattle.cet_page.specs.Trail.{Visit}
 use Rattle.cet_own.specs.Class.{all_of, class_at, is_of}
 use Rattle.cet_own.specs.Past.{below_frame, frame_pushed, pushes_frame}
-use Rattle.cet_own.specs.Stands.{IsOwnPlace}
 use Rattle.cet_own.specs.declared.access_classes.Class.{Class}
 use Rattle.cet_own.specs.declared.access_classes.Class.TheVariants as class
-use Rattle.cet_own.proofs.Fits.{Fits}
-use Rattle.cet_own.proofs.Standing.{Stacked}
+use Rattle.cet_own.specs.Claims.{Fits, Stacked}
 
 -- by this change the thread gets a shadow stack
 abbrev pub is_switch : Change → Bool

@@ -13,54 +13,24 @@ use Rattle.cet_page.specs.Script.{Played, Completed, Faulted, Wants}
 use Rattle.cet_page.specs.ValsData.{ValsData, no_vals}
 use Rattle.cet_page.specs.Row.{row}
 use Rattle.cet_page.specs.Core.{Core, After, unheld, kept_by, faulted, core_by, noted_by}
-use Rattle.cet_page.specs.Within.{Waits, Rests, CoreAt, IsCore}
+use Rattle.cet_page.specs.Within.{CoreAt, IsCore}
 use Rattle.cet_page.specs.Machine.{Thread}
 use Rattle.cet_page.specs.declared.finishes.Finish.{Finish}
 use Rattle.cet_page.specs.declared.finishes.Finish.TheVariants.{Noted, Posted, Exited, Stopped}
 use Rattle.cet_own.specs.Safe.{NotedReturns}
 use Rattle.cet_own.specs.ToldTokens.{NotedTokens}
-use Rattle.cet_page.specs.Trail.{Visit, row_trail, trail, trail_of}
+use Rattle.cet_page.specs.Trail.{Visit, row_trail, trail_of}
 use Rattle.cet_own.specs.Past.{held_in}
-use Rattle.cet_own.specs.Stands.{AllTold}
+use Rattle.cet_own.specs.Facts.{AllTold}
 use Rattle.cet_own.proofs.Told.{all_last, free_note}
-use Rattle.cet_own.proofs.Still.{Still, still_none}
-use Rattle.cet_own.proofs.Frame.{SteadyAt, others_at, OnCame}
-use Rattle.cet_own.proofs.Standing.{stacked_kept, AtRest, rest_kept, HasNone, none_kept}
+use Rattle.cet_own.proofs.Still.{still_none}
+use Rattle.cet_own.specs.Claims.{Still, AtRest}
+use Rattle.cet_own.proofs.Frame.{others_at, OnCame}
+use Rattle.cet_own.proofs.Standing.{stacked_kept, rest_kept, none_kept}
 use Rattle.cet_book.proofs.Held.{Held}
-use Rattle.cet_own.proofs.Owed.{State, own_stack, rules}
-use Rattle.cet_own.proofs.Parts.{During, Fails}
-use Rattle.cet_own.proofs.Calls.{entries_of, Ends}
+use Rattle.cet_own.specs.Owed.{State, own_stack, rules}
+use Rattle.cet_own.specs.Threads.{During, Fails, entries_of, Ends, Left, InRow, CoreStands, ThreadStands}
 use Rattle.cet_own.proofs.Rows.{row_claim}
-
--- the claim on what is left of a thread's row
-abbrev pub Left : JobData → Arch → (before s : State) → ValsData → Type 0
-Left job arch before s seen = SteadyAt (rules job arch.number) (During arch) (Ends job arch) (λ p. Fails job arch) [] before s (row job arch) seen.accesses seen.values
-
--- a thread that waits for an access
-pub record InRow (job : JobData) (t : ℕ) (s : State) (core : Core) : Type 0 where
-  pub waits : Waits job core
-  pub number : core.arch.number ≡ t
-  -- it holds what its row has taken, and what it has seen stays told
-  pub holding : core.arch.held ≡ held_in (trail_of job core)
-  pub own : (k : ℕ) → core.arch.held ≡ Some k → k ≡ own_stack job core.arch.number
-  pub told : AllTold job.image s.book (trail_of job core)
-  pub before : State
-  pub left : Left job (unheld core.arch) before s core.vals
-
--- an ended thread is at rest, and in no row
-abbrev pub Ended : JobData → (t : ℕ) → State → Core → Type 0
-Ended job t s core = AtRest t s.book core.arch.ssp × (trail_of job core ≡ []) × Rests job core × (core.arch.number ≡ t)
-
-abbrev pub CoreStands : JobData → (t : ℕ) → State → Core → Option End → Type 0
-CoreStands job t s core None = InRow job t s core
-CoreStands job t s core (Some (ending.Exit status)) = HasNone t s.book × Rests job core × (core.arch.number ≡ t)
-CoreStands job t s core (Some ending.Group) = Ended job t s core
-CoreStands job t s core (Some ending.Limit) = Ended job t s core
-
--- a thread by its number, where it is born
-abbrev pub ThreadStands : JobData → (t : ℕ) → State → Option Thread → Type 0
-ThreadStands job t s None = HasNone t s.book
-ThreadStands job t s (Some thread) = Held t s.book thread.core.arch.held × CoreStands job t s thread.core thread.core.over
 
 -- ---- what the others do
 

@@ -16,10 +16,11 @@ use Rattle.cet_page.specs.Core.{Core, After, unheld, row_played, changes_of, nex
 use Rattle.cet_page.proofs.WalkRows.{Ends, walk_row}
 use Rattle.std.specs.Prelude.{slice_index, ◌||◌}
 use Rattle.cet_book.specs.Facts.{one}
-use Rattle.cet_own.specs.Stands.{AllTold, paid_draws, paid_births}
+use Rattle.cet_own.specs.Facts.{AllTold, paid_draws, paid_births}
 use Rattle.cet_own.proofs.Told.{all_last, known_told}
 use Rattle.cet_own.proofs.Paid.{counted, came_pays}
-use Rattle.cet_own.proofs.Counters.{CountsBy, no_count, draws_pages, bears_child, bears_nobody, none_born, CountersTell}
+use Rattle.cet_own.proofs.Counters.{none_born, CountersTell}
+use Rattle.cet_own.specs.Claims.{CountsBy, no_count, draws_pages, bears_child, bears_nobody, Stacked, Still}
 use Rattle.cet_words.specs.Change.{Change}
 use Rattle.cet_page.proofs.Walk.{over_play}
 use Rattle.cet_page.specs.Within.{IsCore}
@@ -30,19 +31,17 @@ use Rattle.cet_page.specs.Trail.{Visit, visit, row_trail, trail_of}
 use Rattle.cet_own.specs.Past.{below_frame, frame_pushed, held_by as note_by, held_in, claimed_in, draw_word, next_word, drew, is_draw, numbered, is_number}
 use Rattle.cet_own.proofs.ClaimStays.{claim_stays}
 use Rattle.cet_book.proofs.Comes.{changes_come, changes_last, other_apart}
-use Rattle.cet_own.proofs.Standing.{Stacked}
-use Rattle.cet_own.proofs.Still.{Still, still_own, still_kept}
+use Rattle.cet_own.proofs.Still.{still_own, still_kept}
 use Rattle.cet_own.proofs.Switches.{goes_calm, switches}
 use Rattle.cet_own.proofs.Frame.{during_at, goes, on_came, OnCame}
-use Rattle.cet_own.proofs.Holds.{Holds}
+use Rattle.cet_own.specs.Holds.{Holds}
 use Rattle.cet_book.proofs.Held.{Held}
 use Rattle.cet_own.proofs.HeldAfter.{changes_held}
-use Rattle.cet_own.proofs.Owed.{State, Owed, own_stack, rules}
+use Rattle.cet_own.specs.Owed.{State, Owed, own_stack, rules}
 use Rattle.cet_own.proofs.ClassLaws.{known}
-use Rattle.cet_own.proofs.Parts.{During, Fails}
-use Rattle.cet_own.proofs.Calls.{entries_of}
-use Rattle.cet_own.proofs.Calls as calls
-use Rattle.cet_own.proofs.Threads.{Left, InRow, CoreStands, came_still, came_stands, after_book}
+use Rattle.cet_own.specs.Threads.{During, Fails, entries_of, Left, InRow, CoreStands}
+use Rattle.cet_own.specs.Threads as calls
+use Rattle.cet_own.proofs.Threads.{came_still, came_stands, after_book}
 
 -- what an access of thread t leads to
 pub record Led (job : JobData) (words : List ℕ) (t : ℕ) (s : State) (core : Core) (a : Access) : Type 0 where

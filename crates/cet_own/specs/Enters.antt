@@ -22,6 +22,7 @@ pub record EntersRight (job : JobData) (b : Book) (core : Core) (found : ℕ) : 
   -- the access that finds the word, and what the thread comes to
   pub does : Enters job core (taken job core found).core found (taken job core found).noted
 
+-- wherever the thread is at the entry
 abbrev pub ThreadEnters : JobData → Machine → Book → Option Thread → Type 0
 ThreadEnters job m b None = Unit {0}
 ThreadEnters job m b (Some thread) =

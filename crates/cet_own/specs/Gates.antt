@@ -14,18 +14,18 @@ use Rattle.cet_own.specs.Enters.{TurnEnters}
 use Rattle.cet_own.specs.Restores.{TurnRestores}
 use Rattle.cet_own.specs.ToldTokens.{TurnTokens}
 
--- the answer to an access of a thread that holds this supervisor stack
-pub record FindsGate (b : Book) (held : Option ℕ) (a : Access) (v : ℕ) : Type 0 where
+-- the answer to an access of the gate
+pub record FindsGate (b : Book) (a : Access) (v : ℕ) : Type 0 where
   -- the way in finds a token free exactly where the book's stack is
   pub enters : (k value : ℕ) → k < 8 → a ≡ access.CompareExchange (token_word k) (token k) value → v ≡ token k ↔ stack_of b k ≡ None
   -- the way out reads what the way in stored below the token
-  pub reads : (k : ℕ) → held ≡ Some k → a ≡ access.Load (token_word k - 1) → v ≡ kernel_return
+  pub reads : (k : ℕ) → k < 8 → a ≡ access.Load (token_word k - 1) → v ≡ kernel_return
   -- and finds the token busy
-  pub leaves : (k expected value : ℕ) → held ≡ Some k → a ≡ access.CompareExchange (token_word k) expected value → v ≡ token k + 1
+  pub leaves : (k : ℕ) → k < 8 → a ≡ access.CompareExchange (token_word k) (token k + 1) (token k) → v ≡ token k + 1
 
 abbrev pub AccessGates : Machine → Book → Thread → Option Access → Type 0
 AccessGates m b thread None = Unit {0}
-AccessGates m b thread (Some a) = FindsGate b thread.core.arch.held a (answer m.words a)
+AccessGates m b thread (Some a) = FindsGate b a (answer m.words a)
 
 abbrev pub ThreadGates : JobData → Machine → Book → Option Thread → Type 0
 ThreadGates job m b None = Unit {0}

@@ -8,7 +8,14 @@ pub mod ToldTokens
 pub mod Restores
 pub mod Enters
 pub mod Gates
-pub mod Stands
 pub mod Told
 pub mod Covered
+pub mod Facts
 pub mod Class
+pub mod Holds
+pub mod Claims
+pub mod Frame
+pub mod Owed
+pub mod Threads
+pub mod Stands
+pub mod Keeps

@@ -22,6 +22,11 @@ touches (access.FetchOr word value) w = word == w
 touches (access.FetchAnd word value) w = word == w
 touches (access.CompareExchange word expected value) w = word == w
 
+-- the access exchanges the busy token of a supervisor stack for the free one
+abbrev pub frees_token : Access → (stack : ℕ) → Bool
+frees_token (access.CompareExchange word expected value) k = word == token_word k && (expected == token k + 1 && value == token k)
+frees_token a k = false
+
 -- what stands in the word of an access after it, by its answer
 abbrev pub leaves_word : Access → (answer : ℕ) → ℕ
 leaves_word (access.Look page) v = v

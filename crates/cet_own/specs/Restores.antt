@@ -21,7 +21,7 @@ pub record RestoresRight (job : JobData) (b : Book) (core : Core) (p found : ℕ
   -- the access that finds the word, and what the thread comes to
   pub does : Restores job core (taken job core found).core p found (taken job core found).noted
 
--- a thread that is there is there by one operand
+-- wherever the thread is at such an exchange
 abbrev pub ThreadRestores : JobData → Machine → Book → Option Thread → Type 0
 ThreadRestores job m b None = Unit {0}
 ThreadRestores job m b (Some thread) =

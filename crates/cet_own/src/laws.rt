@@ -11,6 +11,7 @@ ghost use Rattle.cet_own.specs.Event.{book_of};
 ghost use Rattle.cet_own.specs.ExitWord.{EndsRight};
 ghost use Rattle.cet_own.specs.Gates.{GatesExactly, RestoresExactly, TurnTells};
 ghost use Rattle.cet_own.specs.Safe.{Safe};
+ghost use Rattle.cet_own.specs.Keeps.{TurnStands};
 ghost use Rattle.cet_own.specs.Stands.{Stands};
 ghost use Rattle.cet_own.specs.Switched.{Legal, Raises, Switched};
 
@@ -28,6 +29,12 @@ pub fn every_run_stands()
     ensures { (job : JobData) (start : Machine) (turns : List ℕ) → IsJob job → Starts job start → Along (Stands job) (TurnTells job) job start first_book turns }
 {}
 
+/// The ownership invariant is inductive: in any machine of which, with a book, it holds, a turn of whatever
+/// thread keeps it, with the book that has the turn's changes.
+pub fn every_turn_stands()
+    ensures { (job : JobData) (m : Machine) (b : Book) (t : ℕ) → IsJob job → Stands job m b → TurnStands job m b t }
+{}
+
 /// In every run of every job, an RSTORSSP whose look has passed takes a shadow stack exactly where the book
 /// has a parked one with its token at the operand, and is otherwise `#CP` with code 4 and the word found.
 pub fn every_restore_is_exact()
@@ -36,8 +43,7 @@ pub fn every_restore_is_exact()
 
 /// In every run of every job, the first exchange of an entry into the kernel takes the supervisor stack of
 /// the thread's processor exactly where the book has it free, and otherwise a busy record stands with the
-/// word found; and on the way out the thread that holds the stack finds the kernel's return address below
-/// the token, and the token busy.
+/// word found; and the way out always finds the kernel's return address below the token, and the token busy.
 pub fn every_gate_is_exact()
     ensures { (job : JobData) (start : Machine) (turns : List ℕ) → IsJob job → Starts job start → GatesExactly job start first_book turns }
 {}

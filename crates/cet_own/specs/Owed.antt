@@ -12,17 +12,12 @@ use Rattle.cet_book.specs.declared.entries.Entry.{Entry}
 use Rattle.cet_book.specs.Book.{Book, region, top, current_of, stack_of, books_after}
 use Rattle.cet_book.proofs.Relies.{Relies, relies_same, relies_then}
 use Rattle.cet_book.specs.Stack.{slot, word_of, tops}
-use Rattle.cet_own.proofs.Frame.{Rules}
-use Rattle.cet_own.proofs.Holds.{Sound, Holds}
-use Rattle.cet_own.specs.Stands.{IsRestorer, IsEntry, busy}
+use Rattle.cet_own.specs.Frame.{Rules}
+use Rattle.cet_own.specs.Holds.{Sound, Holds}
+use Rattle.cet_own.specs.Facts.{IsRestorer, IsEntry, busy, OwnWord}
 use Rattle.cet_page.specs.Trail.{Visit}
 use Rattle.cet_own.specs.Past.{next_word, draw_word, left_in, restorer_word, has_restorer}
-use Rattle.cet_own.specs.Stands.{OwnWord}
-use Rattle.cet_own.proofs.Still.{Still, KeepsRestorers, TellsBelow}
-use Rattle.cet_own.proofs.Standing.{HasNone}
-use Rattle.cet_own.proofs.Counters.{CountsBy}
-use Rattle.cet_own.proofs.Fits.{Fits}
-use Rattle.cet_own.proofs.HeldAfter.{NotesGate}
+use Rattle.cet_own.specs.Claims.{Still, KeepsRestorers, TellsBelow, HasNone, CountsBy, Fits, NotesGate}
 
 -- what claims speak of
 pub record State : Type 0 where

@@ -2,7 +2,7 @@ use Rattle.std.proofs.Common.{ap, ◌∙◌}
 use Rattle.cet_page.specs.Core.{next_access}
 use Rattle.cet_page.proofs.WithinLaws.{wants}
 use Rattle.cet_run.specs.TracedThreads.{TracedThreadData}
-use Rattle.cet_run.proofs.traced_threads.TracedThread.step.Goals as goal
+use Rattle.cet_run.proofs.traced_threads.TracedThread.ask.Goals as goal
 
 -- a thread that hasn't ended has a next access
 pub unreachable-requires : goal.unreachable-requires

@@ -12,7 +12,7 @@ use Rattle.cet_book.specs.Shape.{IsBook}
 use Rattle.cet_book.specs.Stack.{slot_word, tops}
 use Rattle.cet_own.specs.ExitWord.{IsExitWord}
 use Rattle.cet_own.specs.Past.{draw_word, next_word}
-use Rattle.cet_own.specs.Stands.{Restorers, IsEntry, busy}
+use Rattle.cet_own.specs.Facts.{Restorers, IsEntry, busy}
 
 -- the facts on the book alone
 pub record Sound (b : Book) : Type 0 where
