@@ -99,6 +99,9 @@ fn a_kill_is_reported_in_short(rt: HostRuntime) -> Result<(), Fail> {
     );
 
     let line = summary(alloc, 7, &killed(alloc)?)?;
-    assert_eq!(rt; line.as_slice(), b"bench 7 records 2 process killed 11\n");
+    assert_eq!(rt;
+        line.as_slice(),
+        "bench 7 records 2 process killed 11\n".as_bytes()
+    );
     Ok(())
 }
