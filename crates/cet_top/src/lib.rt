@@ -10,7 +10,7 @@ mod listing;
 mod program_tests;
 mod programs;
 mod runs;
-mod serving;
+mod serve;
 mod status;
 #[cfg(test)]
 mod tests;

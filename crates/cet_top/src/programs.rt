@@ -8,7 +8,7 @@ ghost use Rattle.cet_top.specs.Serves.{Completes, GaveTooMuch, IsUntouched, Serv
 ghost use Rattle.cet_cli.specs.Words.{IsCommand, Means};
 ghost use Rattle.cet_cli.specs.declared.words.Command.{Command};
 
-use crate::serving::serve;
+use crate::serve::serve;
 use crate::status::Status;
 use cet_cli::{CliFault, read_words};
 use cet_io::{Sink, Source};

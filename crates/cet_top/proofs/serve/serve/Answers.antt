@@ -1,7 +1,7 @@
 use Rattle.cet_top.specs.Answer.{Answers, reads}
 use Rattle.cet_top.proofs.InputReads.{taken_is_some}
 use Rattle.cet_top.proofs.Serving.{answer_is_answered, serves_cut, serves_no_memory, serves_read_fault, serves_too_long, serves_written}
-use Rattle.cet_top.proofs.serving.serve.Goals as goal
+use Rattle.cet_top.proofs.serve.serve.Goals as goal
 
 pub returns-in-Err-NoMemory : goal.returns-in-Err-NoMemory
 returns-in-Err-NoMemory g c =
