@@ -4,7 +4,7 @@ ghost use Rattle.std.specs.Prelude.{◌≡◌, ◌⊎◌, ◌≤◌, ◌<◌, �
 ghost use Rattle.cet_cli.specs.Words.{most_swaps};
 ghost use Rattle.cet_ctx.specs.Bench.{bench};
 ghost use Rattle.cet_elf.specs.Written.{written};
-ghost use Rattle.cet_top.specs.Answer.{Answers, Assembles, Benches, Faults, Measures, Refuses, source_of, with_runtime};
+ghost use Rattle.cet_top.specs.Answer.{Assembles, Benches, Faults, Measures, Refuses, source_of, with_runtime};
 ghost use Rattle.cet_top.specs.Reading.{most_input};
 
 use crate::answers::{Answer, faulty};
@@ -56,7 +56,8 @@ fn assemble_text(alloc: Global, bytes: &[u8]) -> Result<Answer, NoMemory>
 /// Assembles the text that the bytes are, with the runtime behind it or without.
 pub(crate) fn assemble_bytes(alloc: Global, runtime: bool, bytes: &[u8]) -> Result<Answer, NoMemory>
     requires short { length bytes.now ≤ most_input }
-    ensures { IfOk result (λ answer. Answers (Command.Asm runtime) bytes.now answer.status answer.output) }
+    ensures { IfOk result (λ answer. Faults (source_of runtime bytes.now) answer.status answer.output
+        ⊎ Assembles (source_of runtime bytes.now) answer.status answer.output) }
 {
     if !runtime {
         return assemble_text(alloc, bytes);
@@ -76,6 +77,19 @@ fn measure(alloc: Global, n: u32, program: &Program) -> Result<Answer, NoMemory>
     Ok(answer)
 }
 
+/// Assembles a text and runs its program, and tells its run in a line.
+fn measure_text(alloc: Global, n: u32, text: &[u8]) -> Result<Answer, NoMemory>
+    requires short { length text.now < 2 ^ 32 - 1 }
+    ensures { IfOk result (λ answer. Faults text.now answer.status answer.output
+        ⊎ Benches n text.now answer.status answer.output) }
+{
+    match assemble(alloc, text) {
+        Ok(program) => measure(alloc, n, &program),
+        Err(AsmFault::At { line, rule }) => Ok(faulty(alloc, line, rule)),
+        Err(AsmFault::NoMemory) => Err(NoMemory),
+    }
+}
+
 /// Assembles and runs the program that swaps contexts `n` times.
 pub(crate) fn bench(alloc: Global, n: u32) -> Result<Answer, NoMemory>
     requires low { 1 ≤ n }
@@ -85,9 +99,6 @@ pub(crate) fn bench(alloc: Global, n: u32) -> Result<Answer, NoMemory>
 {
     let text = bench_text(alloc, n)?;
     let text = with_runtime(alloc, text.as_slice())?;
-    match assemble(alloc, text.as_slice()) {
-        Ok(program) => measure(alloc, n, &program),
-        Err(AsmFault::At { line, rule }) => Ok(faulty(alloc, line, rule)),
-        Err(AsmFault::NoMemory) => Err(NoMemory),
-    }
+    let answer = measure_text(alloc, n, text.as_slice())?;
+    Ok(answer)
 }

@@ -11,29 +11,29 @@ usage_same : (a b : ℕ) → status.Usage a ≡ status.Usage b → a ≡ b
 usage_same a b e = cc
 
 pub returns-in-Ok-clause-command : goal.returns-in-Ok-clause-command
-returns-in-Ok-clause-command g c = inr (c.in-Ok.command, c.in-Ok.ensures)
+returns-in-Ok-clause-command g c = inr (c.in-Ok.command, c.in-Ok.ensures.means)
 
 pub returns-in-Ok-clause-usage : goal.returns-in-Ok-clause-usage
 returns-in-Ok-clause-usage g c = λ n. (
   λ e. absurd (served_no_usage c.in-Ok.command _ _ _ _ c.serve.result n c.serve.ensures e),
-  λ f. absurd (f.refused (c.in-Ok.command, c.in-Ok.ensures)),
+  λ f. absurd (f.refused (c.in-Ok.command, c.in-Ok.ensures.means)),
 )
 
 pub returns-in-Ok-clause-unread : goal.returns-in-Ok-clause-unread
-returns-in-Ok-clause-unread g c = λ n f. absurd (f.refused (c.in-Ok.command, c.in-Ok.ensures))
+returns-in-Ok-clause-unread g c = λ n f. absurd (f.refused (c.in-Ok.command, c.in-Ok.ensures.means))
 
 pub returns-in-Ok-clause-serves : goal.returns-in-Ok-clause-serves
-returns-in-Ok-clause-serves g c = λ d m. means_serves _ c.in-Ok.command d _ _ _ _ _ c.in-Ok.ensures m c.serve.ensures
+returns-in-Ok-clause-serves g c = λ d m. means_serves _ c.in-Ok.command d _ _ _ _ _ c.in-Ok.ensures.means m c.serve.ensures
 
 pub returns-in-Ok-clause-completes : goal.returns-in-Ok-clause-completes
-returns-in-Ok-clause-completes g c = λ d m. served_completes _ _ _ _ _ _ _ (means_serves _ c.in-Ok.command d _ _ _ _ _ c.in-Ok.ensures m c.serve.ensures)
+returns-in-Ok-clause-completes g c = λ d m. served_completes _ _ _ _ _ _ _ (means_serves _ c.in-Ok.command d _ _ _ _ _ c.in-Ok.ensures.means m c.serve.ensures)
 
 pub returns-in-Ok-clause-too_long : goal.returns-in-Ok-clause-too_long
 returns-in-Ok-clause-too_long g c = λ much. served_too_long _ _ _ _ _ _ c.serve.result c.serve.ensures much
 
 pub returns-in-Err-Usage-clause-usage : goal.returns-in-Err-Usage-clause-usage
 returns-in-Err-Usage-clause-usage g c =
-    let faulty : FaultyWord IsCommand _ c.in-Err-Usage.number = subst (HasCause _) c.in-Err-Usage.field-0-is (c.in-Err-Usage.ensures {u = tt}) in
+    let faulty : FaultyWord IsCommand _ c.in-Err-Usage.number = subst (HasCause _) c.in-Err-Usage.field-0-is (c.in-Err-Usage.ensures {u = tt}).means in
     λ n. (
       λ e. subst (FaultyWord IsCommand _) (sym c.in-Err-Usage.number-is ∙ usage_same _ n e) faulty,
       λ f. ap status.Usage (c.in-Err-Usage.number-is ∙ faulty_same IsCommand _ c.in-Err-Usage.number n faulty f),
