@@ -1,0 +1,1 @@
+//! Each public call on its happy path.
