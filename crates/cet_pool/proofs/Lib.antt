@@ -1,0 +1,8 @@
+pub mod Owns
+pub mod Goings
+pub mod Steps
+pub mod Turns
+pub mod Dealing
+pub mod Settling
+pub mod Gatherings
+pub mod Finishing
