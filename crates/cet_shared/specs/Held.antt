@@ -3,7 +3,7 @@ use Rattle.std.specs.Prelude.{◌≡◌, ℕ, ◌-◌, ◌^◌, ◌+◌, ◌==�
 use Rattle.atomic_table.specs.Seated.{TableId}
 use Rattle.cet_words.specs.Job.{JobData}
 use Rattle.cet_words.specs.Layout.{thread_limit}
-use Rattle.cet_page.specs.Core.{Core, After, first_core}
+use Rattle.cet_page.specs.Core.{Core, After, core_at, first_core}
 use Rattle.cet_page.specs.Machine.{Thread, thread_after}
 
 -- The job; the pass's own thread, with those that were gathered behind it; the threads that these bore and that have no pass
@@ -50,11 +50,26 @@ newborn (Some core) = new_thread core ∷ []
 abbrev pub first_view : JobData → Held
 first_view job = record { job = job; threads = new_thread (first_core job) ∷ []; born = []; parts = whole }
 
+abbrev pub first_of : List Thread → Thread
+first_of [] = new_thread (core_at 0)
+first_of (x ∷ xs) = x
+
+abbrev pub rest_of : List Thread → List Thread
+rest_of [] = []
+rest_of (x ∷ xs) = xs
+
+-- the own thread of a pass, and those gathered behind it
+abbrev pub own : Held → Thread
+own view = first_of view.threads
+
+abbrev pub gathered : Held → List Thread
+gathered view = rest_of view.threads
+
 -- the view after an access of its own thread left this
-abbrev pub moved : Held → (own : Thread) → (gathered : List Thread) → After → Held
-moved view own gathered left = record {
+abbrev pub moved : Held → After → Held
+moved view left = record {
   job = view.job;
-  threads = thread_after own left ∷ gathered;
+  threads = thread_after (own view) left ∷ gathered view;
   born = newborn left.child ++ view.born;
   parts = view.parts;
 }
@@ -127,12 +142,7 @@ pub record IsOf (place : Place) (pass : Standing) : Type 0 where
   pub table : pass.table_id ≡ place.table_id
   pub job : pass.view.job ≡ place.job
 
--- the pass's own thread is this one
+-- the pass has a thread of its own, which is this one
 abbrev pub OwnIs : Core → List Thread → Type 0
 OwnIs core [] = ⊥
 OwnIs core (x ∷ xs) = x.core ≡ core
-
--- it hasn't ended
-abbrev pub OwnGoes : List Thread → Type 0
-OwnGoes [] = ⊥
-OwnGoes (x ∷ xs) = x.core.over ≡ None

@@ -9,7 +9,7 @@ use Rattle.cet_page.specs.Core.{Core, After, next_access, taken}
 use Rattle.cet_page.specs.Machine.{Thread}
 use Rattle.cet_cpu.specs.Cpu.{CpuData}
 use Rattle.cet_cpu.specs.declared.threads.Taken.{Taken}
-use Rattle.cet_shared.specs.Held.{Held, brought, moved, picked}
+use Rattle.cet_shared.specs.Held.{Held, brought, moved, own, picked}
 use Rattle.cet_shared.specs.Rule.{Among}
 
 -- the word of an access
@@ -45,40 +45,24 @@ left_by job core found = taken job core (told_by (next_access job core) found)
 
 -- The pass's own thread made its next access, which found this in its word. What that leaves stands in the view, and a thread
 -- that it bore has a higher number.
-pub record Moves (old : Held) (own : Thread) (gathered : List Thread) (found : ℕ) (new : Held) : Type 0 where
-  pub view : new ≡ moved old own gathered (left_by old.job own.core found)
-  pub above : (child : Core) → (left_by old.job own.core found).child ≡ Some child → own.core.arch.number < child.arch.number
-
-abbrev pub MovesBy : Held → List Thread → (found : ℕ) → Held → Type 0
-MovesBy old [] found new = ⊥
-MovesBy old (own ∷ gathered) found new = Moves old own gathered found new
+pub record Moves (old : Held) (found : ℕ) (new : Held) : Type 0 where
+  pub view : new ≡ moved old (left_by old.job (own old).core found)
+  pub above : (child : Core) → (left_by old.job (own old).core found).child ≡ Some child → (own old).core.arch.number < child.arch.number
 
 -- What `perform` leaves and answers: the pass's own thread made its next access, as one step of the table, and the answer is the
 -- record, the child and the end that came of it.
-pub record Performed (old : Held) (own : Thread) (gathered : List Thread) (new : Held) (answer : Taken) : Type 0 where
+pub record Performs (old new : Held) (answer : Taken) : Type 0 where
   pub found : ℕ
-  pub moves : Moves old own gathered found new
-  pub noted : answer.noted ≡ (left_by old.job own.core found).noted
-  pub child : option_map (λ (cpu : CpuData). cpu.core) answer.child ≡ (left_by old.job own.core found).child
-  pub end : answer.end ≡ (left_by old.job own.core found).core.over
-
-abbrev pub PerformedBy : Held → List Thread → Held → Taken → Type 0
-PerformedBy old [] new answer = ⊥
-PerformedBy old (own ∷ gathered) new answer = Performed old own gathered new answer
-
-abbrev pub Performs : (old new : Held) → Taken → Type 0
-Performs old new answer = PerformedBy old old.threads new answer
-
--- the next access of the pass's own thread
-abbrev pub NextBy : JobData → Access → List Thread → Type 0
-NextBy job access [] = ⊥
-NextBy job access (own ∷ gathered) = next_access job own.core ≡ Some access
+  pub moves : Moves old found new
+  pub noted : answer.noted ≡ (left_by old.job (own old).core found).noted
+  pub child : option_map (λ (cpu : CpuData). cpu.core) answer.child ≡ (left_by old.job (own old).core found).child
+  pub end : answer.end ≡ (left_by old.job (own old).core found).core.over
 
 -- ---- the plays of the table's steps
 
 -- the pass's own thread moved
 abbrev pub Acts : {S : Type 0} → Step S → Me S Held → ℕ → Me S Held → Type 0
-Acts step before found after = (after.1 ≡ before.1) × MovesBy before.0 before.0.threads found after.0
+Acts step before found after = (after.1 ≡ before.1) × Moves before.0 found after.0
 
 -- the child whose number is that of the word that was read comes before the others, and is the one with that number
 abbrev pub Brings : {S : Type 0} → Step S → Me S Held → ℕ → Me S Held → Type 0

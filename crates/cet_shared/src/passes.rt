@@ -2,7 +2,7 @@
 
 ghost use Rattle.std.specs.Prelude.{◌≡◌, []};
 ghost use Rattle.cet_cpu.specs.Cpu.{IsCpu};
-ghost use Rattle.cet_shared.specs.Held.{OwnIs};
+ghost use Rattle.cet_shared.specs.Held.{own};
 
 use crate::rules::View;
 use atomic_table::Seat;
@@ -32,7 +32,7 @@ impl Model for Pass {
 impl Pass {
     /// The guest thread.
     pub fn cpu(&self) -> &Cpu
-        ensures own { OwnIs result.now.core self.now.view.threads }
+        ensures own { result.now.core ≡ (own self.now.view).core }
         ensures state { IsCpu self.now.view.job result.now }
     {
         &self.cpu

@@ -1,14 +1,15 @@
 //! The table of words that guest threads share.
 
-ghost use Rattle.std.specs.Prelude.{◌≡◌, ℕ, ◌<◌, length, IfOk, IfSome};
+ghost use Rattle.std.specs.Prelude.{◌≡◌, ℕ, ◌<◌, length, None, Some, IfOk, IfSome};
 ghost use Rattle.std.specs.Mem.Slots.{slots_items, slots_len, IsFull};
 ghost use Rattle.cet_words.specs.Access.{InRange};
 ghost use Rattle.cet_words.specs.Layout.{word_count};
 ghost use Rattle.cet_cpu.specs.Cpu.{IsCpu};
-ghost use Rattle.cet_shared.specs.Held.{IsOf, OwnGoes, alone, first_view, new_thread, together, whole, without_child};
+ghost use Rattle.cet_page.specs.Core.{next_access};
+ghost use Rattle.cet_shared.specs.Held.{IsOf, OwnIs, alone, own, first_view, new_thread, together, whole, without_child};
 ghost use Rattle.cet_shared.specs.Rule.{Among};
 ghost use Rattle.cet_shared.specs.Keys.{job_of};
-ghost use Rattle.cet_shared.specs.Performed.{MovesBy, NextBy, Performs, told, word_of};
+ghost use Rattle.cet_shared.specs.Performed.{Moves, Performs, told, word_of};
 ghost use Rattle.cet_shared.specs.Closing.{AreAll, HoldsAll, IsRun};
 
 use crate::passes::Pass;
@@ -63,7 +64,7 @@ impl Shared {
     pub fn perform(&self, job: &Job, pass: &mut Pass) -> Taken
         requires job { self.now.job ≡ job.now }
         requires pass { IsOf self.now pass.old }
-        requires goes { OwnGoes pass.old.view.threads }
+        requires goes { (own pass.old.view).core.over ≡ None }
         ensures step { Performs pass.old.view pass.new.view result }
         ensures pass { IsOf self.now pass.new }
         ensures born { IfSome result.child (IsCpu job.now) }
@@ -129,10 +130,11 @@ impl Shared {
 fn act(shared: &Words, seat: &mut Seat<(), View>, access: Access) -> u64
     requires table { (seat.old.table_id ≡ shared.now.table_id) × (shared.now.table_id.words ≡ word_count) }
     requires job { seat.old.me.0.job ≡ job_of shared.now.key }
-    requires next { NextBy (job_of shared.now.key) access seat.old.me.0.threads }
+    requires own { OwnIs (own seat.old.me.0).core seat.old.me.0.threads }
+    requires next { next_access (job_of shared.now.key) (own seat.old.me.0).core ≡ Some access }
     requires range { InRange access }
     ensures table { (seat.new.table_id ≡ seat.old.table_id) × (seat.new.me.1 ≡ seat.old.me.1) }
-    ensures step { (found : ℕ) × MovesBy seat.old.me.0 seat.old.me.0.threads found seat.new.me.0 × (result ≡ told access found) }
+    ensures step { (found : ℕ) × Moves seat.old.me.0 found seat.new.me.0 × (result ≡ told access found) }
 {
     match access {
         Access::Look(page) => shared.load::<OneAccess>(seat, (FIRST_ENTRY_WORD + page) as usize),
