@@ -1,5 +1,5 @@
 -- The threads that were gathered by number are those of a run, and its outcome is theirs. Source: own.
-use Rattle.std.proofs.Common.{◌≡◌, ◌≢◌, ◌⊎◌, inl, inr, ⊎_elim, ℕ, zero, suc, ◌+◌, ◌<◌, ◌≤◌, arith, Bool, true, false, List, [], ◌∷◌, ◌++◌, length, drop, map, Option, Some, None, refl, sym, ap, ◌∙◌, subst, append-nil}
+use Rattle.std.proofs.Common.{◌≡◌, ◌≢◌, ◌⊎◌, inl, inr, ⊎_elim, ℕ, zero, suc, ◌+◌, ◌<◌, ◌≤◌, arith, Bool, true, false, List, [], ◌∷◌, ◌++◌, length, drop, map, Option, Some, None, refl, sym, ap, ◌∙◌, subst, append-nil, rules}
 use Rattle.std.specs.Prelude.{All, IsSome, ◌==◌, cond, nat_lt, slice_get}
 use Rattle.std.proofs.lemmas.Bool.Decides.{nat_tests}
 use Rattle.std.proofs.lemmas.List.Elements.{All-cons, All-nil}
@@ -106,7 +106,7 @@ all_over (x ∷ xs) h = All-cons (λ (t : Thread). IsSome t.core.over) x xs (som
   where
     some : (o : Option End) → o ≢ None → IsSome o
     some None ne = absurd (ne refl)
-    some (Some e) ne = tt
+    some (Some e) ne = search rules
 
 module _ (job : JobData) (place : Place) (done : Gathered) (words : List ℕ) (same : place.job ≡ job) (g : IsGathered place done) (r : IsRun place.job words done.last.view) where
   run_is : run place.job r.start r.schedule ≡ run job r.start r.schedule

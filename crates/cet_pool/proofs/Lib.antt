@@ -1,4 +1,3 @@
-pub mod Owns
 pub mod Goings
 pub mod Steps
 pub mod Turns

@@ -1,6 +1,8 @@
 -- Passes are laid aside, and what a round comes to. Source: own.
-use Rattle.std.proofs.Common.{◌≡◌, ◌≢◌, ℕ, zero, suc, ◌+◌, ◌<◌, ◌≤◌, arith, List, [], ◌∷◌, ◌++◌, length, get_or, Option, Some, None, Result, Ok, Err, refl, sym, ap, ◌∙◌, subst, append-nil, append_assoc, length-append}
+use Rattle.std.proofs.Common.{◌≡◌, ◌≢◌, Bool, true, false, ℕ, zero, suc, ◌+◌, ◌<◌, ◌≤◌, arith, List, [], ◌∷◌, ◌++◌, length, get_or, Option, Some, None, Result, Ok, Err, refl, sym, ap, ◌∙◌, subst, append-nil, append_assoc, length-append}
 use Rattle.std.specs.Prelude.{All, IfOk}
+use Rattle.std.specs.Option.{is_some}
+use Rattle.cet_isa.specs.declared.threads.End.{End}
 use Rattle.std.specs.List.{AllZip}
 use Rattle.std.specs.List.Sorted.{IsPermutation}
 use Rattle.std.specs.declared.vec.Vec.{Vec}
@@ -8,13 +10,25 @@ use Rattle.std.specs.declared.alloc.Global.{Global}
 use Rattle.std.proofs.lemmas.List.Elements.{All-nil, All-cons, All-append, All-head, All-push, All-tail}
 use Rattle.std.proofs.lemmas.List.Sorted.{All-permutation, IsPermutation-append_comm, IsPermutation-append_left, IsPermutation-append_right, IsPermutation-middle, IsPermutation-refl, IsPermutation-sym, IsPermutation-to_front, IsPermutation-trans, length_permutation}
 use Rattle.cet_page.specs.Within.{IsCore}
-use Rattle.cet_shared.specs.Held.{Place}
+use Rattle.cet_words.specs.Job.{JobData}
+use Rattle.cet_page.specs.Machine.{Thread}
+use Rattle.cet_shared.specs.Held.{Held, IsOf, Place, Standing, first_of, first_view}
 use Rattle.cet_pool.specs.declared.lives.Live.{Live}
 use Rattle.cet_pool.specs.declared.workers.Bin.{Bin}
 use Rattle.cet_pool.specs.Going.{Goes, IsLive, IsOver, IsReady, own}
 use Rattle.cet_pool.specs.Rounds.{AllOk, Answer, AnswersBin, Collected, HasEnded, IsGoing, Parted, Settled, Turned, outs_of, spread}
 use Rattle.cet_pool.proofs.Goings.{goes_as, goes_beside, goes_less, goes_none, goes_then}
 use Rattle.cet_pool.proofs.Dealing.{all_apart}
+
+-- ---- a thread has ended, or goes on
+
+pub is_over : (o : Option End) (b : Bool) → b ≡ is_some o → b ≡ true → o ≢ None
+is_over None b e t n = let f : b ≡ false = e in absurd (cc)
+is_over (Some x) b e t n = absurd (cc)
+
+pub is_going : (o : Option End) (b : Bool) → b ≡ is_some o → b ≡ false → o ≡ None
+is_going None b e t = refl
+is_going (Some x) b e t = let f : b ≡ true = e in absurd (cc)
 
 -- ---- one after another
 
@@ -156,3 +170,17 @@ module _ (place : Place) where
       (All-append (IsLive place) (outs_of rs) aside (turned_lives bins rs turned ok) (over_lives aside over))
       c.same c.going (c.ended (over_ended aside over))
       (goes_less place.job (length xs) (n + 0) (xs ++ aside) (outs_of rs ++ aside) (omega arith) beside)
+
+  -- ---- the first pass
+
+  pub first_live : (pass : Standing) (job : JobData) → IsOf place pass → pass.view ≡ first_view job → IsLive place (record { pass = pass; records = [] })
+  first_live pass job of is = record {
+    of = of;
+    threads = ap (λ (v : Held). v.threads) is ∙ ap (λ (t : Thread). t ∷ []) (sym (ap (λ (v : Held). first_of v.threads) is));
+    born = ap (λ (v : Held). v.born) is;
+    trace = sym (ap (λ (v : Held). (first_of v.threads).trace) is);
+  }
+
+  pub start_settled : (x : Live) (lives ended : List Live) → IsLive place x → Parted (x ∷ []) [] [] [] lives ended → Settled place 0 (x ∷ []) lives ended
+  start_settled x lives ended here p =
+      settled 0 (x ∷ []) (x ∷ []) lives ended (All-cons (IsLive place) x [] here (All-nil (IsLive place))) p.same (p.going (All-nil IsGoing)) (p.ended (All-nil HasEnded)) (goes_none place.job (x ∷ []))

@@ -26,10 +26,10 @@ use Rattle.cet_page.specs.declared.finishes.Finish.{Finish}
 use Rattle.cet_page.proofs.NumberLaws.{accesses_run_out, number_taken}
 use Rattle.cet_own.proofs.Naming.{births_told}
 use Rattle.cet_run.specs.TracedThreads.{core_of}
-use Rattle.cet_shared.specs.Held.{Held, IsOf, Place, alone, newborn, new_thread, without, without_child}
-use Rattle.cet_shared.specs.Performed.{Performed, PerformedBy, Performs, left_by, told_by}
+use Rattle.cet_shared.specs.Held.{Held, IsOf, Place, alone, first_of, newborn, new_thread, rest_of, without, without_child}
+use Rattle.cet_shared.specs.Performed.{Performs, left_by, told_by}
 use Rattle.cet_pool.specs.declared.lives.Live.{Live}
-use Rattle.cet_pool.specs.Going.{Accessed, Goes, IsLive, IsReady, Numbers, OfOne, Tells, Went, left_at, most_left, own, own_of, weight}
+use Rattle.cet_pool.specs.Going.{Accessed, Goes, IsLive, IsReady, Numbers, OfOne, Tells, Went, left_at, most_left, own, weight}
 use Rattle.cet_pool.proofs.Goings.{goes_beside, goes_less, goes_moved, goes_none, goes_then, one_append, one_here, one_is, one_left, one_right, pow_above, pow_up, weigh_one}
 
 -- ---- a child
@@ -65,13 +65,13 @@ core_number job core (Some e) h = h.state.number
 -- ---- the weight
 
 module _ (job : JobData) (core : Core) (answer : ℕ) (is : IsCore job core) (goes : core.over ≡ None) where
-  abbrev after : Core
-  after = (taken job core answer).core
+  abbrev moved_on : Core
+  moved_on = (taken job core answer).core
 
   abbrev base : ℕ
   base = most_left job + 1
 
-  less : left_of job after after.over < left_of job core core.over
+  less : left_of job moved_on moved_on.over < left_of job core core.over
   less = accesses_run_out.falls job core answer is goes
 
   weight_one : (l l' s : ℕ) → l' < l → 0 < s → l' * s + 1 ≤ l * s
@@ -84,24 +84,24 @@ module _ (job : JobData) (core : Core) (answer : ℕ) (is : IsCore job core) (go
       let n : c * small ≤ most * small = mul-le-mul_right small le in
       omega arith
 
-  pub weight_falls : weight job after + 1 ≤ weight job core
+  pub weight_falls : weight job moved_on + 1 ≤ weight job core
   unfolding weight
   weight_falls =
-      let same = ap (λ n. left_of job after after.over * base ^ (thread_limit - 1 - n)) (number_taken job core answer) in
-      let w = weight_one (left_of job core core.over) (left_of job after after.over) (base ^ (thread_limit - 1 - core.arch.number)) less (pow_above base (thread_limit - 1 - core.arch.number) (omega arith)) in
+      let same = ap (λ n. left_of job moved_on moved_on.over * base ^ (thread_limit - 1 - n)) (number_taken job core answer) in
+      let w = weight_one (left_of job core core.over) (left_of job moved_on moved_on.over) (base ^ (thread_limit - 1 - core.arch.number)) less (pow_above base (thread_limit - 1 - core.arch.number) (omega arith)) in
       omega (arith, same, w)
 
-  pub weight_bears : (child : Core) → IsCore job child → core.arch.number < child.arch.number → (weight job after + weight job child) + 1 ≤ weight job core
+  pub weight_bears : (child : Core) → IsCore job child → core.arch.number < child.arch.number → (weight job moved_on + weight job child) + 1 ≤ weight job core
   unfolding weight
   weight_bears child there above =
       let low = core_number job child child.over there in
       let small = thread_limit - 1 - child.arch.number in
       let large = thread_limit - 1 - core.arch.number in
-      let same = ap (λ n. left_of job after after.over * base ^ (thread_limit - 1 - n)) (number_taken job core answer) in
+      let same = ap (λ n. left_of job moved_on moved_on.over * base ^ (thread_limit - 1 - n)) (number_taken job core answer) in
       let up : base ^ suc small ≤ base ^ large = pow_up base (suc small) large (omega arith) (omega arith) in
       let e : base ^ suc small ≡ base * base ^ small = pow-succ' base small in
       let big : (most_left job + 1) * base ^ small ≤ base ^ large = omega arith in
-      let w = weight_two (left_of job core core.over) (left_of job after after.over) (left_of job child child.over) (most_left job) (base ^ small) (base ^ large)
+      let w = weight_two (left_of job core core.over) (left_of job moved_on moved_on.over) (left_of job child child.over) (most_left job) (base ^ small) (base ^ large)
               less (pow_above base small (omega arith)) (accesses_run_out.most job child) big in
       omega (arith, same, w)
 
@@ -174,7 +174,7 @@ module _ (place : Place) (before mid : Live) (old : List Live) (ready : IsReady 
   left child a = thread_after (own before) (left_at place.job before a.found)
 
   own_left : (child : Option CpuData) → (a : Accessed place before mid child) → own mid ≡ left child a
-  own_left child a = ap own_of a.threads
+  own_left child a = ap first_of a.threads
 
   pub went_none : Accessed place before mid None → Went place 1 before mid old old
   went_none a =
@@ -190,8 +190,8 @@ module _ (place : Place) (before mid : Live) (old : List Live) (ready : IsReady 
   pub went_some : (child : CpuData) (after kid : Live) (a : Accessed place before mid (Some child)) → IsOf place after.pass → after.pass.view ≡ without_child child.core.arch.number mid.pass.view → after.records ≡ mid.records
       → IsOf place kid.pass → kid.pass.view ≡ alone place.job (new_thread child.core) → kid.records ≡ [] → IsCpu place.job child → Went place 1 before after old (old ++ kid ∷ [])
   went_some child after kid a after_of after_is after_records kid_of kid_is kid_records cpu =
-      let same : own after ≡ left (Some child) a = ap (λ (v : Held). own_of v.threads) after_is ∙ own_left (Some child) a in
-      let young : own kid ≡ new_thread child.core = ap (λ (v : Held). own_of v.threads) kid_is in
+      let same : own after ≡ left (Some child) a = ap (λ (v : Held). first_of v.threads) after_is ∙ own_left (Some child) a in
+      let young : own kid ≡ new_thread child.core = ap (λ (v : Held). first_of v.threads) kid_is in
       let born_is : mid.pass.view.born ≡ new_thread child.core ∷ [] = a.born ∙ ap newborn (sym a.bears) in
       record {
         children = kid ∷ [];
@@ -209,17 +209,15 @@ module _ (place : Place) (before mid : Live) (old : List Live) (ready : IsReady 
 -- what `perform` tells of a pass's only thread, and its records
 pub accessed : (place : Place) (before after : Live) (answer : Taken) → IsLive place before → Performs before.pass.view after.pass.view answer → IsOf place after.pass → after.records ≡ traced before.records answer.noted → Accessed place before after answer.child
 accessed place before after answer live p of records =
-    let q : Performed before.pass.view (own before) [] after.pass.view answer = subst (λ (l : List Thread). PerformedBy before.pass.view l after.pass.view answer) live.threads p in
-    let job = live.of.job in
-    let left_is : left_by before.pass.view.job (own before).core q.found ≡ left_at place.job before q.found = ap (λ (j : JobData). left_by j (own before).core q.found) job in
-    let m = q.moves in
+    let left_is : left_by before.pass.view.job (own before).core p.found ≡ left_at place.job before p.found = ap (λ (j : JobData). left_by j (own before).core p.found) live.of.job in
+    let m = p.moves in
     record {
-      found = q.found;
+      found = p.found;
       of = of;
-      threads = ap (λ (v : Held). v.threads) m.view ∙ ap (λ (l : After). thread_after (own before) l ∷ []) left_is;
-      born = ap (λ (v : Held). v.born) m.view ∙ ap (λ (l : List Thread). newborn (left_by before.pass.view.job (own before).core q.found).child ++ l) live.born ∙ append-nil (newborn (left_by before.pass.view.job (own before).core q.found).child) ∙ ap (λ (l : After). newborn l.child) left_is;
-      trace = records ∙ ap (λ (t : List Record). traced t answer.noted) live.trace ∙ ap (traced (own before).trace) q.noted ∙ ap (λ (l : After). traced (own before).trace l.noted) left_is;
-      bears = q.child ∙ ap (λ (l : After). l.child) left_is;
+      threads = ap (λ (v : Held). v.threads) m.view ∙ ap (λ (l : After). thread_after (own before) l ∷ rest_of before.pass.view.threads) left_is ∙ ap (λ (l : List Thread). thread_after (own before) (left_at place.job before p.found) ∷ rest_of l) live.threads;
+      born = ap (λ (v : Held). v.born) m.view ∙ ap (λ (l : After). newborn l.child ++ before.pass.view.born) left_is ∙ ap (λ (l : List Thread). newborn (left_at place.job before p.found).child ++ l) live.born ∙ append-nil (newborn (left_at place.job before p.found).child);
+      trace = records ∙ ap (λ (t : List Record). traced t answer.noted) live.trace ∙ ap (traced (own before).trace) p.noted ∙ ap (λ (l : After). traced (own before).trace l.noted) left_is;
+      bears = p.child ∙ ap (λ (l : After). l.child) left_is;
       above = λ core e. m.above core (ap (λ (l : After). l.child) left_is ∙ e);
     }
 

@@ -26,13 +26,13 @@ pub record IsGathered (place : Place) (done : Gathered) : Type 0 where
   pub threads : done.threads ≡ map thread_out done.last.view.threads
   pub ssps : done.ssps ≡ kept_pointers done.last.view.threads
 
--- the same while the threads of some passes wait: of all these, those are not gathered yet
-pub record IsGathering (place : Place) (all waiting : List Live) (done : Gathered) : Type 0 where
+-- the same while the threads of some passes wait: of these, in order, those are not gathered yet
+pub record IsGathering (place : Place) (ordered waiting : List Live) (done : Gathered) : Type 0 where
   pub of : IsOf place done.last
   pub born : done.last.view.born ≡ []
-  pub all : done.last.view.threads ++ map own waiting ≡ map own all
-  pub threads : done.threads ++ map thread_out (map own waiting) ≡ map thread_out (map own all)
-  pub ssps : done.ssps ++ kept_pointers (map own waiting) ≡ kept_pointers (map own all)
+  pub all : done.last.view.threads ++ map own waiting ≡ map own ordered
+  pub threads : done.threads ++ map thread_out (map own waiting) ≡ map thread_out (map own ordered)
+  pub ssps : done.ssps ++ kept_pointers (map own waiting) ≡ kept_pointers (map own ordered)
 
 -- these turns lead from the start to the threads that the view holds, and no others
 abbrev pub LeadsTo : JobData → Held → (start : Machine) → (turns : List ℕ) → Type 0

@@ -5,24 +5,19 @@ use Rattle.cet_words.specs.Job.{JobData}
 use Rattle.cet_words.specs.Layout.{thread_limit}
 use Rattle.cet_isa.specs.declared.threads.Record.{Record}
 use Rattle.cet_cpu.specs.Cpu.{CpuData}
-use Rattle.cet_page.specs.Core.{Core, After, first_core}
+use Rattle.cet_page.specs.Core.{Core, After}
 use Rattle.cet_page.specs.Left.{left_of}
 use Rattle.cet_page.specs.Machine.{Thread, thread_after}
 use Rattle.cet_page.specs.Numbered.{TellsOf}
 use Rattle.cet_page.specs.Within.{IsCore}
 use Rattle.cet_run.specs.TracedThreads.{core_of}
-use Rattle.cet_shared.specs.Held.{IsOf, Place, newborn, new_thread, no_job}
+use Rattle.cet_shared.specs.Held.{IsOf, Place, first_of, newborn}
 use Rattle.cet_shared.specs.Performed.{left_by}
 use Rattle.cet_pool.specs.declared.lives.Live.{Live}
 
--- the first of these threads
-abbrev pub own_of : List Thread → Thread
-own_of [] = new_thread (first_core no_job)
-own_of (x ∷ xs) = x
-
 -- a pass's own thread
 abbrev pub own : Live → Thread
-own live = own_of live.pass.view.threads
+own live = first_of live.pass.view.threads
 
 -- The pass is one of this table, with its own thread and no other, and the records are that thread's.
 pub record IsLive (place : Place) (live : Live) : Type 0 where
@@ -32,15 +27,15 @@ pub record IsLive (place : Place) (live : Live) : Type 0 where
   pub trace : live.records ≡ (own live).trace
 
 -- its thread hasn't ended
-pub record IsReady (place : Place) (live : Live) : Type 0 where
-  pub live : IsLive place live
-  pub goes : (own live).core.over ≡ None
-  pub state : IsCore place.job (own live).core
+pub record IsReady (place : Place) (pass : Live) : Type 0 where
+  pub live : IsLive place pass
+  pub goes : (own pass).core.over ≡ None
+  pub state : IsCore place.job (own pass).core
 
 -- its thread has ended
-pub record IsOver (place : Place) (live : Live) : Type 0 where
-  pub live : IsLive place live
-  pub over : (own live).core.over ≢ None
+pub record IsOver (place : Place) (pass : Live) : Type 0 where
+  pub live : IsLive place pass
+  pub over : (own pass).core.over ≢ None
 
 -- ---- how they go on
 

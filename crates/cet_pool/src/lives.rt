@@ -20,7 +20,6 @@ pub struct Live {
     pub records: Records,
 }
 
-#[tactic(auto, using(crate::proofs::Owns::own_core))]
 impl Live {
     /// The number of its thread.
     pub fn number(&self) -> u8
