@@ -141,7 +141,7 @@ module _ (place : Place) where
   all_over (x ∷ xs) l e =
       All-cons (IsOver place) x xs (record { live = All-head (IsLive place) x xs l; over = All-head HasEnded x xs e }) (all_over xs (All-tail (IsLive place) x xs l) (All-tail HasEnded x xs e))
 
-  over_lives : (xs : List Live) → All (IsOver place) xs → All (IsLive place) xs
+  pub over_lives : (xs : List Live) → All (IsOver place) xs → All (IsLive place) xs
   over_lives [] h = All-nil (IsLive place)
   over_lives (x ∷ xs) h = let o = All-head (IsOver place) x xs h in All-cons (IsLive place) x xs o.live (over_lives xs (All-tail (IsOver place) x xs h))
 

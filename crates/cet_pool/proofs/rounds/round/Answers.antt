@@ -8,7 +8,7 @@ use Rattle.cet_pool.proofs.rounds.round.Goals as goal
 
 pub all_turns-requires-clause-ready : goal.all_turns-requires-clause-ready
 all_turns-requires-clause-ready g c =
-    dealt_ready c.args.shared.now c.args.lives.items c.drop_empty.new.bins.items (subst (λ (l : List Live). IsPermutation c.args.lives.items l) (sym c.drop_empty.ensures) c.in_ok-bins.ensures) c.requires.ready
+    λ κs within. dealt_ready c.args.shared.now c.args.lives.items c.drop_empty.new.bins.items (subst (λ (l : List Live). IsPermutation c.args.lives.items l) (sym c.drop_empty.ensures) c.in_ok-bins.ensures) c.requires.ready
 
 pub returns : goal.returns
 returns g c =
