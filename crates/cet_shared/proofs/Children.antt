@@ -48,9 +48,9 @@ picked_is y k [] a is once = absurd a
 picked_is y k (x ∷ xs) a is once = ⊎_elim
     (λ (t : (eqb (number_of x) k ≡ true) × (number_of x ≡ k)). ap (λ b. cond b (x ∷ []) (picked k xs)) t.0 ∙ ap (λ (z : Thread). z ∷ []) (once x (inl refl) t.1))
     (λ (t : (eqb (number_of x) k ≡ false) × (number_of x ≢ k)). ap (λ b. cond b (x ∷ []) (picked k xs)) t.0 ∙ ⊎_elim
-        (λ (e : x ≡ y). absurd (t.1 (ap number_of e ∙ is)))
-        (λ (rest : Among y xs). picked_is y k xs rest is (λ z among. once z (inr among)))
-        a)
+    (λ (e : x ≡ y). absurd (t.1 (ap number_of e ∙ is)))
+    (λ (rest : Among y xs). picked_is y k xs rest is (λ z among. once z (inr among)))
+    a)
     (eqb_tells (number_of x) k)
 
 -- a child with the number that comes first leaves the others
@@ -75,9 +75,9 @@ brought_stands job count k v (inl none) = inl (ap (brought k) none)
 brought_stands job count k v (inr is) = inr record {
   knows = is.knows;
   parts = (
-    let p = is.parts in
-    let o = owed_brought k v.born in
-    omega arith);
+      let p = is.parts in
+      let o = owed_brought k v.born in
+      omega arith);
 } where
   owed_front : (b : Bool) (x : Thread) (xs ps ws : List Thread) → owed (ps ++ ws) ≡ owed xs → owed (cond b (x ∷ []) ps ++ cond b xs (x ∷ ws)) ≡ owed (x ∷ xs)
   owed_front true x xs ps ws e = refl
@@ -98,17 +98,16 @@ brings job id me slots k st is s h len at fits =
     let threads = (run job h.start h.schedule).threads in
     let w = brought k v in
     let held_in : (y : Thread) → Among y (held w) → Among y (held v) =
-            λ y a. ⊎_elim
-                (λ (t : Among y v.threads). among_left y v.threads v.born t)
-                (λ (t : Among y (picked k v.born ++ without k v.born)). among_right y v.threads v.born (among_brought y k v.born t))
-                (among_append y v.threads (picked k v.born ++ without k v.born) a) in
+    λ y a. ⊎_elim
+    (λ (t : Among y v.threads). among_left y v.threads v.born t)
+    (λ (t : Among y (picked k v.born ++ without k v.born)). among_right y v.threads v.born (among_brought y k v.born t))
+    (among_append y v.threads (picked k v.born ++ without k v.born) a) in
     let counts : (n : ℕ) → times n (held w) ≡ times n (held v) =
-            λ n. (let a = times-append n v.threads (picked k v.born ++ without k v.born) in let b = times-append n v.threads v.born in let c = times_brought n k v.born in omega arith) in
+    λ n. (let a = times-append n v.threads (picked k v.born ++ without k v.born) in let b = times-append n v.threads v.born in let c = times_brought n k v.born in omega arith) in
     let found : (y : Thread) → Among y v.born → number_of y ≡ k → slice_get threads k ≡ Some y =
-            λ y a e. subst (λ n. slice_get threads n ≡ Some y) e (h.threads_are.each id v y at (among_right y v.threads v.born a)) in
+    λ y a e. subst (λ n. slice_get threads n ≡ Some y) e (h.threads_are.each id v y at (among_right y v.threads v.born a)) in
     let alone_there : (y : Thread) → Among y v.born → number_of y ≡ k → picked k v.born ≡ y ∷ [] =
-            λ y a e. picked_is y k v.born a e (λ z b q. (let both : Some z ≡ Some y = sym (found z b q) ∙ found y a e in let same : z ≡ y = cc in same)) in
-    (
+    λ y a e. picked_is y k v.born a e (λ z b q. (let both : Some z ≡ Some y = sym (found z b q) ∙ found y a e in let same : z ≡ y = cc in same)) in (
       w,
       keeps,
       tt,
@@ -122,5 +121,5 @@ brings job id me slots k st is s h len at fits =
         views_are = parts.views_set job (length threads) s.views id w h.views_are (brought_stands job (length threads) k v (h.views_are id v at));
         parts_are = parts.parts_moved job s.views id v w at refl h.parts_are;
       }),
-      (refl, (ap (λ (n : ℕ). brought n v) (sym is), λ y a e. ap (λ (n : ℕ). picked n v.born) is ∙ alone_there y a (e ∙ is))),
+      (refl, ap (λ (n : ℕ). brought n v) (sym is), λ y a e. ap (λ (n : ℕ). picked n v.born) is ∙ alone_there y a (e ∙ is)),
     )

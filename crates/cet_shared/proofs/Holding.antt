@@ -112,7 +112,11 @@ module _ (threads : List Thread) (views : List Held) (h : HoldExactly threads vi
       other y among = stays y (rest_apart y among) (h.each id v y at (subst (Among y) (sym held_before) (inr among)))
 
   count_child : (o : Option Core) → child ≡ o → (n : ℕ) → times n (newborn o) + bit (nat_lt n (length threads)) ≡ bit (nat_lt n (length (with_child (slice_set threads (number_of x) x') o)))
-  count_child None e n = ap (λ i. bit (nat_lt n i)) (sym (length-set threads (number_of x) x'))
+  count_child None e n =
+      let k : ℕ = bit (nat_lt n (length threads)) in
+      let same : k ≡ bit (nat_lt n (length (slice_set threads (number_of x) x'))) = ap (λ i. bit (nat_lt n i)) (sym (length-set threads (number_of x) x')) in
+      let sum : 0 + k ≡ bit (nat_lt n (length (slice_set threads (number_of x) x'))) = omega arith in
+      sum
   count_child (Some core) e n =
       let long : length (slice_set threads (number_of x) x') ≡ length threads = length-set threads (number_of x) x' in
       let more : length (slice_set threads (number_of x) x' ++ new_thread core ∷ []) ≡ length threads + 1 = length-append (slice_set threads (number_of x) x') (new_thread core ∷ []) ∙ ap (λ i. i + 1) long in
