@@ -1,5 +1,5 @@
 -- A child is brought before the others of a view, whose order is of no account, and gets a pass of its own. Source: own.
-use Rattle.std.proofs.Common.{◌≡◌, ◌≢◌, ◌⊎◌, inl, inr, ⊎_elim, ℕ, ◌+◌, ◌-◌, eqb, Bool, true, false, cond, List, [], ◌∷◌, ◌++◌, length}
+use Rattle.std.proofs.Common.{◌≡◌, ◌≢◌, ◌⊎◌, inl, inr, ⊎_elim, ℕ, ◌+◌, ◌-◌, ◌≤◌, eqb, Bool, true, false, cond, List, [], ◌∷◌, ◌++◌, length}
 use Rattle.std.proofs.Common.{set, Some, refl, sym, ap, ◌∙◌, subst, arith, eq-eqb}
 use Rattle.std.proofs.lemmas.Bool.Decides.{eqb_tells}
 use Rattle.std.proofs.lemmas.List.{set-get_or}
@@ -92,6 +92,25 @@ brought_stands job count k v (inr is) = inr record {
   owed_brought k [] = refl
   owed_brought k (x ∷ xs) = owed_front (eqb (number_of x) k) x xs (picked k xs) (without k xs) (owed_brought k xs)
 
+-- there are parts for each child
+owed_among : (y : Thread) (bs : List Thread) → Among y bs → parts_of (number_of y) ≤ owed bs
+owed_among y [] a = absurd a
+owed_among y (x ∷ xs) (inl e) =
+    let k : ℕ = parts_of (number_of y) in
+    let i : ℕ = parts_of (number_of x) in
+    let same : i ≡ k = ap (λ (t : Thread). parts_of (number_of t)) e in
+    let sum : k ≤ i + owed xs = omega arith in
+    sum
+owed_among y (x ∷ xs) (inr a) =
+    let more = owed_among y xs a in
+    let i : ℕ = parts_of (number_of x) in
+    let sum : parts_of (number_of y) ≤ i + owed xs = omega arith in
+    sum
+
+child_parts : (job : JobData) (count : ℕ) (v : Held) (y : Thread) → Among y v.born → (v ≡ nobody) ⊎ IsView job count v → parts_of (number_of y) ≤ v.parts
+child_parts job count v y a (inl none) = absurd (subst (λ (w : Held). Among y w.born) none a)
+child_parts job count v y a (inr is) = let p = is.parts in let o = owed_among y v.born a in omega arith
+
 pub brings : {S : Type 0} (job : JobData) (id : ℕ) (me : Me S Held) (slots k : ℕ) (st : Step S) → st.word ≡ k → Allows (λ (s : State S Held). Explained job s.words s.views) slots id me k (λ n. n) (Brings st me)
 brings job id me slots k st is s h len at fits =
     let v = me.0 in
@@ -121,5 +140,12 @@ brings job id me slots k st is s h len at fits =
         views_are = parts.views_set job (length threads) s.views id w h.views_are (brought_stands job (length threads) k v (h.views_are id v at));
         parts_are = parts.parts_moved job s.views id v w at refl h.parts_are;
       }),
-      (refl, ap (λ (n : ℕ). brought n v) (sym is), λ y a e. ap (λ (n : ℕ). picked n v.born) is ∙ alone_there y a (e ∙ is)),
+      (
+        refl,
+        ap (λ (n : ℕ). brought n v) (sym is),
+        λ y a e. (
+          ap (λ (n : ℕ). picked n v.born) is ∙ alone_there y a (e ∙ is),
+          subst (λ (n : ℕ). parts_of n ≤ v.parts) e (child_parts job (length threads) v y a (h.views_are id v at)),
+        ),
+      ),
     )
