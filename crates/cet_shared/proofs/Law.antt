@@ -14,7 +14,7 @@ use Rattle.atomic_table.proofs.Lists.{at_set}
 use Rattle.cet_words.specs.Access.{InRange, after, answer}
 use Rattle.cet_words.specs.Job.{JobData, IsJob}
 use Rattle.cet_words.specs.Start.{IsStart}
-use Rattle.cet_words.specs.Layout.{thread_limit, word_count}
+use Rattle.cet_words.specs.Layout.{entry_word, thread_limit, word_count}
 use Rattle.cet_words.specs.declared.accesses.Access.{Access}
 use Rattle.cet_words.specs.declared.accesses.Access.TheVariants.{Look, Load, Store, Swap, FetchAdd, FetchOr, FetchAnd, CompareExchange}
 use Rattle.cet_page.specs.Core.{Core, After, first_core, next_access, taken}
@@ -23,13 +23,24 @@ use Rattle.cet_page.specs.Numbered.{Draws, DrawsRight, IsNew, Numbered, bears, b
 use Rattle.cet_page.proofs.NumberLaws.{number_taken}
 use Rattle.cet_own.proofs.Numbers.{draws_run, numbered_run}
 use Rattle.cet_shared.specs.Held.{Held, first_child, first_view, new_thread, whole, gathered, held, moved, newborn, nobody, own, together, without_first, OwnIs}
-use Rattle.cet_shared.specs.Performed.{Acts, Moves, left_by, told, told_by, word_of}
+use Rattle.cet_shared.specs.Performed.{Acts, Moves, left_by, told, told_by}
 use Rattle.cet_shared.specs.Rule.{Among, AreViews, Explained, HoldExactly, IsView, total, times}
 use Rattle.cet_shared.proofs.Counts.{below_more, bit, none_past, one}
 use Rattle.cet_shared.proofs.Holding.{cuts, first_low, joins, moves_on, number_of}
 use Rattle.cet_shared.proofs.Parts as parts
 
 -- ---- an access is a step on its word
+
+-- the word of an access
+abbrev pub word_of : Access → ℕ
+word_of (Look page) = entry_word page
+word_of (Load word) = word
+word_of (Store word value) = word
+word_of (Swap word value) = word
+word_of (FetchAdd word value) = word
+word_of (FetchOr word value) = word
+word_of (FetchAnd word value) = word
+word_of (CompareExchange word expected value) = word
 
 -- what becomes of the word of an access
 abbrev pub change : Access → ℕ → ℕ

@@ -4,5 +4,6 @@ pub mod Holding
 pub mod Parts
 pub mod Law
 pub mod Children
+pub mod Performing
 pub mod Auditing
 pub mod Closing

@@ -2,7 +2,6 @@
 use Rattle.std.specs.Prelude.{◌≡◌, ℕ, ◌+◌, ◌<◌, ◌≤◌, List, [], ◌∷◌, Option, Some, None, option_map}
 use Rattle.atomic_table.specs.Table.{Step, Me}
 use Rattle.cet_words.specs.Job.{JobData}
-use Rattle.cet_words.specs.Layout.{entry_word}
 use Rattle.cet_words.specs.declared.accesses.Access.{Access}
 use Rattle.cet_words.specs.declared.accesses.Access.TheVariants.{Look, Load, Store, Swap, FetchAdd, FetchOr, FetchAnd, CompareExchange}
 use Rattle.cet_page.specs.Core.{Core, After, next_access, taken}
@@ -11,17 +10,6 @@ use Rattle.cet_cpu.specs.Cpu.{CpuData}
 use Rattle.cet_cpu.specs.declared.threads.Taken.{Taken}
 use Rattle.cet_shared.specs.Held.{Held, brought, moved, own, parts_of, picked}
 use Rattle.cet_shared.specs.Rule.{Among}
-
--- the word of an access
-abbrev pub word_of : Access → ℕ
-word_of (Look page) = entry_word page
-word_of (Load word) = word
-word_of (Store word value) = word
-word_of (Swap word value) = word
-word_of (FetchAdd word value) = word
-word_of (FetchOr word value) = word
-word_of (FetchAnd word value) = word
-word_of (CompareExchange word expected value) = word
 
 -- what an access answers that found this in its word
 abbrev pub told : Access → (found : ℕ) → ℕ

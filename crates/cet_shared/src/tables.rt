@@ -10,7 +10,7 @@ ghost use Rattle.cet_page.specs.Machine.{Thread};
 ghost use Rattle.cet_shared.specs.Held.{IsOf, OwnIs, alone, brought, first_view, new_thread, own, parts_of, picked, together, whole, without_child};
 ghost use Rattle.cet_shared.specs.Rule.{Among};
 ghost use Rattle.cet_shared.specs.Keys.{job_of};
-ghost use Rattle.cet_shared.specs.Performed.{Moves, Performs, told, word_of};
+ghost use Rattle.cet_shared.specs.Performed.{Moves, Performs, told};
 ghost use Rattle.cet_shared.specs.Closing.{AreAll, HoldsAll, IsRun};
 
 use crate::passes::Pass;

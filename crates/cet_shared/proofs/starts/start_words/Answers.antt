@@ -6,7 +6,7 @@ use Rattle.cet_shared.proofs.starts.start_words.Goals as goal
 pub loop-word-preserved : goal.loop-word-preserved
 loop-word-preserved c =
     let l = c.loop-word in
-    let same = c.perform.ensures.words in
+    let same : c.perform.new.self ≡ l.plain = c.perform.ensures.words in
     record {
       start = subst (IsStart c.args.image.now) (sym same) l.invariant.start;
       copied = subst (λ (t : List ℕ × List ℕ). Copied (l.word + 1) t.0 t.1) (λ i. (sym same i, sym c.in_ok-push.ensures.items i))
