@@ -28,6 +28,10 @@ copied_more n x words copy h is = record {
       (subst (λ i. get_or (copy ++ x ∷ []) i 0 ≡ get_or words n 0) h.size (get_or-append_seam copy x [] 0 ∙ is));
 }
 
+pub copied_on : (n x : ℕ) (words words' copy copy' : List ℕ) → Copied n words copy → words' ≡ words → x ≡ get_or words n 0 → copy' ≡ copy ++ x ∷ [] → Copied (n + 1) words' copy'
+copied_on n x words words' copy copy' h same is more =
+    subst (λ (l : List ℕ). Copied (n + 1) l copy') (sym same) (subst (Copied (n + 1) words) (sym more) (copied_more n x words copy h is))
+
 pub copied_all : (image : ImageData) (words copy : List ℕ) → IsStart image words → Copied word_count words copy → IsStart image copy
 copied_all image words copy start h = record { size = h.size; each = λ w lt. h.each w lt ∙ start.each w lt }
 

@@ -1,14 +1,12 @@
-use Rattle.std.proofs.Common.{◌≡◌, ℕ, ◌+◌, List, sym, subst}
+use Rattle.std.proofs.Common.{sym, subst}
 use Rattle.cet_words.specs.Start.{IsStart}
-use Rattle.cet_shared.proofs.Copies.{Copied, copied_more}
+use Rattle.cet_shared.proofs.Copies.{copied_on}
 use Rattle.cet_shared.proofs.starts.start_words.Goals as goal
 
 pub loop-word-preserved : goal.loop-word-preserved
 loop-word-preserved c =
     let l = c.loop-word in
-    let same : c.perform.new.self ≡ l.plain = c.perform.ensures.words in
     record {
-      start = subst (IsStart c.args.image.now) (sym same) l.invariant.start;
-      copied = subst (λ (t : List ℕ × List ℕ). Copied (l.word + 1) t.0 t.1) (λ i. (sym same i, sym c.in_ok-push.ensures.items i))
-          (copied_more l.word c.perform.result l.plain l.words.items l.invariant.copied c.perform.ensures.answer);
+      start = subst (IsStart c.args.image.now) (sym c.perform.ensures.words) l.invariant.start;
+      copied = copied_on l.word c.perform.result l.plain c.perform.new.self l.words.items c.push.new.self.items l.invariant.copied c.perform.ensures.words c.perform.ensures.answer c.in_ok-push.ensures.items;
     }

@@ -1,4 +1,4 @@
-use Rattle.std.proofs.Common.{◌≡◌, ◌<◌, sym, ap, ◌∙◌, arith}
+use Rattle.std.proofs.Common.{◌<◌, sym, ap, ◌∙◌, arith}
 use Rattle.cet_shared.specs.Keys.{job_of}
 use Rattle.cet_shared.proofs.Law.{merges}
 use Rattle.cet_shared.proofs.tables.Shared.gather.Goals as goal
