@@ -111,7 +111,8 @@ child_parts : (job : JobData) (count : ℕ) (v : Held) (y : Thread) → Among y 
 child_parts job count v y a (inl none) = absurd (subst (λ (w : Held). Among y w.born) none a)
 child_parts job count v y a (inr is) = let p = is.parts in let o = owed_among y v.born a in omega arith
 
-pub brings : {S : Type 0} (job : JobData) (id : ℕ) (me : Me S Held) (slots k : ℕ) (st : Step S) → st.word ≡ k → Allows (λ (s : State S Held). Explained job s.words s.views) slots id me k (λ n. n) (Brings st me)
+pub brings : {S : Type 0} (job : JobData) (id : ℕ) (me : Me S Held) (slots k : ℕ) (st : Step S) → st.word ≡ k
+    → Allows (λ (s : State S Held). Explained job s.words s.views) slots id me k (λ n. n) (Brings st me)
 brings job id me slots k st is s h len at fits =
     let v = me.0 in
     let threads = (run job h.start h.schedule).threads in

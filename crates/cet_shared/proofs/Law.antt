@@ -175,7 +175,8 @@ module _ {S : Type 0} (job : JobData) (id : ℕ) (a : Access) (c : List (ℕ × 
   Rule s = Explained job s.words s.views
 
   -- f is what the step makes of the word, and r what it tells of the number that it found
-  allows : (v : Held) (x : Thread) (rest : List Thread) → v.job ≡ job → v.threads ≡ x ∷ rest → next_access job x.core ≡ Some a → (f r : ℕ → ℕ) → ((n : ℕ) → change a n ≡ f n) → ((n : ℕ) → told a n ≡ told a (r n)) → (st : Step S)
+  allows : (v : Held) (x : Thread) (rest : List Thread) → v.job ≡ job → v.threads ≡ x ∷ rest → next_access job x.core ≡ Some a
+      → (f r : ℕ → ℕ) → ((n : ℕ) → change a n ≡ f n) → ((n : ℕ) → told a n ≡ told a (r n)) → (st : Step S)
       → Allows Rule slots id (v, c) (word_of a) f (λ n. Acts st (v, c) (r n))
   allows v x rest knows mine next f r does tells st s h len at fits =
       let n = slice_index s.words (word_of a) in
@@ -194,13 +195,15 @@ module _ {S : Type 0} (job : JobData) (id : ℕ) (a : Access) (c : List (ℕ × 
           refl,
           record {
             view = sym mine_after ∙ ap (moved v) same;
-            above = λ child is. subst (λ (y : Thread). y.core.arch.number < child.arch.number) (sym own_is) (above job s.words s.views id v x rest a h at mine next child (ap (λ (l : After). l.child) same ∙ is));
+            above = λ child is. subst (λ (y : Thread). y.core.arch.number < child.arch.number) (sym own_is)
+                (above job s.words s.views id v x rest a h at mine next child (ap (λ (l : After). l.child) same ∙ is));
           },
         ),
       )
 
   -- the same, where the own thread is whatever the view has in front
-  pub allowed : (v : Held) → v.job ≡ job → OwnIs (own v).core v.threads → next_access job (own v).core ≡ Some a → (f r : ℕ → ℕ) → ((n : ℕ) → change a n ≡ f n) → ((n : ℕ) → told a n ≡ told a (r n)) → (st : Step S)
+  pub allowed : (v : Held) → v.job ≡ job → OwnIs (own v).core v.threads → next_access job (own v).core ≡ Some a
+      → (f r : ℕ → ℕ) → ((n : ℕ) → change a n ≡ f n) → ((n : ℕ) → told a n ≡ told a (r n)) → (st : Step S)
       → Allows Rule slots id (v, c) (word_of a) f (λ n. Acts st (v, c) (r n))
   allowed v knows there next f r does tells st = front v.threads refl there
     where
@@ -219,7 +222,8 @@ in_range (FetchAnd word value) low = low
 in_range (CompareExchange word expected value) low = low
 
 -- what one call on the table asks
-pub act_ok : {S : Type 0} (job : JobData) (id : ℕ) (a : Access) (me : Me S Held) (seated table : TableId) → (seated ≡ table) × (table.words ≡ word_count) → me.0.job ≡ job → OwnIs (own me.0).core me.0.threads → next_access job (own me.0).core ≡ Some a → InRange a
+pub act_ok : {S : Type 0} (job : JobData) (id : ℕ) (a : Access) (me : Me S Held) (seated table : TableId) → (seated ≡ table) × (table.words ≡ word_count)
+    → me.0.job ≡ job → OwnIs (own me.0).core me.0.threads → next_access job (own me.0).core ≡ Some a → InRange a
     → (b : Access) → a ≡ b → (f r : ℕ → ℕ) → ((n : ℕ) → change b n ≡ f n) → ((n : ℕ) → told b n ≡ told b (r n)) → (st : Step S)
     → (seated ≡ table) × (word_of b < table.words) × Allows (λ (s : State S Held). Explained job s.words s.views) table.slots id me (word_of b) f (λ n. Acts st me (r n))
 act_ok job id a me seated table same knows there next low b is f r does tells st =
@@ -242,9 +246,13 @@ splits job id v s h at = record {
   parts_are = parts.parts_cut job (length (run job h.start h.schedule).threads) s.views id v at h.views_are h.parts_are;
 }
 
-pub merges : {S : Type 0} (job : JobData) (id other : ℕ) (v w : Held) (core : Core) → OwnIs core v.threads → Joins (λ (s : State S Held). Explained job s.words s.views) id v other w (together v w) nobody
+pub merges : {S : Type 0} (job : JobData) (id other : ℕ) (v w : Held) (core : Core) → OwnIs core v.threads
+    → Joins (λ (s : State S Held). Explained job s.words s.views) id v other w (together v w) nobody
 merges job id other v w core mine s h at apart there' =
-    let there = ⊎_elim (λ (q : (other ≡ id) × (together v w ≡ w)). absurd (apart q.0)) (λ (q : (other ≢ id) × (get_elem? s.views other ≡ some w)). q.1) (at_set s.views id other (together v w) w there') in
+    let there = ⊎_elim
+    (λ (q : (other ≡ id) × (together v w ≡ w)). absurd (apart q.0))
+    (λ (q : (other ≢ id) × (get_elem? s.views other ≡ some w)). q.1)
+    (at_set s.views id other (together v w) w there') in
     let k = length (run job h.start h.schedule).threads in
     let is = owner v.threads refl mine k (h.views_are id v at) in
     record {

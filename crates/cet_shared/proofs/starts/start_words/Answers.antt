@@ -8,5 +8,6 @@ loop-word-preserved c =
     let l = c.loop-word in
     record {
       start = subst (IsStart c.args.image.now) (sym c.perform.ensures.words) l.invariant.start;
-      copied = copied_on l.word c.perform.result l.plain c.perform.new.self l.words.items c.push.new.self.items l.invariant.copied c.perform.ensures.words c.perform.ensures.answer c.in_ok-push.ensures.items;
+      copied = copied_on l.word c.perform.result l.plain c.perform.new.self l.words.items c.push.new.self.items
+          l.invariant.copied c.perform.ensures.words c.perform.ensures.answer c.in_ok-push.ensures.items;
     }
