@@ -1,10 +1,12 @@
 -- Passes are dealt to bins, one after another. Source: own.
-use Rattle.std.proofs.Common.{◌≡◌, ℕ, zero, suc, ◌+◌, ◌<◌, ◌≤◌, arith, Bool, true, false, cond, List, [], ◌∷◌, ◌++◌, length, get_or, set, Option, Some, None, refl, sym, ap, ◌∙◌, subst, append-nil, append_assoc}
+use Rattle.std.proofs.Common.{◌≡◌, ℕ, zero, suc, ◌+◌, ◌<◌, ◌≤◌, arith, Bool, true, false, cond, List, []}
+use Rattle.std.proofs.Common.{◌∷◌, ◌++◌, length, get_or, set, Option, Some, None, refl, sym, ap, ◌∙◌, subst, append-nil, append_assoc}
 use Rattle.std.specs.Prelude.{All}
 use Rattle.std.specs.List.{filter}
 use Rattle.std.specs.List.Sorted.{IsPermutation}
 use Rattle.std.proofs.lemmas.List.Elements.{All-nil, All-cons, All-head, All-tail}
-use Rattle.std.proofs.lemmas.List.Sorted.{All-permutation, IsPermutation-append_left, IsPermutation-append_right, IsPermutation-middle, IsPermutation-refl, IsPermutation-sym, IsPermutation-to_front, IsPermutation-trans}
+use Rattle.std.proofs.lemmas.List.Sorted.{All-permutation, IsPermutation-append_left, IsPermutation-append_right, IsPermutation-middle}
+use Rattle.std.proofs.lemmas.List.Sorted.{IsPermutation-refl, IsPermutation-sym, IsPermutation-to_front, IsPermutation-trans}
 use Rattle.cet_shared.specs.Held.{Place}
 use Rattle.cet_pool.specs.declared.lives.Live.{Live}
 use Rattle.cet_pool.specs.declared.workers.Bin.{Bin}
@@ -39,11 +41,13 @@ module _ (b b' : Bin) (x : Live) (more : b'.lives.items ≡ b.lives.items ++ x �
 pub dealing_init : (lives : List Live) (bins : List Bin) → spread bins ≡ [] → IsPermutation lives (lives ++ spread bins)
 dealing_init lives bins none = subst (λ (l : List Live). IsPermutation lives (lives ++ l)) (sym none) (subst (IsPermutation lives) (sym (append-nil lives)) (IsPermutation-refl lives))
 
-pub dealing_next : (lives waiting rest : List Live) (x : Live) (bins : List Bin) (w : ℕ) (b b' : Bin) → IsPermutation lives (waiting ++ spread bins) → waiting ≡ rest ++ x ∷ [] → w < length bins → b ≡ get_or bins w b → b'.lives.items ≡ b.lives.items ++ x ∷ []
+pub dealing_next : (lives waiting rest : List Live) (x : Live) (bins : List Bin) (w : ℕ) (b b' : Bin) → IsPermutation lives (waiting ++ spread bins) → waiting ≡ rest ++ x ∷ []
+    → w < length bins → b ≡ get_or bins w b → b'.lives.items ≡ b.lives.items ++ x ∷ []
     → IsPermutation lives (rest ++ spread (set bins w b'))
 dealing_next lives waiting rest x bins w b b' m popped lt is more =
     let a : IsPermutation lives (rest ++ x ∷ spread bins) = subst (IsPermutation lives) (ap (λ (l : List Live). l ++ spread bins) popped ∙ append_assoc rest (x ∷ []) (spread bins)) m in
-    IsPermutation-trans lives (rest ++ x ∷ spread bins) (rest ++ spread (set bins w b')) a (IsPermutation-append_right rest (x ∷ spread bins) (spread (set bins w b')) (spread_more b b' x more bins w lt is))
+    IsPermutation-trans lives (rest ++ x ∷ spread bins) (rest ++ spread (set bins w b')) a (IsPermutation-append_right rest (x ∷ spread bins) (spread (set bins w b')) (spread_more b b' x
+    more bins w lt is))
 
 -- ---- workers without passes
 

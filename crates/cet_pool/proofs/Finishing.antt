@@ -1,5 +1,6 @@
 -- The threads that were gathered by number are those of a run, and its outcome is theirs. Source: own.
-use Rattle.std.proofs.Common.{◌≡◌, ◌≢◌, ◌⊎◌, inl, inr, ⊎_elim, ℕ, zero, suc, ◌+◌, ◌<◌, ◌≤◌, arith, Bool, true, false, List, [], ◌∷◌, ◌++◌, length, drop, map, Option, Some, None, refl, sym, ap, ◌∙◌, subst, append-nil, rules}
+use Rattle.std.proofs.Common.{◌≡◌, ◌≢◌, ◌⊎◌, inl, inr, ⊎_elim, ℕ, zero, suc, ◌+◌, ◌<◌, ◌≤◌, arith, Bool, true, false}
+use Rattle.std.proofs.Common.{List, [], ◌∷◌, ◌++◌, length, drop, map, Option, Some, None, refl, sym, ap, ◌∙◌, subst, append-nil, rules}
 use Rattle.std.specs.Prelude.{All, IsSome, ◌==◌, cond, nat_lt, slice_get}
 use Rattle.std.proofs.lemmas.Bool.Decides.{nat_tests}
 use Rattle.std.proofs.lemmas.List.Elements.{All-cons, All-nil}
@@ -70,7 +71,8 @@ drop_at (r ∷ rs) (suc b) x e = drop_at rs b x e
 
 -- ---- the threads of the run
 
-exact : (rs ts : List Thread) (b : ℕ) → ((y : Thread) → Among y ts → slice_get rs y.core.arch.number ≡ Some y) → ((n : ℕ) → b ≤ n → times n ts ≡ bit (nat_lt n (length rs))) → Ascends b ts → ts ≡ drop b rs
+exact : (rs ts : List Thread) (b : ℕ) → ((y : Thread) → Among y ts → slice_get rs y.core.arch.number ≡ Some y) → ((n : ℕ) → b ≤ n → times n ts ≡ bit (nat_lt n (length rs))) → Ascends b ts
+    → ts ≡ drop b rs
 exact rs [] b each once up = let e = once b (omega arith) in sym (drop_past rs b (high b (length rs) (sym e)))
 exact rs (x ∷ xs) b each once up =
     let m = x.core.arch.number in

@@ -1,5 +1,6 @@
 -- All threads have ended, and are gathered in order. Source: own.
-use Rattle.std.proofs.Common.{◌≡◌, ◌≢◌, ◌⊎◌, inl, inr, ⊎_elim, ℕ, zero, suc, ◌+◌, ◌<◌, ◌≤◌, arith, List, [], ◌∷◌, ◌++◌, length, get_or, drop, take, map, Option, Some, None, refl, sym, ap, ◌∙◌, subst, append-nil, append_assoc}
+use Rattle.std.proofs.Common.{◌≡◌, ◌≢◌, ◌⊎◌, inl, inr, ⊎_elim, ℕ, zero, suc, ◌+◌, ◌<◌, ◌≤◌, arith, List, [], ◌∷◌}
+use Rattle.std.proofs.Common.{◌++◌, length, get_or, drop, take, map, Option, Some, None, refl, sym, ap, ◌∙◌, subst, append-nil, append_assoc}
 use Rattle.std.specs.Prelude.{All}
 use Rattle.std.specs.List.{Contains, remove}
 use Rattle.std.specs.List.Sorted.{IsNonDecreasingBy, IsPermutation}
@@ -70,7 +71,8 @@ driven place k before lives ended new after s t = record {
   goes = goes_less place.job 0 (0 + k) before (new ++ after) (omega arith) (goes_then place.job 0 k before (lives ++ ended) (new ++ after) s.goes t.goes);
 }
 
-pub all_driven : (place : Place) (first : Live) (lives ended : List Live) → own first ≡ new_thread (first_core place.job) → Settled place 0 (first ∷ []) lives ended → length lives ≡ 0 → AreAll (map own ended)
+pub all_driven : (place : Place) (first : Live) (lives ended : List Live) → own first ≡ new_thread (first_core place.job) → Settled place 0 (first ∷ []) lives ended → length lives ≡ 0
+    → AreAll (map own ended)
 all_driven place first lives ended new s none = all_ended place first ended new s.over (subst (λ (l : List Live). Goes place.job 0 (first ∷ []) (l ++ ended)) (none_in lives none) s.goes)
 
 -- ---- in another order
@@ -112,7 +114,8 @@ first_out [] ys x some is out = absurd (omega arith)
 first_out (y ∷ xs) ys x some is out = λ i. sym is i ∷ sym out i
 
 module _ (place : Place) (all : List Live) where
-  pub gathering_init : (live : Live) (rest : List Live) (done : Gathered) → all ≡ live ∷ rest → IsLive place live → done.last ≡ live.pass → done.threads ≡ thread_out (own live) ∷ [] → done.ssps ≡ kept_pointers (own live ∷ []) → IsGathering place all rest done
+  pub gathering_init : (live : Live) (rest : List Live) (done : Gathered) → all ≡ live ∷ rest → IsLive place live → done.last ≡ live.pass → done.threads ≡ thread_out (own live) ∷ []
+      → done.ssps ≡ kept_pointers (own live ∷ []) → IsGathering place all rest done
   gathering_init live rest done out l last threads ssps = record {
     of = subst (IsOf place) (sym last) l.of;
     born = ap (λ s. s.view.born) last ∙ l.born;
@@ -121,13 +124,15 @@ module _ (place : Place) (all : List Live) where
     ssps = ap (λ (p : List (ℕ × ℕ)). p ++ kept_pointers (map own rest)) (ssps ∙ append-nil _) ∙ ap (λ (l : List Live). kept_pointers (map own l)) (sym out);
   }
 
-  pub gathering_next : (waiting rest : List Live) (live : Live) (done after : Gathered) → IsGathering place all waiting done → waiting ≡ live ∷ rest → IsLive place live → IsOf place after.last → after.last.view ≡ together done.last.view live.pass.view
+  pub gathering_next : (waiting rest : List Live) (live : Live) (done after : Gathered) → IsGathering place all waiting done → waiting ≡ live ∷ rest → IsLive place live
+      → IsOf place after.last → after.last.view ≡ together done.last.view live.pass.view
       → after.threads ≡ done.threads ++ thread_out (own live) ∷ [] → after.ssps ≡ done.ssps ++ kept_pointers (own live ∷ []) → IsGathering place all rest after
   gathering_next waiting rest live done after g out l of last threads ssps = record {
     of = of;
     born = ap (λ (v : Held). v.born) last ∙ ap (λ (b : List Thread). b ++ live.pass.view.born) g.born ∙ l.born;
     all =
-        ap (λ (v : Held). v.threads ++ map own rest) last ∙ ap (λ (t : List Thread). (done.last.view.threads ++ t) ++ map own rest) l.threads ∙ append_assoc done.last.view.threads (own live ∷ []) (map own rest)
+        ap (λ (v : Held). v.threads ++ map own rest) last ∙ ap (λ (t : List Thread). (done.last.view.threads ++ t) ++ map own rest) l.threads
+        ∙ append_assoc done.last.view.threads (own live ∷ []) (map own rest)
         ∙ ap (λ (l : List Live). done.last.view.threads ++ map own l) (sym out) ∙ g.all;
     threads =
         ap (λ (t : List ThreadOut). t ++ map thread_out (map own rest)) threads ∙ append_assoc done.threads (thread_out (own live) ∷ []) (map thread_out (map own rest))

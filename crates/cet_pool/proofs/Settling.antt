@@ -1,5 +1,6 @@
 -- Passes are laid aside, and what a round comes to. Source: own.
-use Rattle.std.proofs.Common.{◌≡◌, ◌≢◌, Bool, true, false, ℕ, zero, suc, ◌+◌, ◌<◌, ◌≤◌, arith, List, [], ◌∷◌, ◌++◌, length, get_or, Option, Some, None, Result, Ok, Err, refl, sym, ap, ◌∙◌, subst, append-nil, append_assoc, length-append}
+use Rattle.std.proofs.Common.{◌≡◌, ◌≢◌, Bool, true, false, ℕ, zero, suc, ◌+◌, ◌<◌, ◌≤◌, arith, List, [], ◌∷◌, ◌++◌}
+use Rattle.std.proofs.Common.{length, get_or, Option, Some, None, Result, Ok, Err, refl, sym, ap, ◌∙◌, subst, append-nil, append_assoc, length-append}
 use Rattle.std.specs.Prelude.{All, IfOk}
 use Rattle.std.specs.Option.{is_some}
 use Rattle.cet_isa.specs.declared.threads.End.{End}
@@ -8,7 +9,8 @@ use Rattle.std.specs.List.Sorted.{IsPermutation}
 use Rattle.std.specs.declared.vec.Vec.{Vec}
 use Rattle.std.specs.declared.alloc.Global.{Global}
 use Rattle.std.proofs.lemmas.List.Elements.{All-nil, All-cons, All-append, All-head, All-push, All-tail}
-use Rattle.std.proofs.lemmas.List.Sorted.{All-permutation, IsPermutation-append_comm, IsPermutation-append_left, IsPermutation-append_right, IsPermutation-middle, IsPermutation-refl, IsPermutation-sym, IsPermutation-to_front, IsPermutation-trans, length_permutation}
+use Rattle.std.proofs.lemmas.List.Sorted.{All-permutation, IsPermutation-append_comm, IsPermutation-append_left, IsPermutation-append_right, IsPermutation-middle}
+use Rattle.std.proofs.lemmas.List.Sorted.{IsPermutation-refl, IsPermutation-sym, IsPermutation-to_front, IsPermutation-trans, length_permutation}
 use Rattle.cet_page.specs.Within.{IsCore}
 use Rattle.cet_words.specs.Job.{JobData}
 use Rattle.cet_page.specs.Machine.{Thread}
@@ -43,7 +45,8 @@ module _ (before lives0 aside waiting rest lives aside' : List Live) (x : Live) 
       let n : IsPermutation (x ∷ (lives ++ aside')) ((lives ++ x ∷ []) ++ aside') = IsPermutation-append_left aside' (x ∷ lives) (lives ++ x ∷ []) m in
       record {
         same = subst (λ (l : List Live). IsPermutation (before ++ (lives0 ++ aside)) (rest ++ (l ++ aside'))) (sym pushed)
-            (IsPermutation-trans (before ++ (lives0 ++ aside)) (rest ++ x ∷ (lives ++ aside')) (rest ++ ((lives ++ x ∷ []) ++ aside')) from (IsPermutation-append_right rest (x ∷ (lives ++ aside')) ((lives ++ x ∷ []) ++ aside') n));
+            (IsPermutation-trans (before ++ (lives0 ++ aside)) (rest ++ x ∷ (lives ++ aside')) (rest ++ ((lives ++ x ∷ []) ++ aside')) from (IsPermutation-append_right rest (x ∷ (lives ++
+            aside')) ((lives ++ x ∷ []) ++ aside') n));
         going = λ h. subst (All IsGoing) (sym pushed) (All-push IsGoing lives x (p.going h) going);
         ended = p.ended;
       }
@@ -51,11 +54,13 @@ module _ (before lives0 aside waiting rest lives aside' : List Live) (x : Live) 
   -- or is laid aside
   pub part_aside : (new : List Live) → new ≡ aside' ++ x ∷ [] → HasEnded x → Parted before lives0 aside rest lives new
   part_aside new pushed over =
-      let m : IsPermutation (x ∷ (lives ++ aside')) ((lives ++ aside') ++ x ∷ []) = IsPermutation-sym ((lives ++ aside') ++ x ∷ []) (x ∷ (lives ++ aside')) (IsPermutation-to_front (lives ++ aside') x) in
+      let m : IsPermutation (x ∷ (lives ++ aside')) ((lives ++ aside') ++ x ∷ []) = IsPermutation-sym ((lives ++ aside') ++ x ∷ []) (x ∷ (lives ++ aside')) (IsPermutation-to_front (lives ++
+      aside') x) in
       let n : IsPermutation (x ∷ (lives ++ aside')) (lives ++ (aside' ++ x ∷ [])) = subst (IsPermutation (x ∷ (lives ++ aside'))) (append_assoc lives aside' (x ∷ [])) m in
       record {
         same = subst (λ (l : List Live). IsPermutation (before ++ (lives0 ++ aside)) (rest ++ (lives ++ l))) (sym pushed)
-            (IsPermutation-trans (before ++ (lives0 ++ aside)) (rest ++ x ∷ (lives ++ aside')) (rest ++ (lives ++ (aside' ++ x ∷ []))) from (IsPermutation-append_right rest (x ∷ (lives ++ aside')) (lives ++ (aside' ++ x ∷ [])) n));
+            (IsPermutation-trans (before ++ (lives0 ++ aside)) (rest ++ x ∷ (lives ++ aside')) (rest ++ (lives ++ (aside' ++ x ∷ []))) from (IsPermutation-append_right rest (x ∷ (lives ++
+            aside')) (lives ++ (aside' ++ x ∷ [])) n));
         going = p.going;
         ended = λ h. subst (All HasEnded) (sym pushed) (All-push HasEnded aside' x (p.ended h) over);
       }
@@ -82,13 +87,16 @@ more_ok (Err e ∷ rs) v h = absurd h
 pub collected_init : (answers : List Answer) (aside : List Live) → Collected answers aside answers [] aside
 collected_init answers aside = record { ok = λ h. h; same = IsPermutation-refl (outs_of answers ++ aside); going = All-nil IsGoing; ended = λ h. h }
 
-pub collected_next : (answers waiting rest : List Answer) (v : Vec Live Global) (aside lives lives' mid aside' : List Live) → Collected answers aside waiting lives mid → waiting ≡ rest ++ Ok v ∷ [] → Parted v.items lives mid [] lives' aside' → Collected answers aside rest lives' aside'
+pub collected_next : (answers waiting rest : List Answer) (v : Vec Live Global) (aside lives lives' mid aside' : List Live) → Collected answers aside waiting lives mid
+    → waiting ≡ rest ++ Ok v ∷ [] → Parted v.items lives mid [] lives' aside' → Collected answers aside rest lives' aside'
 collected_next answers waiting rest v aside lives lives' mid aside' c popped p =
     let all = outs_of answers ++ aside in
-    let a : IsPermutation all (outs_of rest ++ (v.items ++ (lives ++ mid))) = subst (IsPermutation all) (ap (λ (r : List Answer). outs_of r ++ (lives ++ mid)) popped ∙ ap (λ (l : List Live). l ++ (lives ++ mid)) (outs_ok rest v) ∙ append_assoc (outs_of rest) v.items (lives ++ mid)) c.same in
+    let a : IsPermutation all (outs_of rest ++ (v.items ++ (lives ++ mid))) = subst (IsPermutation all) (ap (λ (r : List Answer). outs_of r ++ (lives ++ mid)) popped
+    ∙ ap (λ (l : List Live). l ++ (lives ++ mid)) (outs_ok rest v) ∙ append_assoc (outs_of rest) v.items (lives ++ mid)) c.same in
     record {
       ok = λ h. c.ok (subst AllOk (sym popped) (more_ok rest v h));
-      same = IsPermutation-trans all (outs_of rest ++ (v.items ++ (lives ++ mid))) (outs_of rest ++ (lives' ++ aside')) a (IsPermutation-append_right (outs_of rest) (v.items ++ (lives ++ mid)) (lives' ++ aside') p.same);
+      same = IsPermutation-trans all (outs_of rest ++ (v.items ++ (lives ++ mid))) (outs_of rest ++ (lives' ++ aside')) a (IsPermutation-append_right (outs_of rest) (v.items ++ (lives ++
+          mid)) (lives' ++ aside') p.same);
       going = p.going c.going;
       ended = λ h. p.ended (c.ended h);
     }
@@ -100,7 +108,8 @@ collected_done answers (r ∷ rs) aside lives aside' c none = absurd (omega arit
 -- ---- all turns of a round
 
 module _ (place : Place) where
-  pub zip_turns : (bins : List Bin) (rs : List Answer) → length rs ≡ length bins → ((i : ℕ) (b : Bin) (r : Answer) → i < length bins → IfOk (get_or rs i r) (λ out. Turned place (get_or bins i b).lives.items out.items)) → AllZip (AnswersBin place) bins rs
+  pub zip_turns : (bins : List Bin) (rs : List Answer) → length rs ≡ length bins → ((i : ℕ) (b : Bin) (r : Answer) → i < length bins
+      → IfOk (get_or rs i r) (λ out. Turned place (get_or bins i b).lives.items out.items)) → AllZip (AnswersBin place) bins rs
   zip_turns [] [] e each = tt
   zip_turns [] (r ∷ rs) e each = absurd (omega arith)
   zip_turns (b ∷ bins) [] e each = absurd (omega arith)
@@ -149,7 +158,8 @@ module _ (place : Place) where
   over_ended [] h = All-nil HasEnded
   over_ended (x ∷ xs) h = let o = All-head (IsOver place) x xs h in All-cons HasEnded x xs o.over (over_ended xs (All-tail (IsOver place) x xs h))
 
-  pub settled : (k : ℕ) (before all lives ended : List Live) → All (IsLive place) all → IsPermutation all (lives ++ ended) → All IsGoing lives → All HasEnded ended → Goes place.job k before all → Settled place k before lives ended
+  pub settled : (k : ℕ) (before all lives ended : List Live) → All (IsLive place) all → IsPermutation all (lives ++ ended) → All IsGoing lives → All HasEnded ended
+      → Goes place.job k before all → Settled place k before lives ended
   settled k before all lives ended here same going over goes =
       let parts = all_apart (IsLive place) lives ended (All-permutation (IsLive place) all (lives ++ ended) same here) in
       record {
@@ -158,7 +168,8 @@ module _ (place : Place) where
         goes = goes_as place.job k before before all (lives ++ ended) (IsPermutation-refl before) same goes;
       }
 
-  pub round_settled : (xs aside : List Live) (bins : List Bin) (rs : List Answer) (lives ended : List Live) → IsPermutation xs (spread bins) → AllZip (AnswersBin place) bins rs → All (IsOver place) aside → Collected rs aside [] lives ended → Settled place (length xs) (xs ++ aside) lives ended
+  pub round_settled : (xs aside : List Live) (bins : List Bin) (rs : List Answer) (lives ended : List Live) → IsPermutation xs (spread bins) → AllZip (AnswersBin place) bins rs
+      → All (IsOver place) aside → Collected rs aside [] lives ended → Settled place (length xs) (xs ++ aside) lives ended
   round_settled xs aside bins rs lives ended dealt turned over c =
       let ok = c.ok tt in
       let n = length (spread bins) in
@@ -183,4 +194,5 @@ module _ (place : Place) where
 
   pub start_settled : (x : Live) (lives ended : List Live) → IsLive place x → Parted (x ∷ []) [] [] [] lives ended → Settled place 0 (x ∷ []) lives ended
   start_settled x lives ended here p =
-      settled 0 (x ∷ []) (x ∷ []) lives ended (All-cons (IsLive place) x [] here (All-nil (IsLive place))) p.same (p.going (All-nil IsGoing)) (p.ended (All-nil HasEnded)) (goes_none place.job (x ∷ []))
+      settled 0 (x ∷ []) (x ∷ []) lives ended (All-cons (IsLive place) x [] here (All-nil (IsLive place))) p.same (p.going (All-nil IsGoing)) (p.ended (All-nil HasEnded)) (goes_none
+      place.job (x ∷ []))

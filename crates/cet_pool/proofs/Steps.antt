@@ -1,5 +1,6 @@
 -- What one access leaves, and what more of them do. Source: own.
-use Rattle.std.proofs.Common.{◌≡◌, ◌⊎◌, inl, inr, ⊎_elim, ℕ, zero, suc, ◌+◌, ◌-◌, ◌*◌, ◌^◌, ◌<◌, ◌≤◌, List, [], ◌∷◌, ◌++◌, Option, Some, None, refl, sym, ap, ◌∙◌, subst, arith, append-nil, append_assoc, eq-eqb}
+use Rattle.std.proofs.Common.{◌≡◌, ◌⊎◌, inl, inr, ⊎_elim, ℕ, zero, suc, ◌+◌, ◌-◌, ◌*◌, ◌^◌, ◌<◌, ◌≤◌, List}
+use Rattle.std.proofs.Common.{[], ◌∷◌, ◌++◌, Option, Some, None, refl, sym, ap, ◌∙◌, subst, arith, append-nil, append_assoc, eq-eqb}
 use Rattle.std.specs.Prelude.{All, cond}
 use Rattle.std.specs.List.Sorted.{IsPermutation}
 use Rattle.std.proofs.lemmas.List.Elements.{All-nil, All-cons, All-append}
@@ -53,9 +54,9 @@ pub tells_nobody : (job : JobData) (x : Thread) (n : ℕ) → x.trace ≡ [] →
 tells_nobody job x n empty fresh t = ⊎_elim
     (λ (a : Names n x.trace). let b : Names n [] = subst (Names n) empty a in absurd b)
     (λ (b : IsBearing job x.core n).
-        let none : borne_in (trail_of job x.core) ≡ None = ap (λ seen. borne_in (row_trail job x.core.arch seen)) fresh in
-        let some = b.borne in
-        absurd (cc))
+    let none : borne_in (trail_of job x.core) ≡ None = ap (λ seen. borne_in (row_trail job x.core.arch seen)) fresh in
+    let some = b.borne in
+    absurd (cc))
     t
 
 core_number : (job : JobData) (core : Core) (over : Option End) → CoreAt job core over → core.arch.number < thread_limit
@@ -88,7 +89,8 @@ module _ (job : JobData) (core : Core) (answer : ℕ) (is : IsCore job core) (go
   unfolding weight
   weight_falls =
       let same = ap (λ n. left_of job moved_on moved_on.over * base ^ (thread_limit - 1 - n)) (number_taken job core answer) in
-      let w = weight_one (left_of job core core.over) (left_of job moved_on moved_on.over) (base ^ (thread_limit - 1 - core.arch.number)) less (pow_above base (thread_limit - 1 - core.arch.number) (omega arith)) in
+      let w = weight_one (left_of job core core.over) (left_of job moved_on moved_on.over) (base ^ (thread_limit - 1 - core.arch.number)) less (pow_above base (thread_limit - 1 -
+      core.arch.number) (omega arith)) in
       omega (arith, same, w)
 
   pub weight_bears : (child : Core) → IsCore job child → core.arch.number < child.arch.number → (weight job moved_on + weight job child) + 1 ≤ weight job core
@@ -102,7 +104,7 @@ module _ (job : JobData) (core : Core) (answer : ℕ) (is : IsCore job core) (go
       let e : base ^ suc small ≡ base * base ^ small = pow-succ' base small in
       let big : (most_left job + 1) * base ^ small ≤ base ^ large = omega arith in
       let w = weight_two (left_of job core core.over) (left_of job moved_on moved_on.over) (left_of job child child.over) (most_left job) (base ^ small) (base ^ large)
-              less (pow_above base small (omega arith)) (accesses_run_out.most job child) big in
+      less (pow_above base small (omega arith)) (accesses_run_out.most job child) big in
       omega (arith, same, w)
 
 -- ---- one access
@@ -133,7 +135,8 @@ module _ (job : JobData) (x x' : Live) (answer : ℕ) (is : IsCore job (own x).c
         omega (arith, sum_by-cons (weigh_one job) x' [], sum_by-cons (weigh_one job) x []));
   }
 
-  module _ (child : Core) (kid : Live) (bears : (taken job (own x).core answer).child ≡ Some child) (young : own kid ≡ new_thread child) (there : IsCore job child) (above : (own x).core.arch.number < child.arch.number) where
+  module _ (child : Core) (kid : Live) (bears : (taken job (own x).core answer).child ≡ Some child) (young : own kid ≡ new_thread child) (there : IsCore job child) (above : (own
+      x).core.arch.number < child.arch.number) where
     kid_numbered : (own kid).core.arch.number ≡ child.arch.number
     kid_numbered = ap (λ (t : Thread). t.core.arch.number) young
 
@@ -144,9 +147,9 @@ module _ (job : JobData) (x x' : Live) (answer : ℕ) (is : IsCore job (own x).c
     told_of n t = ⊎_elim
         (λ (a : TellsOf job (own x) n). inl (one_here (Tells job n) x a))
         (λ (b : (core : Core) × ((taken job (own x).core answer).child ≡ Some core) × (core.arch.number ≡ n)).
-            let some : Some child ≡ Some b.0 = sym bears ∙ b.1 in
-            let same : child ≡ b.0 = cc in
-            inr (one_right (Numbers n) (x' ∷ []) (kid ∷ []) (one_here (Numbers n) kid (kid_numbered ∙ ap (λ (c : Core). c.arch.number) same ∙ b.2))))
+        let some : Some child ≡ Some b.0 = sym bears ∙ b.1 in
+        let same : child ≡ b.0 = cc in
+        inr (one_right (Numbers n) (x' ∷ []) (kid ∷ []) (one_here (Numbers n) kid (kid_numbered ∙ ap (λ (c : Core). c.arch.number) same ∙ b.2))))
         (told_on.only n t)
 
     pub goes_bears : Goes job 1 (x ∷ []) (x' ∷ kid ∷ [])
@@ -183,11 +186,18 @@ module _ (place : Place) (before mid : Live) (old : List Live) (ready : IsReady 
         children = [];
         added = sym (append-nil old);
         lives = All-nil (IsLive place);
-        itself = record { of = a.of; threads = a.threads ∙ ap (λ (t : Thread). t ∷ []) (sym same); born = a.born ∙ ap newborn (sym a.bears); trace = a.trace ∙ ap (λ (t : Thread). t.trace) (sym same) };
+        itself = record {
+          of = a.of;
+          threads = a.threads ∙ ap (λ (t : Thread). t ∷ []) (sym same);
+          born = a.born ∙ ap newborn (sym a.bears);
+          trace = a.trace
+              ∙ ap (λ (t : Thread). t.trace) (sym same);
+        };
         goes = goes_alone place.job before mid (told_by (next_access place.job (own before).core) a.found) ready.state ready.goes same (sym a.bears);
       }
 
-  pub went_some : (child : CpuData) (after kid : Live) (a : Accessed place before mid (Some child)) → IsOf place after.pass → after.pass.view ≡ without_child child.core.arch.number mid.pass.view → after.records ≡ mid.records
+  pub went_some : (child : CpuData) (after kid : Live) (a : Accessed place before mid (Some child)) → IsOf place after.pass
+      → after.pass.view ≡ without_child child.core.arch.number mid.pass.view → after.records ≡ mid.records
       → IsOf place kid.pass → kid.pass.view ≡ alone place.job (new_thread child.core) → kid.records ≡ [] → IsCpu place.job child → Went place 1 before after old (old ++ kid ∷ [])
   went_some child after kid a after_of after_is after_records kid_of kid_is kid_records cpu =
       let same : own after ≡ left (Some child) a = ap (λ (v : Held). first_of v.threads) after_is ∙ own_left (Some child) a in
@@ -196,26 +206,35 @@ module _ (place : Place) (before mid : Live) (old : List Live) (ready : IsReady 
       record {
         children = kid ∷ [];
         added = refl;
-        lives = All-cons (IsLive place) kid [] (record { of = kid_of; threads = ap (λ (v : Held). v.threads) kid_is ∙ ap (λ (t : Thread). t ∷ []) (sym young); born = ap (λ (v : Held). v.born) kid_is; trace = kid_records ∙ ap (λ (t : Thread). t.trace) (sym young) }) (All-nil (IsLive place));
+        lives = All-cons (IsLive place) kid [] (record {
+          of = kid_of;
+          threads = ap (λ (v : Held). v.threads) kid_is ∙ ap (λ (t : Thread). t ∷ []) (sym young);
+          born = ap (λ (v : Held). v.born) kid_is;
+          trace = kid_records ∙ ap (λ (t : Thread). t.trace) (sym young);
+        }) (All-nil (IsLive place));
         itself = record {
           of = after_of;
           threads = ap (λ (v : Held). v.threads) after_is ∙ a.threads ∙ ap (λ (t : Thread). t ∷ []) (sym same);
           born = ap (λ (v : Held). v.born) after_is ∙ ap (without child.core.arch.number) born_is ∙ alone_out (new_thread child.core);
           trace = after_records ∙ a.trace ∙ ap (λ (t : Thread). t.trace) (sym same);
         };
-        goes = goes_bears place.job before after (told_by (next_access place.job (own before).core) a.found) ready.state ready.goes same child.core kid (sym a.bears) young cpu.state (a.above child.core (sym a.bears));
+        goes = goes_bears place.job before after (told_by (next_access place.job (own before).core) a.found) ready.state ready.goes same child.core kid (sym a.bears) young cpu.state
+            (a.above child.core (sym a.bears));
       }
 
 -- what `perform` tells of a pass's only thread, and its records
-pub accessed : (place : Place) (before after : Live) (answer : Taken) → IsLive place before → Performs before.pass.view after.pass.view answer → IsOf place after.pass → after.records ≡ traced before.records answer.noted → Accessed place before after answer.child
+pub accessed : (place : Place) (before after : Live) (answer : Taken) → IsLive place before → Performs before.pass.view after.pass.view answer → IsOf place after.pass
+    → after.records ≡ traced before.records answer.noted → Accessed place before after answer.child
 accessed place before after answer live p of records =
     let left_is : left_by before.pass.view.job (own before).core p.found ≡ left_at place.job before p.found = ap (λ (j : JobData). left_by j (own before).core p.found) live.of.job in
     let m = p.moves in
     record {
       found = p.found;
       of = of;
-      threads = ap (λ (v : Held). v.threads) m.view ∙ ap (λ (l : After). thread_after (own before) l ∷ rest_of before.pass.view.threads) left_is ∙ ap (λ (l : List Thread). thread_after (own before) (left_at place.job before p.found) ∷ rest_of l) live.threads;
-      born = ap (λ (v : Held). v.born) m.view ∙ ap (λ (l : After). newborn l.child ++ before.pass.view.born) left_is ∙ ap (λ (l : List Thread). newborn (left_at place.job before p.found).child ++ l) live.born ∙ append-nil (newborn (left_at place.job before p.found).child);
+      threads = ap (λ (v : Held). v.threads) m.view ∙ ap (λ (l : After). thread_after (own before) l ∷ rest_of before.pass.view.threads) left_is
+          ∙ ap (λ (l : List Thread). thread_after (own before) (left_at place.job before p.found) ∷ rest_of l) live.threads;
+      born = ap (λ (v : Held). v.born) m.view ∙ ap (λ (l : After). newborn l.child ++ before.pass.view.born) left_is
+          ∙ ap (λ (l : List Thread). newborn (left_at place.job before p.found).child ++ l) live.born ∙ append-nil (newborn (left_at place.job before p.found).child);
       trace = records ∙ ap (λ (t : List Record). traced t answer.noted) live.trace ∙ ap (traced (own before).trace) p.noted ∙ ap (λ (l : After). traced (own before).trace l.noted) left_is;
       bears = p.child ∙ ap (λ (l : After). l.child) left_is;
       above = λ core e. m.above core (ap (λ (l : After). l.child) left_is ∙ e);

@@ -55,7 +55,8 @@ pub fn all_turns<R: Threads + Sync, G: Turnstile + Sync>(
     requires job { shared.now.job ≡ job.now }
     requires ready { All (IsReadyBin shared.now) bins.items }
     ensures len { IfOk result (λ v. vec_len v ≡ vec_len bins) }
-    ensures each { IfOk result (λ v. (i : ℕ) (b : _) (r : _) → i < vec_len bins → IfOk (slice_index_or v.items i r) (λ out. Turned shared.now (slice_index_or bins.items i b).lives.items out.items)) }
+    ensures each { IfOk result (λ v. (i : ℕ) (b : _) (r : _) → i < vec_len bins →
+        IfOk (slice_index_or v.items i r) (λ out. Turned shared.now (slice_index_or bins.items i b).lives.items out.items)) }
 {
     let answers = thread::map_vec(
         rt,

@@ -31,10 +31,10 @@ module _ (job : JobData) (threads : List Thread) (views : List Held) (h : HoldEx
   others_spent j u apart there = ⊎_elim
       (λ (none : u ≡ nobody). none)
       (λ (is : IsView job n u).
-          let t = total_two parts views id j v u at there apart in
-          let p = is.parts in
-          let r = some_reserved n in
-          absurd (omega arith))
+      let t = total_two parts views id j v u at there apart in
+      let p = is.parts in
+      let r = some_reserved n in
+      absurd (omega arith))
       (all j u there)
 
   pub holds_each : (i : ℕ) → i < length threads → HasNumber i (held v)
@@ -48,18 +48,20 @@ pub audits : {S : Type 0} (job : JobData) (id : ℕ) (me : Me S Held) (slots : �
 audits job id me slots st s h len at fits =
     let m = run job h.start h.schedule in
     let numbered = numbered_run job h.start h.schedule h.is_job h.starts in
-    let named = named_run job h.start h.schedule h.is_job h.starts in
-    (
+    let named = named_run job h.start h.schedule h.is_job h.starts in (
       me.0,
       keeps,
       tt,
       subst (λ (t : List ℕ × List Held). Explained job t.0 t.1) (λ i. (sym (set-get_or s.words 0 0) i, sym (set_again s.views id me.0 at) i)) h,
-      (refl, λ all. record {
-        count = length m.threads;
-        some = numbered.first;
-        each = holds_each job m.threads s.views h.threads_are (length m.threads) h.views_are h.parts_are id me.0 at all;
-        named = λ y n a told. (named.told (number_of y) n y (h.threads_are.each id me.0 y at a) (inl told)).1;
-      }),
+      (
+        refl,
+        λ all. record {
+          count = length m.threads;
+          some = numbered.first;
+          each = holds_each job m.threads s.views h.threads_are (length m.threads) h.views_are h.parts_are id me.0 at all;
+          named = λ y n a told. (named.told (number_of y) n y (h.threads_are.each id me.0 y at a) (inl told)).1;
+        },
+      ),
     )
 
 -- so a pass that has all parts, and no child left, has gathered all threads once all of its own have ended

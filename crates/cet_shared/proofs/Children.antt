@@ -1,5 +1,5 @@
 -- A child is brought before the others of a view, whose order is of no account, and gets a pass of its own. Source: own.
-use Rattle.std.proofs.Common.{◌≡◌, ◌≢◌, ◌⊎◌, inl, inr, ⊎_elim, ℕ, ◌+◌, ◌-◌, eqb, Bool, true, false, cond, List, [], ◌∷◌, ◌++◌, length}
+use Rattle.std.proofs.Common.{◌≡◌, ◌≢◌, ◌⊎◌, inl, inr, ⊎_elim, ℕ, ◌+◌, ◌-◌, ◌≤◌, eqb, Bool, true, false, cond, List, [], ◌∷◌, ◌++◌, length}
 use Rattle.std.proofs.Common.{set, Some, refl, sym, ap, ◌∙◌, subst, arith, eq-eqb}
 use Rattle.std.proofs.lemmas.Bool.Decides.{eqb_tells}
 use Rattle.std.proofs.lemmas.List.{set-get_or}
@@ -48,9 +48,9 @@ picked_is y k [] a is once = absurd a
 picked_is y k (x ∷ xs) a is once = ⊎_elim
     (λ (t : (eqb (number_of x) k ≡ true) × (number_of x ≡ k)). ap (λ b. cond b (x ∷ []) (picked k xs)) t.0 ∙ ap (λ (z : Thread). z ∷ []) (once x (inl refl) t.1))
     (λ (t : (eqb (number_of x) k ≡ false) × (number_of x ≢ k)). ap (λ b. cond b (x ∷ []) (picked k xs)) t.0 ∙ ⊎_elim
-        (λ (e : x ≡ y). absurd (t.1 (ap number_of e ∙ is)))
-        (λ (rest : Among y xs). picked_is y k xs rest is (λ z among. once z (inr among)))
-        a)
+    (λ (e : x ≡ y). absurd (t.1 (ap number_of e ∙ is)))
+    (λ (rest : Among y xs). picked_is y k xs rest is (λ z among. once z (inr among)))
+    a)
     (eqb_tells (number_of x) k)
 
 -- a child with the number that comes first leaves the others
@@ -75,9 +75,9 @@ brought_stands job count k v (inl none) = inl (ap (brought k) none)
 brought_stands job count k v (inr is) = inr record {
   knows = is.knows;
   parts = (
-    let p = is.parts in
-    let o = owed_brought k v.born in
-    omega arith);
+      let p = is.parts in
+      let o = owed_brought k v.born in
+      omega arith);
 } where
   owed_front : (b : Bool) (x : Thread) (xs ps ws : List Thread) → owed (ps ++ ws) ≡ owed xs → owed (cond b (x ∷ []) ps ++ cond b xs (x ∷ ws)) ≡ owed (x ∷ xs)
   owed_front true x xs ps ws e = refl
@@ -92,23 +92,42 @@ brought_stands job count k v (inr is) = inr record {
   owed_brought k [] = refl
   owed_brought k (x ∷ xs) = owed_front (eqb (number_of x) k) x xs (picked k xs) (without k xs) (owed_brought k xs)
 
-pub brings : {S : Type 0} (job : JobData) (id : ℕ) (me : Me S Held) (slots k : ℕ) (st : Step S) → st.word ≡ k → Allows (λ (s : State S Held). Explained job s.words s.views) slots id me k (λ n. n) (Brings st me)
+-- there are parts for each child
+owed_among : (y : Thread) (bs : List Thread) → Among y bs → parts_of (number_of y) ≤ owed bs
+owed_among y [] a = absurd a
+owed_among y (x ∷ xs) (inl e) =
+    let k : ℕ = parts_of (number_of y) in
+    let i : ℕ = parts_of (number_of x) in
+    let same : i ≡ k = ap (λ (t : Thread). parts_of (number_of t)) e in
+    let sum : k ≤ i + owed xs = omega arith in
+    sum
+owed_among y (x ∷ xs) (inr a) =
+    let more = owed_among y xs a in
+    let i : ℕ = parts_of (number_of x) in
+    let sum : parts_of (number_of y) ≤ i + owed xs = omega arith in
+    sum
+
+child_parts : (job : JobData) (count : ℕ) (v : Held) (y : Thread) → Among y v.born → (v ≡ nobody) ⊎ IsView job count v → parts_of (number_of y) ≤ v.parts
+child_parts job count v y a (inl none) = absurd (subst (λ (w : Held). Among y w.born) none a)
+child_parts job count v y a (inr is) = let p = is.parts in let o = owed_among y v.born a in omega arith
+
+pub brings : {S : Type 0} (job : JobData) (id : ℕ) (me : Me S Held) (slots k : ℕ) (st : Step S) → st.word ≡ k
+    → Allows (λ (s : State S Held). Explained job s.words s.views) slots id me k (λ n. n) (Brings st me)
 brings job id me slots k st is s h len at fits =
     let v = me.0 in
     let threads = (run job h.start h.schedule).threads in
     let w = brought k v in
     let held_in : (y : Thread) → Among y (held w) → Among y (held v) =
-            λ y a. ⊎_elim
-                (λ (t : Among y v.threads). among_left y v.threads v.born t)
-                (λ (t : Among y (picked k v.born ++ without k v.born)). among_right y v.threads v.born (among_brought y k v.born t))
-                (among_append y v.threads (picked k v.born ++ without k v.born) a) in
+    λ y a. ⊎_elim
+    (λ (t : Among y v.threads). among_left y v.threads v.born t)
+    (λ (t : Among y (picked k v.born ++ without k v.born)). among_right y v.threads v.born (among_brought y k v.born t))
+    (among_append y v.threads (picked k v.born ++ without k v.born) a) in
     let counts : (n : ℕ) → times n (held w) ≡ times n (held v) =
-            λ n. (let a = times-append n v.threads (picked k v.born ++ without k v.born) in let b = times-append n v.threads v.born in let c = times_brought n k v.born in omega arith) in
+    λ n. (let a = times-append n v.threads (picked k v.born ++ without k v.born) in let b = times-append n v.threads v.born in let c = times_brought n k v.born in omega arith) in
     let found : (y : Thread) → Among y v.born → number_of y ≡ k → slice_get threads k ≡ Some y =
-            λ y a e. subst (λ n. slice_get threads n ≡ Some y) e (h.threads_are.each id v y at (among_right y v.threads v.born a)) in
+    λ y a e. subst (λ n. slice_get threads n ≡ Some y) e (h.threads_are.each id v y at (among_right y v.threads v.born a)) in
     let alone_there : (y : Thread) → Among y v.born → number_of y ≡ k → picked k v.born ≡ y ∷ [] =
-            λ y a e. picked_is y k v.born a e (λ z b q. (let both : Some z ≡ Some y = sym (found z b q) ∙ found y a e in let same : z ≡ y = cc in same)) in
-    (
+    λ y a e. picked_is y k v.born a e (λ z b q. (let both : Some z ≡ Some y = sym (found z b q) ∙ found y a e in let same : z ≡ y = cc in same)) in (
       w,
       keeps,
       tt,
@@ -122,5 +141,12 @@ brings job id me slots k st is s h len at fits =
         views_are = parts.views_set job (length threads) s.views id w h.views_are (brought_stands job (length threads) k v (h.views_are id v at));
         parts_are = parts.parts_moved job s.views id v w at refl h.parts_are;
       }),
-      (refl, (ap (λ (n : ℕ). brought n v) (sym is), λ y a e. ap (λ (n : ℕ). picked n v.born) is ∙ alone_there y a (e ∙ is))),
+      (
+        refl,
+        ap (λ (n : ℕ). brought n v) (sym is),
+        λ y a e. (
+          ap (λ (n : ℕ). picked n v.born) is ∙ alone_there y a (e ∙ is),
+          subst (λ (n : ℕ). parts_of n ≤ v.parts) e (child_parts job (length threads) v y a (h.views_are id v at)),
+        ),
+      ),
     )

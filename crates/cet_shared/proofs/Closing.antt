@@ -29,8 +29,8 @@ module _ (threads : List Thread) (views : List Held) (h : HoldExactly threads vi
 
   -- the thread at a place whose number was gathered is the one that was gathered
   same_thread : (t : ℕ) (thread : Thread) → slice_get threads t ≡ Some thread → has t ≡ true → Among thread v.threads
-  same_thread t thread e yes =
-      let there = number_has t yes in
+  same_thread t thread e shown =
+      let there = number_has t shown in
       let found : slice_get threads t ≡ Some there.0 = subst (λ n. slice_get threads n ≡ Some there.0) there.2 (h.each id v there.0 at (among_left there.0 v.threads v.born there.1)) in
       let both : Some there.0 ≡ Some thread = sym found ∙ e in
       let same : there.0 ≡ thread = cc in
@@ -39,8 +39,8 @@ module _ (threads : List Thread) (views : List Held) (h : HoldExactly threads vi
   pub closed : AreClosed threads has
   closed = record {
     first = has_number 0 all.first;
-    ended = λ t thread e yes. all.over thread (same_thread t thread e yes);
-    named = λ t n thread e yes told. has_number n (all.named thread n (same_thread t thread e yes) told);
+    ended = λ t thread e shown. all.over thread (same_thread t thread e shown);
+    named = λ t n thread e shown told. has_number n (all.named thread n (same_thread t thread e shown) told);
   }
 
   pub only_one : ((n : ℕ) → n < length threads → has n ≡ true) → HoldExactly threads (v ∷ [])

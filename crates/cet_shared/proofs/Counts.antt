@@ -73,11 +73,11 @@ times_among n [] h = absurd (omega arith)
 times_among n (x ∷ xs) h = ⊎_elim
     (λ (e : (x.core.arch.number ≡ n) × (one x.core.arch.number n ≡ 1)). (x, inl refl, e.0))
     (λ (e : (x.core.arch.number ≢ n) × (one x.core.arch.number n ≡ 0)).
-        let k : ℕ = one x.core.arch.number n in
-        let here : 0 < k + times n xs = h in
-        let none : k ≡ 0 = e.1 in
-        let more = times_among n xs (omega arith) in
-        (more.0, inr more.1, more.2))
+    let k : ℕ = one x.core.arch.number n in
+    let here : 0 < k + times n xs = h in
+    let none : k ≡ 0 = e.1 in
+    let more = times_among n xs (omega arith) in
+    (more.0, inr more.1, more.2))
     (one_cases x.core.arch.number n)
 
 pub number_times : (n : ℕ) (xs : List Thread) → HasNumber n xs → 0 < times n xs

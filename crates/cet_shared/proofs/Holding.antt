@@ -105,17 +105,25 @@ module _ (threads : List Thread) (views : List Held) (h : HoldExactly threads vi
   among_after y (inl is) = own_after y is
   among_after y (inr there) = ⊎_elim
       (λ (a : Among y rest). other y (among_left y rest v.born a))
-      (λ (a : Among y (newborn child ++ v.born)). ⊎_elim (λ (b : Among y (newborn child)). child_after child refl y b) (λ (b : Among y v.born). other y (among_right y rest v.born b)) (among_append y (newborn child) v.born a))
+      (λ (a : Among y (newborn child ++ v.born)). ⊎_elim
+      (λ (b : Among y (newborn child)). child_after child refl y b)
+      (λ (b : Among y v.born). other y (among_right y rest v.born b))
+      (among_append y (newborn child) v.born a))
       (among_append y rest (newborn child ++ v.born) there)
     where
       other : (y : Thread) → Among y (rest ++ v.born) → slice_get now (number_of y) ≡ Some y
       other y among = stays y (rest_apart y among) (h.each id v y at (subst (Among y) (sym held_before) (inr among)))
 
   count_child : (o : Option Core) → child ≡ o → (n : ℕ) → times n (newborn o) + bit (nat_lt n (length threads)) ≡ bit (nat_lt n (length (with_child (slice_set threads (number_of x) x') o)))
-  count_child None e n = ap (λ i. bit (nat_lt n i)) (sym (length-set threads (number_of x) x'))
+  count_child None e n =
+      let k : ℕ = bit (nat_lt n (length threads)) in
+      let same : k ≡ bit (nat_lt n (length (slice_set threads (number_of x) x'))) = ap (λ i. bit (nat_lt n i)) (sym (length-set threads (number_of x) x')) in
+      let sum : 0 + k ≡ bit (nat_lt n (length (slice_set threads (number_of x) x'))) = omega arith in
+      sum
   count_child (Some core) e n =
       let long : length (slice_set threads (number_of x) x') ≡ length threads = length-set threads (number_of x) x' in
-      let more : length (slice_set threads (number_of x) x' ++ new_thread core ∷ []) ≡ length threads + 1 = length-append (slice_set threads (number_of x) x') (new_thread core ∷ []) ∙ ap (λ i. i + 1) long in
+      let more : length (slice_set threads (number_of x) x' ++ new_thread core ∷ []) ≡ length threads + 1 =
+      length-append (slice_set threads (number_of x) x') (new_thread core ∷ []) ∙ ap (λ i. i + 1) long in
       let all : bit (nat_lt n (length (slice_set threads (number_of x) x' ++ new_thread core ∷ []))) ≡ bit (nat_lt n (length threads + 1)) = ap (λ i. bit (nat_lt n i)) more in
       let up = below_more n (length threads) in
       let i : ℕ = one core.arch.number n in

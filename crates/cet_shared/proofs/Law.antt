@@ -4,7 +4,7 @@ use Rattle.std.proofs.Common.{◌≡◌, ◌≢◌, ◌⊎◌, inl, inr, ⊎_eli
 use Rattle.std.proofs.Common.{set, get_or, Option, Some, None, refl, sym, ap, ◌∙◌, subst, arith, length-append, length-set, append-nil}
 use Rattle.std.proofs.lemmas.List.{set-get_or}
 use Rattle.std.proofs.lemmas.Option.{slice_get_within}
-use Rattle.std.specs.Prelude.{slice_get, slice_index, slice_set, bit_and, bit_or}
+use Rattle.std.specs.Prelude.{if◌then◌else◌, nat_lt, slice_get, slice_index, slice_set, bit_and, bit_or}
 use prog.Atomic.{either}
 use mathlib.Core.Option.{some, none, some-ne-none, some-injective}
 use lib.ListN.{get_elem?}
@@ -13,21 +13,34 @@ use Rattle.atomic_table.specs.Seated.{TableId}
 use Rattle.atomic_table.proofs.Lists.{at_set}
 use Rattle.cet_words.specs.Access.{InRange, after, answer}
 use Rattle.cet_words.specs.Job.{JobData, IsJob}
-use Rattle.cet_words.specs.Layout.{thread_limit, word_count}
+use Rattle.cet_words.specs.Start.{IsStart}
+use Rattle.cet_words.specs.Layout.{entry_word, thread_limit, word_count}
 use Rattle.cet_words.specs.declared.accesses.Access.{Access}
 use Rattle.cet_words.specs.declared.accesses.Access.TheVariants.{Look, Load, Store, Swap, FetchAdd, FetchOr, FetchAnd, CompareExchange}
-use Rattle.cet_page.specs.Core.{Core, After, next_access, taken}
-use Rattle.cet_page.specs.Machine.{Machine, Starts, Thread, accessed, act, run, step, step_by, thread_after, with_child}
+use Rattle.cet_page.specs.Core.{Core, After, first_core, next_access, taken}
+use Rattle.cet_page.specs.Machine.{Machine, Starts, Thread, accessed, act, machine, run, step, step_by, thread_after, with_child}
 use Rattle.cet_page.specs.Numbered.{Draws, DrawsRight, IsNew, Numbered, bears, bears_nobody, leaves}
 use Rattle.cet_page.proofs.NumberLaws.{number_taken}
 use Rattle.cet_own.proofs.Numbers.{draws_run, numbered_run}
-use Rattle.cet_shared.specs.Held.{Held, first_child, gathered, held, moved, newborn, nobody, own, together, without_first, OwnIs}
-use Rattle.cet_shared.specs.Performed.{Acts, Moves, left_by, told, told_by, word_of}
-use Rattle.cet_shared.specs.Rule.{AreViews, Explained, HoldExactly, IsView}
-use Rattle.cet_shared.proofs.Holding.{cuts, first_low, joins, moves_on, number_of, own_at}
+use Rattle.cet_shared.specs.Held.{Held, first_child, first_view, new_thread, whole, gathered, held, moved, newborn, nobody, own, together, without_first, OwnIs}
+use Rattle.cet_shared.specs.Performed.{Acts, Moves, left_by, told, told_by}
+use Rattle.cet_shared.specs.Rule.{Among, AreViews, Explained, HoldExactly, IsView, total, times}
+use Rattle.cet_shared.proofs.Counts.{below_more, bit, none_past, one}
+use Rattle.cet_shared.proofs.Holding.{cuts, first_low, joins, moves_on, number_of}
 use Rattle.cet_shared.proofs.Parts as parts
 
 -- ---- an access is a step on its word
+
+-- the word of an access
+abbrev pub word_of : Access → ℕ
+word_of (Look page) = entry_word page
+word_of (Load word) = word
+word_of (Store word value) = word
+word_of (Swap word value) = word
+word_of (FetchAdd word value) = word
+word_of (FetchOr word value) = word
+word_of (FetchAnd word value) = word
+word_of (CompareExchange word expected value) = word
 
 -- what becomes of the word of an access
 abbrev pub change : Access → ℕ → ℕ
@@ -97,7 +110,7 @@ module _ (job : JobData) (words : List ℕ) (views : List Held) (id : ℕ) (v : 
   left = taken job x.core (answer words a)
 
   abbrev w : Held
-  w = moved v x rest left
+  w = record { job = v.job; threads = thread_after x left ∷ rest; born = newborn left.child ++ v.born; parts = v.parts }
 
   same_left : taken job x.core (answer m.words a) ≡ left
   same_left = ap (λ (l : List ℕ). taken job x.core (answer l a)) h.words_are
@@ -106,7 +119,7 @@ module _ (job : JobData) (words : List ℕ) (views : List Held) (id : ℕ) (v : 
   number = number_taken job x.core (answer words a)
 
   own_here : slice_get m.threads (number_of x) ≡ Some x
-  own_here = own_at m.threads views h.threads_are id v w x (thread_after x left) rest None at own number (λ core e. cc) refl refl
+  own_here = h.threads_are.each id v x at (subst (λ (l : List Thread). Among x (l ++ v.born)) (sym own) (inl refl))
 
   abbrev schedule : List ℕ
   schedule = h.schedule ++ number_of x ∷ []
@@ -130,9 +143,9 @@ module _ (job : JobData) (words : List ℕ) (views : List Held) (id : ℕ) (v : 
 
   count_after : (o : Option Core) → length (with_child (slice_set m.threads (number_of x) (thread_after x left)) o) ≡ count + length (newborn o)
   count_after None = (
-    let long : length (slice_set m.threads (number_of x) (thread_after x left)) ≡ count = length-set m.threads (number_of x) (thread_after x left) in
-    let sum : length (slice_set m.threads (number_of x) (thread_after x left)) ≡ count + 0 = omega arith in
-    sum)
+      let long : length (slice_set m.threads (number_of x) (thread_after x left)) ≡ count = length-set m.threads (number_of x) (thread_after x left) in
+      let sum : length (slice_set m.threads (number_of x) (thread_after x left)) ≡ count + 0 = omega arith in
+      sum)
   count_after (Some core) =
       length-append (slice_set m.threads (number_of x) (thread_after x left)) (newborn (Some core))
       ∙ ap (λ k. k + 1) (length-set m.threads (number_of x) (thread_after x left))
@@ -162,7 +175,8 @@ module _ {S : Type 0} (job : JobData) (id : ℕ) (a : Access) (c : List (ℕ × 
   Rule s = Explained job s.words s.views
 
   -- f is what the step makes of the word, and r what it tells of the number that it found
-  allows : (v : Held) (x : Thread) (rest : List Thread) → v.job ≡ job → v.threads ≡ x ∷ rest → next_access job x.core ≡ Some a → (f r : ℕ → ℕ) → ((n : ℕ) → change a n ≡ f n) → ((n : ℕ) → told a n ≡ told a (r n)) → (st : Step S)
+  allows : (v : Held) (x : Thread) (rest : List Thread) → v.job ≡ job → v.threads ≡ x ∷ rest → next_access job x.core ≡ Some a
+      → (f r : ℕ → ℕ) → ((n : ℕ) → change a n ≡ f n) → ((n : ℕ) → told a n ≡ told a (r n)) → (st : Step S)
       → Allows Rule slots id (v, c) (word_of a) f (λ n. Acts st (v, c) (r n))
   allows v x rest knows mine next f r does tells st s h len at fits =
       let n = slice_index s.words (word_of a) in
@@ -172,20 +186,24 @@ module _ {S : Type 0} (job : JobData) (id : ℕ) (a : Access) (c : List (ℕ × 
       let found : answer s.words a ≡ told_by (next_access job x.core) (r n) = answer_is s.words a ∙ tells n ∙ ap (λ (o : Option Access). told_by o (r n)) (sym next) in
       let same : left ≡ left_by v.job (own v).core (r n) = ap (taken job x.core) found ∙ λ i. left_by (sym knows i) (sym own_is i).core (r n) in
       let w : Held = record { job = v.job; threads = thread_after x left ∷ rest; born = newborn left.child ++ v.born; parts = v.parts } in
-      let mine_after : moved v left ≡ w = ap (λ (l : List Thread). moved (record v { threads = l }) left) mine in
-      (
+      let mine_after : moved v left ≡ w = ap (λ (l : List Thread). moved (record v { threads = l }) left) mine in (
         w,
         keeps,
         tt,
         subst (λ (l : List ℕ). Explained job l (set s.views id w)) words (explained_step job s.words s.views id v x rest a h at mine next),
-        (refl, record {
-          view = sym mine_after ∙ ap (moved v) same;
-          above = λ child is. subst (λ (y : Thread). y.core.arch.number < child.arch.number) (sym own_is) (above job s.words s.views id v x rest a h at mine next child (ap (λ (l : After). l.child) same ∙ is));
-        }),
+        (
+          refl,
+          record {
+            view = sym mine_after ∙ ap (moved v) same;
+            above = λ child is. subst (λ (y : Thread). y.core.arch.number < child.arch.number) (sym own_is)
+                (above job s.words s.views id v x rest a h at mine next child (ap (λ (l : After). l.child) same ∙ is));
+          },
+        ),
       )
 
   -- the same, where the own thread is whatever the view has in front
-  pub allowed : (v : Held) → v.job ≡ job → OwnIs (own v).core v.threads → next_access job (own v).core ≡ Some a → (f r : ℕ → ℕ) → ((n : ℕ) → change a n ≡ f n) → ((n : ℕ) → told a n ≡ told a (r n)) → (st : Step S)
+  pub allowed : (v : Held) → v.job ≡ job → OwnIs (own v).core v.threads → next_access job (own v).core ≡ Some a
+      → (f r : ℕ → ℕ) → ((n : ℕ) → change a n ≡ f n) → ((n : ℕ) → told a n ≡ told a (r n)) → (st : Step S)
       → Allows Rule slots id (v, c) (word_of a) f (λ n. Acts st (v, c) (r n))
   allowed v knows there next f r does tells st = front v.threads refl there
     where
@@ -204,7 +222,8 @@ in_range (FetchAnd word value) low = low
 in_range (CompareExchange word expected value) low = low
 
 -- what one call on the table asks
-pub act_ok : {S : Type 0} (job : JobData) (id : ℕ) (a : Access) (me : Me S Held) (seated table : TableId) → (seated ≡ table) × (table.words ≡ word_count) → me.0.job ≡ job → OwnIs (own me.0).core me.0.threads → next_access job (own me.0).core ≡ Some a → InRange a
+pub act_ok : {S : Type 0} (job : JobData) (id : ℕ) (a : Access) (me : Me S Held) (seated table : TableId) → (seated ≡ table) × (table.words ≡ word_count)
+    → me.0.job ≡ job → OwnIs (own me.0).core me.0.threads → next_access job (own me.0).core ≡ Some a → InRange a
     → (b : Access) → a ≡ b → (f r : ℕ → ℕ) → ((n : ℕ) → change b n ≡ f n) → ((n : ℕ) → told b n ≡ told b (r n)) → (st : Step S)
     → (seated ≡ table) × (word_of b < table.words) × Allows (λ (s : State S Held). Explained job s.words s.views) table.slots id me (word_of b) f (λ n. Acts st me (r n))
 act_ok job id a me seated table same knows there next low b is f r does tells st =
@@ -227,11 +246,15 @@ splits job id v s h at = record {
   parts_are = parts.parts_cut job (length (run job h.start h.schedule).threads) s.views id v at h.views_are h.parts_are;
 }
 
-pub merges : {S : Type 0} (job : JobData) (id other : ℕ) (v w : Held) (core : Core) → OwnIs core v.threads → Joins (λ (s : State S Held). Explained job s.words s.views) id v other w (together v w) nobody
-merges job id other v w core own s h at apart there' =
-    let there = ⊎_elim (λ (q : (other ≡ id) × (together v w ≡ w)). absurd (apart q.0)) (λ (q : (other ≢ id) × (get_elem? s.views other ≡ some w)). q.1) (at_set s.views id other (together v w) w there') in
-    let count = length (run job h.start h.schedule).threads in
-    let is = owner v.threads refl own count (h.views_are id v at) in
+pub merges : {S : Type 0} (job : JobData) (id other : ℕ) (v w : Held) (core : Core) → OwnIs core v.threads
+    → Joins (λ (s : State S Held). Explained job s.words s.views) id v other w (together v w) nobody
+merges job id other v w core mine s h at apart there' =
+    let there = ⊎_elim
+    (λ (q : (other ≡ id) × (together v w ≡ w)). absurd (apart q.0))
+    (λ (q : (other ≢ id) × (get_elem? s.views other ≡ some w)). q.1)
+    (at_set s.views id other (together v w) w there') in
+    let k = length (run job h.start h.schedule).threads in
+    let is = owner v.threads refl mine k (h.views_are id v at) in
     record {
       is_job = h.is_job;
       start = h.start;
@@ -239,10 +262,45 @@ merges job id other v w core own s h at apart there' =
       schedule = h.schedule;
       words_are = h.words_are;
       threads_are = joins (run job h.start h.schedule).threads s.views h.threads_are id other v w at there there';
-      views_are = parts.views_joined job count s.views id other v w at there there' h.views_are is;
-      parts_are = parts.parts_joined job count s.views id other v w at there there' h.views_are is h.parts_are;
+      views_are = parts.views_joined job k s.views id other v w at there there' h.views_are is;
+      parts_are = parts.parts_joined job k s.views id other v w at there there' h.views_are is h.parts_are;
     }
   where
-    owner : (l : List Thread) → v.threads ≡ l → OwnIs core l → (count : ℕ) → (v ≡ nobody) ⊎ IsView job count v → IsView job count v
-    owner [] e none count stands = absurd none
-    owner (x ∷ rest) e is count stands = parts.is_view job count v x rest e stands
+    owner : (l : List Thread) → v.threads ≡ l → OwnIs core l → (k : ℕ) → (v ≡ nobody) ⊎ IsView job k v → IsView job k v
+    owner [] e is k stands = absurd is
+    owner (x ∷ rest) e is k stands = parts.is_view job k v x rest e stands
+
+-- ---- the first pass
+
+pub first_explained : (job : JobData) (words : List ℕ) → IsJob job → IsStart job.image words → Explained job words (first_view job ∷ [])
+first_explained job words is start = record {
+  is_job = is;
+  start = machine words (new_thread (first_core job) ∷ []);
+  starts = record { words = start; threads = refl };
+  schedule = [];
+  words_are = refl;
+  threads_are = record { each = each; once = once };
+  views_are = views;
+  parts_are = (let k : ℕ = whole in let sum : k + 0 ≡ k = omega arith in sum);
+} where
+  each : (id : ℕ) (v : Held) (y : Thread) → get_elem? (first_view job ∷ []) id ≡ some v → Among y (held v) → slice_get (new_thread (first_core job) ∷ []) (number_of y) ≡ Some y
+  each zero v y e among = ⊎_elim
+      (λ (same : new_thread (first_core job) ≡ y). subst (λ (t : Thread). slice_get (new_thread (first_core job) ∷ []) (number_of t) ≡ Some t) same refl)
+      (λ none. absurd none)
+      (subst (λ (w : Held). Among y (held w)) (sym (some-injective (first_view job) v e)) among)
+  each (suc id) v y e among = absurd (some-ne-none v (sym e))
+
+  once : (n : ℕ) → total (λ v. times n (held v)) (first_view job ∷ []) ≡ bit (nat_lt n 1)
+  once n =
+      let k : ℕ = one 0 n in
+      let more : bit (nat_lt n 1) ≡ bit (nat_lt n 0) + k = below_more n 0 in
+      let none = none_past n 0 (omega arith) in
+      let sum : (k + 0) + 0 ≡ bit (nat_lt n 1) = omega arith in
+      sum
+
+  views : AreViews job 1 (first_view job ∷ [])
+  views zero v e = subst (λ (w : Held). (w ≡ nobody) ⊎ IsView job 1 w) (some-injective (first_view job) v e) (inr (record {
+    knows = refl;
+    parts = (let k : ℕ = whole in let sum : 0 + k ≤ k = omega arith in sum);
+  }))
+  views (suc id) v e = absurd (some-ne-none v (sym e))

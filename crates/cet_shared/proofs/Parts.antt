@@ -74,24 +74,24 @@ module _ (job : JobData) where
   born_view count v w None is job' parts' born' next = record {
     knows = job' ∙ is.knows;
     parts = (
-      let p = is.parts in
-      let o : owed w.born ≡ owed v.born = ap owed born' in
-      let same : reserve (count + 0) ≡ reserve count = (let e : count + 0 ≡ count = omega arith in ap reserve e) in
-      let sum : owed w.born + reserve (count + 0) ≤ w.parts = omega arith in
-      sum);
+        let p = is.parts in
+        let o : owed w.born ≡ owed v.born = ap owed born' in
+        let same : reserve (count + 0) ≡ reserve count = (let e : count + 0 ≡ count = omega arith in ap reserve e) in
+        let sum : owed w.born + reserve (count + 0) ≤ w.parts = omega arith in
+        sum);
   }
   born_view count v w (Some core) is job' parts' born' next = record {
     knows = job' ∙ is.knows;
     parts = (
-      let p = is.parts in
-      let n = next core refl in
-      let k : ℕ = parts_of core.arch.number in
-      let o : owed w.born ≡ k + owed v.born = ap owed born' in
-      let mine : k ≡ parts_of count = ap parts_of n.0 in
-      let half = halved count n.1 in
-      let after = reserve_next count in
-      let sum : owed w.born + reserve (count + 1) ≤ w.parts = omega arith in
-      sum);
+        let p = is.parts in
+        let n = next core refl in
+        let k : ℕ = parts_of core.arch.number in
+        let o : owed w.born ≡ k + owed v.born = ap owed born' in
+        let mine : k ≡ parts_of count = ap parts_of n.0 in
+        let half = halved count n.1 in
+        let after = reserve_next count in
+        let sum : owed w.born + reserve (count + 1) ≤ w.parts = omega arith in
+        sum);
   }
 
   pub parts_moved : (views : List Held) (id : ℕ) (v w : Held) → get_elem? views id ≡ some v → w.parts ≡ v.parts → total parts views ≡ whole → total parts (set views id w) ≡ whole
@@ -106,11 +106,11 @@ module _ (job : JobData) where
     left_view (b ∷ bs) e (inr is) = inr record {
       knows = is.knows;
       parts = (
-        let p = is.parts in
-        let k : ℕ = parts_of b.core.arch.number in
-        let o : owed v.born ≡ k + owed bs = ap owed e in
-        let sum : owed bs + reserve count ≤ v.parts - k = omega arith in
-        sum);
+          let p = is.parts in
+          let k : ℕ = parts_of b.core.arch.number in
+          let o : owed v.born ≡ k + owed bs = ap owed e in
+          let sum : owed bs + reserve count ≤ v.parts - k = omega arith in
+          sum);
     }
 
     child_view : (bs : List Thread) → v.born ≡ bs → ((b : Thread) (rest : List Thread) → bs ≡ b ∷ rest → b.core.arch.number < count) → Stands count v → Stands count (first_child_of v.job bs)
@@ -152,20 +152,20 @@ module _ (job : JobData) where
     both_view (inl none) = record {
       knows = is.knows;
       parts = (
-        let p = is.parts in
-        let o = owed-append v.born w.born in
-        let z : owed w.born ≡ 0 = ap (λ (u : Held). owed u.born) none in
-        let sum : owed (v.born ++ w.born) + reserve count ≤ v.parts + w.parts = omega arith in
-        sum);
+          let p = is.parts in
+          let o = owed-append v.born w.born in
+          let z : owed w.born ≡ 0 = ap (λ (u : Held). owed u.born) none in
+          let sum : owed (v.born ++ w.born) + reserve count ≤ v.parts + w.parts = omega arith in
+          sum);
     }
     both_view (inr is') = record {
       knows = is.knows;
       parts = (
-        let p = is.parts in
-        let p' = is'.parts in
-        let o = owed-append v.born w.born in
-        let sum : owed (v.born ++ w.born) + reserve count ≤ v.parts + w.parts = omega arith in
-        sum);
+          let p = is.parts in
+          let p' = is'.parts in
+          let o = owed-append v.born w.born in
+          let sum : owed (v.born ++ w.born) + reserve count ≤ v.parts + w.parts = omega arith in
+          sum);
     }
 
     pub views_joined : AreViews job count (set (set views id (together v w)) other nobody)

@@ -1,27 +1,15 @@
 -- What a step on the table tells its caller. Source: own.
-use Rattle.std.specs.Prelude.{◌≡◌, ℕ, ◌+◌, ◌<◌, List, [], ◌∷◌, Option, Some, None, option_map}
+use Rattle.std.specs.Prelude.{◌≡◌, ℕ, ◌+◌, ◌<◌, ◌≤◌, List, [], ◌∷◌, Option, Some, None, option_map}
 use Rattle.atomic_table.specs.Table.{Step, Me}
 use Rattle.cet_words.specs.Job.{JobData}
-use Rattle.cet_words.specs.Layout.{entry_word}
 use Rattle.cet_words.specs.declared.accesses.Access.{Access}
 use Rattle.cet_words.specs.declared.accesses.Access.TheVariants.{Look, Load, Store, Swap, FetchAdd, FetchOr, FetchAnd, CompareExchange}
 use Rattle.cet_page.specs.Core.{Core, After, next_access, taken}
 use Rattle.cet_page.specs.Machine.{Thread}
 use Rattle.cet_cpu.specs.Cpu.{CpuData}
 use Rattle.cet_cpu.specs.declared.threads.Taken.{Taken}
-use Rattle.cet_shared.specs.Held.{Held, brought, moved, own, picked}
+use Rattle.cet_shared.specs.Held.{Held, brought, moved, own, parts_of, picked}
 use Rattle.cet_shared.specs.Rule.{Among}
-
--- the word of an access
-abbrev pub word_of : Access → ℕ
-word_of (Look page) = entry_word page
-word_of (Load word) = word
-word_of (Store word value) = word
-word_of (Swap word value) = word
-word_of (FetchAdd word value) = word
-word_of (FetchOr word value) = word
-word_of (FetchAnd word value) = word
-word_of (CompareExchange word expected value) = word
 
 -- what an access answers that found this in its word
 abbrev pub told : Access → (found : ℕ) → ℕ
@@ -64,8 +52,9 @@ pub record Performs (old new : Held) (answer : Taken) : Type 0 where
 abbrev pub Acts : {S : Type 0} → Step S → Me S Held → ℕ → Me S Held → Type 0
 Acts step before found after = (after.1 ≡ before.1) × Moves before.0 found after.0
 
--- the child whose number is that of the word that was read comes before the others, and is the one with that number
+-- the child whose number is that of the word that was read comes before the others; it is the one with that number, and there are
+-- parts for it
 abbrev pub Brings : {S : Type 0} → Step S → Me S Held → ℕ → Me S Held → Type 0
 Brings step before found after =
     (after.1 ≡ before.1) × (after.0 ≡ brought step.word before.0)
-    × ((y : Thread) → Among y before.0.born → y.core.arch.number ≡ step.word → picked step.word before.0.born ≡ y ∷ [])
+    × ((y : Thread) → Among y before.0.born → y.core.arch.number ≡ step.word → (picked step.word before.0.born ≡ y ∷ []) × (parts_of step.word ≤ before.0.parts))

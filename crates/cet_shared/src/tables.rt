@@ -1,15 +1,16 @@
 //! The table of words that guest threads share.
 
-ghost use Rattle.std.specs.Prelude.{◌≡◌, ℕ, ◌<◌, length, None, Some, IfOk, IfSome};
+ghost use Rattle.std.specs.Prelude.{◌≡◌, ℕ, ◌+◌, ◌<◌, ◌≤◌, [], ◌∷◌, length, None, Some, IfOk, IfSome};
 ghost use Rattle.std.specs.Mem.Slots.{slots_items, slots_len, IsFull};
 ghost use Rattle.cet_words.specs.Access.{InRange};
 ghost use Rattle.cet_words.specs.Layout.{word_count};
 ghost use Rattle.cet_cpu.specs.Cpu.{IsCpu};
 ghost use Rattle.cet_page.specs.Core.{next_access};
-ghost use Rattle.cet_shared.specs.Held.{IsOf, OwnIs, alone, own, first_view, new_thread, together, whole, without_child};
+ghost use Rattle.cet_page.specs.Machine.{Thread};
+ghost use Rattle.cet_shared.specs.Held.{IsOf, OwnIs, alone, brought, first_view, new_thread, own, parts_of, picked, together, whole, without_child};
 ghost use Rattle.cet_shared.specs.Rule.{Among};
 ghost use Rattle.cet_shared.specs.Keys.{job_of};
-ghost use Rattle.cet_shared.specs.Performed.{Moves, Performs, told, word_of};
+ghost use Rattle.cet_shared.specs.Performed.{Moves, Performs, told};
 ghost use Rattle.cet_shared.specs.Closing.{AreAll, HoldsAll, IsRun};
 
 use crate::passes::Pass;
@@ -83,11 +84,10 @@ impl Shared {
         requires state { IsCpu self.now.job child }
         ensures parent { pass.new.view ≡ without_child child.core.arch.number pass.old.view }
         ensures child { result.view ≡ alone self.now.job (new_thread child.core) }
+        ensures parts { pass.new.view.parts + result.view.parts ≡ pass.old.view.parts }
         ensures passes { IsOf self.now pass.new × IsOf self.now result }
     {
-        let number = usize::from(child.arch().number);
-        self.table.shared.load::<Bring>(&mut pass.seat, number);
-        let seat = self.table.shared.split_seat::<Child>(&mut pass.seat);
+        let seat = part(&self.table.shared, &mut pass.seat, &child);
         Pass { seat, cpu: child }
     }
 
@@ -151,6 +151,29 @@ fn act(shared: &Words, seat: &mut Seat<(), View>, access: Access) -> u64
             shared.compare_exchange::<OneAccess>(seat, word as usize, expected, new)
         }
     }
+}
+
+/// Brings the child of this number before the others.
+fn bring(shared: &Words, seat: &mut Seat<(), View>, number: u8)
+    requires { (seat.old.table_id ≡ shared.now.table_id) × (shared.now.table_id.words ≡ word_count) }
+    ensures table { (seat.new.table_id ≡ seat.old.table_id) × (seat.new.me.1 ≡ seat.old.me.1) }
+    ensures view { seat.new.me.0 ≡ brought number seat.old.me.0 }
+    ensures picked { (y : Thread) → Among y seat.old.me.0.born → y.core.arch.number ≡ number → (picked number seat.old.me.0.born ≡ y ∷ []) × (parts_of number ≤ seat.old.me.0.parts) }
+{
+    shared.load::<Bring>(seat, number as usize);
+}
+
+/// A seat for a child.
+fn part(shared: &Words, seat: &mut Seat<(), View>, child: &Cpu) -> Seat<(), View>
+    requires table { (seat.old.table_id ≡ shared.now.table_id) × (shared.now.table_id.words ≡ word_count) }
+    requires child { Among (new_thread child.now.core) seat.old.me.0.born }
+    ensures table { (seat.new.table_id ≡ seat.old.table_id) × (seat.new.me.1 ≡ seat.old.me.1) }
+    ensures view { seat.new.me.0 ≡ without_child child.now.core.arch.number seat.old.me.0 }
+    ensures seat { (result.table_id ≡ seat.old.table_id) × (result.me ≡ (alone seat.old.me.0.job (new_thread child.now.core), [])) }
+    ensures parts { parts_of child.now.core.arch.number ≤ seat.old.me.0.parts }
+{
+    bring(shared, seat, child.arch().number);
+    shared.split_seat::<Child>(seat)
 }
 
 /// Stores the words of a closed table, each by its number.

@@ -5,15 +5,23 @@ use Rattle.cet_pool.proofs.finishes.finish.Goals as goal
 
 pub outcome_of-requires : goal.outcome_of-requires
 outcome_of-requires c =
-    let r = c.close.ensures in
-    (r.start, r.schedule, subst (λ p. IsLeft c.args.job.now r.start r.schedule c.close.new.into c.args.done.threads p) (sym c.as_slice.ensures) (left c.args.job.now c.args.shared c.args.done c.close.new.into c.requires.job c.requires.done r))
+    let r = c.close.ensures in (
+      r.start,
+      r.schedule,
+      subst (λ p. IsLeft c.args.job.now r.start r.schedule c.close.new.into c.args.done.threads p) (sym c.as_slice.ensures) (left c.args.job.now c.args.shared
+          c.args.done c.close.new.into c.requires.job c.requires.done r),
+    )
 
 pub returns-clause-run : goal.returns-clause-run
 returns-clause-run c =
     let r = c.close.ensures in
-    led c.args.job.now c.args.shared c.args.done c.close.new.into c.requires.job c.requires.done r c.in_ok-outcome.outcome (c.in_ok-outcome.ensures.outcome r.start r.schedule (subst (λ p. IsLeft c.args.job.now r.start r.schedule c.close.new.into c.args.done.threads p) (sym c.as_slice.ensures) (left c.args.job.now c.args.shared c.args.done c.close.new.into c.requires.job c.requires.done r)))
+    led c.args.job.now c.args.shared c.args.done c.close.new.into c.requires.job c.requires.done r c.in_ok-outcome.outcome (c.in_ok-outcome.ensures.outcome r.start r.schedule (subst (λ p.
+    IsLeft c.args.job.now r.start r.schedule c.close.new.into c.args.done.threads p) (sym c.as_slice.ensures) (left c.args.job.now c.args.shared c.args.done c.close.new.into
+    c.requires.job c.requires.done r)))
 
 pub returns-clause-threads : goal.returns-clause-threads
 returns-clause-threads c =
     let r = c.close.ensures in
-    threads_kept c.args.job.now c.args.shared c.args.done c.close.new.into c.requires.job c.requires.done r c.in_ok-outcome.outcome (c.in_ok-outcome.ensures.outcome r.start r.schedule (subst (λ p. IsLeft c.args.job.now r.start r.schedule c.close.new.into c.args.done.threads p) (sym c.as_slice.ensures) (left c.args.job.now c.args.shared c.args.done c.close.new.into c.requires.job c.requires.done r)))
+    threads_kept c.args.job.now c.args.shared c.args.done c.close.new.into c.requires.job c.requires.done r c.in_ok-outcome.outcome (c.in_ok-outcome.ensures.outcome r.start r.schedule
+    (subst (λ p. IsLeft c.args.job.now r.start r.schedule c.close.new.into c.args.done.threads p) (sym c.as_slice.ensures) (left c.args.job.now c.args.shared c.args.done
+    c.close.new.into c.requires.job c.requires.done r)))

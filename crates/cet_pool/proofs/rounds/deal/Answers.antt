@@ -23,4 +23,5 @@ loop-live-preserved c =
     }
 
 pub returns : goal.returns
-returns c = subst (λ (l : List Live). IsPermutation c.args.lives.items (l ++ spread c.loop-live.bins.items)) (none_in c.loop-live.waiting.items (sym c.loop-live.waiting.ok.0 ∙ c.in_default.ensures.cases.0)) c.loop-live.invariant.dealt
+returns c = subst (λ (l : List Live). IsPermutation c.args.lives.items (l ++ spread c.loop-live.bins.items)) (none_in c.loop-live.waiting.items (sym c.loop-live.waiting.ok.0
+    ∙ c.in_default.ensures.cases.0)) c.loop-live.invariant.dealt

@@ -7,7 +7,8 @@ use Rattle.cet_pool.proofs.workers.turns.Goals as goal
 
 pub loop-live-preserved : goal.loop-live-preserved
 loop-live-preserved g c =
-    turning_next c.args.shared.now c.args.bin.lives.items c.loop-live.waiting.items c.pop.new.self.items c.loop-live.had.items c.turn.new.born.items c.push.new.self.items c.in-Some.live c.turn.new.live
+    turning_next c.args.shared.now c.args.bin.lives.items c.loop-live.waiting.items c.pop.new.self.items c.loop-live.had.items c.turn.new.born.items c.push.new.self.items c.in-Some.live
+    c.turn.new.live
     c.loop-live.invariant c.in-Some.ensures.items c.in_ok-turn.ensures c.in_ok-push.ensures.items
 
 pub returns : goal.returns
