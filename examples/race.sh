@@ -1,5 +1,5 @@
 #!/bin/sh
-# Runs race_for_one_token under `--mix` 0 to 63: in each order of the accesses exactly one thread takes the stack, the other
+# Runs token_race under `--mix` 0 to 63: in each order of the accesses exactly one thread takes the stack, the other
 # gets #CP with code 4, and that kills the process. The first argument may name another program.
 cd "$(dirname "$0")" || exit 1
 cetvm=${1:-../crates/cetvm/out/cetvm}
@@ -12,7 +12,7 @@ trap 'rm -rf "$work"' EXIT
 failed=0
 first=0
 
-"$cetvm" asm < race_for_one_token.s > "$work/image" || exit 1
+"$cetvm" asm < token_race.s > "$work/image" || exit 1
 seed=0
 while [ "$seed" -lt 64 ]; do
     "$cetvm" replay --mix "$seed" < "$work/image" > "$work/report" 2> "$work/line"

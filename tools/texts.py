@@ -6,12 +6,15 @@ A text is its lines, each ended by a newline, the last one too, and no line begi
 to the record at rdi, and `LOAD b` their loads from the record at b. The runtime begins with `.text`. `N` in the
 program of `bench` is the number of its swaps, in decimal.
 
-    tools/texts.py            compares each text, byte for byte, with the literals in the code that answer it
+    tools/texts.py [CETVM]    compares each text, byte for byte, with the literals in the code that answer it, and with
+                              what the program CETVM makes of it (else the one that `rt ci` has left, where it is there)
     tools/texts.py runtime    prints the runtime
     tools/texts.py bench N    prints the program of `bench`
     tools/texts.py help       prints the help
 """
+import os
 import re
+import subprocess
 import sys
 from pathlib import Path
 
@@ -106,17 +109,53 @@ def wrong_texts():
     return [path for path, texts in wanted.items() if literals(path) != texts]
 
 
-def main(words):
-    made = {"runtime": runtime, "bench": bench, "help": lambda: text(HELP)}
-    if words:
-        sys.stdout.write(made[words[0]](*map(int, words[1:])))
-        return 0
-    wrong = wrong_texts()
-    for path in wrong:
-        print(f"texts: crates/{path} has another text than its lines make")
+def answered(cetvm, words, given=b""):
+    """The status of the program by these words on this input, and what it writes on both sides."""
+    made = subprocess.run([cetvm, *words], input=given, capture_output=True)
+    return made.returncode, made.stdout, made.stderr.decode(errors="replace")
+
+
+def benched(cetvm, swaps):
+    """What `bench` is to write: the end of a run of its program."""
+    image = answered(cetvm, ["asm"], (bench(swaps) + "\n" + runtime()).encode())[1]
+    report = answered(cetvm, ["run"], image)[1].decode()
+    records = sum(map(int, re.findall(r"^thread \d+ records (\d+) ", report, re.M)))
+    return 0, f"bench {swaps} records {records} {report.splitlines()[-1]}\n".encode() if report else b"", ""
+
+
+def wrong_answers(cetvm):
+    """What the program makes otherwise of a text that it carries."""
+    alone = answered(cetvm, ["asm"], runtime().encode())
+    if alone[0] or answered(cetvm, ["asm", "--runtime"]) != alone:
+        yield "asm --runtime of an empty source isn't the image of the runtime"
+    for words in ([], ["run", "x"]):
+        line = f"cetvm: usage: word {len(words) or 1}\n"
+        if answered(cetvm, words) != (1, b"", line + text(HELP)):
+            yield f"behind the line `{line.rstrip()}` stands another text than the help"
+    for swaps in (1, 10):
+        if answered(cetvm, ["bench", str(swaps)]) != benched(cetvm, swaps):
+            yield f"bench {swaps} isn't a run of its program"
+
+
+def compared(cetvm):
+    wrong = [f"crates/{path} has another text than its lines make" for path in wrong_texts()]
+    there = os.access(cetvm, os.X_OK)
+    wrong += wrong_answers(cetvm) if there else []
+    for line in wrong:
+        print(f"texts: {line}")
+    if not there:
+        print(f"texts: skipped what the program makes of its texts: no program at {cetvm}")
     if not wrong:
         print("texts: the runtime, the program of bench and the help as their lines make them")
     return 1 if wrong else 0
+
+
+def main(words):
+    made = {"runtime": runtime, "bench": bench, "help": lambda: text(HELP)}
+    if words and words[0] in made:
+        sys.stdout.write(made[words[0]](*map(int, words[1:])))
+        return 0
+    return compared(words[0] if words else CRATES / "cetvm/out/cetvm")
 
 
 if __name__ == "__main__":

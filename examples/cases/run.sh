@@ -5,9 +5,13 @@
 # NAME.case is one run. Its first lines have keys: `words:`, `status:` (the exit status), `line:` (that on standard
 # error), `patch: OFFSET HEX` (bytes of the image that are written over) and `cut: SIZE` (the image's first bytes). Behind
 # `source:` stands an assembler text, whose image is the input (of `asm` the text itself), and behind `output:` what is
-# written; nothing, where that is missing.
+# written; nothing, where that is missing. A run is made once more with `--trace last`, by which each thread has its last
+# record alone.
 #
 # words.cases has a list of words a line, and before it the number of its first faulty word, or `-` where it is a command.
+# odd_words.cases has the same with words that have blanks or bytes that are no text: `\\0` and three octal digits is a
+# byte, and `''` an empty word. smp_words.cases is for a command that isn't there yet: the numbers count once it is, and
+# today the first word is the faulty one.
 # texts.cases has a text a line, with `|` for a newline, and before it the line and the rule that it breaks.
 # images.cases has a change of an image a line: the rule that it breaks and the place, and then a `patch` or `cut`.
 # map_shadow_stack_arguments.cases has a call from a fresh start a line: its result, address, size and flags, and, where it
@@ -28,6 +32,8 @@ fail() {
     failed=1
 }
 
+../../tools/texts.py help > "$work/help" || fail "there is no help to compare with"
+
 # writes bytes, in hexadecimal, over those of a file from a place on
 patch() {
     octal=$(echo "$3" | sed 's/../0x& /g' | xargs -n 1 printf '\\0%03o')
@@ -39,10 +45,17 @@ cut_off() {
     head -c "$2" "$1" > "$work/part" && mv "$work/part" "$1"
 }
 
-# the program by these words on $work/input: the status, and then the line on standard error
+# the program by these words on $work/input: the status, and then the line on standard error. Behind the line of faulty
+# words stands the help.
 answers() {
     "$cetvm" "$@" < "$work/input" > "$work/written" 2> "$work/error"
-    echo "$? $(cat "$work/error")"
+    code=$?
+    line=$(cat "$work/error")
+    if [ "$code" = 1 ]; then
+        line=$(head -n 1 "$work/error")
+        sed 1d "$work/error" | cmp -s - "$work/help" || line="$line, without the help"
+    fi
+    echo "$code $line"
 }
 
 for case in *.case; do
@@ -75,6 +88,14 @@ for case in *.case; do
     wanted="$(sed -n 's/^status: //p' "$work/keys") $(sed -n 's/^line: //p' "$work/keys")"
     [ "$told" = "$wanted" ] || fail "$name ends by $told, not by $wanted"
     cmp "$work/written" "$work/output" || fail "$name writes something else"
+    case $words in
+    run* | replay*) ;;
+    *) continue ;;
+    esac
+    awk '/^[0-9]/ { last = $0; next } last != "" { print last; last = "" } { print }' "$work/output" > "$work/last"
+    # shellcheck disable=SC2086
+    [ "$(answers $words --trace=last)" = "$told" ] || fail "$name with last records ends otherwise"
+    cmp "$work/written" "$work/last" || fail "$name with last records writes something else"
 done
 
 printf 'mov edi, 7\nmov eax, 60\nsyscall\n' | "$cetvm" asm > "$work/image" || fail "the image is not assembled"
@@ -84,22 +105,14 @@ list() {
     yes "$1" | head -n "$2" | paste -s -d , -
 }
 
-# The longest lists, and those with an item more, or a turn.
-{
-    cat words.cases
-    echo "- run --signals $(list 0:0:10 256)"
-    echo "3 run --signals $(list 0:0:10 257)"
-    echo "- replay --schedule $(list 0 10000)"
-    echo "3 replay --schedule $(list 0 10001)"
-    echo "- replay --schedule $(list '0*100' 10000)"
-    echo "3 replay --schedule $(list '0*100' 9999),0*101"
-} > "$work/words"
-while read -r number words; do
+# the answer to words of which this one is the first faulty one, or `-`
+faulty_word() {
+    number=$1
+    shift
     count=$((count + 1))
     cp "$work/image" "$work/input"
-    shown=$(printf '%.80s' "$words")
-    # shellcheck disable=SC2086
-    told=$(answers $words)
+    shown=$(printf '%.80s' "$*")
+    told=$(answers "$@")
     if [ "$number" = - ]; then
         case $told in
         "1 "*) fail "the words $shown are refused" ;;
@@ -108,7 +121,61 @@ while read -r number words; do
         [ "$told" = "1 cetvm: usage: word $number" ] || fail "the words $shown are answered $told"
         [ -s "$work/written" ] && fail "the words $shown have an output"
     fi
+}
+
+# The longest lists, and those with an item more, or a turn.
+{
+    cat words.cases
+    sed 's/^[^ ]*/1/' smp_words.cases
+    echo "- run --signals $(list 0:0:10 256)"
+    echo "3 run --signals $(list 0:0:10 257)"
+    echo "- replay --schedule $(list 0 10000)"
+    echo "3 replay --schedule $(list 0 10001)"
+    echo "- replay --schedule $(list '0*100' 10000)"
+    echo "3 replay --schedule $(list '0*100' 9999),0*101"
+    # Words of 100,000 bytes, and lists of 10,000 words.
+    zeros=$(head -c 99999 /dev/zero | tr '\0' 0)
+    echo "1 ${zeros}1"
+    echo "1 run$zeros"
+    echo "2 run --$zeros"
+    echo "2 run ${zeros}1 --limit 5"
+    echo "3 run --limit ${zeros}1"
+    echo "2 run --limit=${zeros}1"
+    echo "3 run --limit 1$zeros"
+    echo "4 run --limit 5 ${zeros}1"
+    echo "3 run --signals 0:0:${zeros}1"
+    echo "3 run --trace full$zeros"
+    echo "2 asm --runtime$zeros"
+    echo "3 asm --runtime ${zeros}1"
+    echo "2 bench ${zeros}1"
+    echo "2 bench 1$zeros"
+    echo "3 bench 1 ${zeros}1"
+    echo "3 replay --mix ${zeros}1"
+    echo "3 replay --schedule ${zeros}1"
+    echo "1 $(yes x | head -n 10000 | tr '\n' ' ')"
+    echo "2 run $(yes run | head -n 9999 | tr '\n' ' ')"
+    echo "2 bench $(yes bench | head -n 9999 | tr '\n' ' ')"
+    echo "3 bench 5 $(yes 5 | head -n 9998 | tr '\n' ' ')"
+    echo "4 run --limit 5 $(yes -- '--limit 5' | head -n 4998 | tr '\n' ' ') x"
+    echo "3 asm --runtime $(yes -- --runtime | head -n 9998 | tr '\n' ' ')"
+    echo "10 replay --mix 1 --limit 5 --procs 1 --trace last $(yes x | head -n 9991 | tr '\n' ' ')"
+} > "$work/words"
+while read -r number words; do
+    # shellcheck disable=SC2086
+    faulty_word "$number" $words
 done < "$work/words"
+
+while read -r number words; do
+    set --
+    for word in $words; do
+        if [ "$word" = "''" ]; then
+            set -- "$@" ""
+        else
+            set -- "$@" "$(printf '%b' "$word")"
+        fi
+    done
+    faulty_word "$number" "$@"
+done < odd_words.cases
 
 while read -r line rule text; do
     count=$((count + 1))

@@ -16,8 +16,10 @@ from texts import all_texts
 
 LEAST = 3
 BIRTH = " born "
+# Threads are born in it, although its report is one of last records.
+LAST = "four_threads_of_contexts"
 # Of an example: the turns up to the one before the second thread may matter, as a schedule's item.
-RACES = {"race_for_one_token": "0*41", "busy_supervisor_stack": "0*21"}
+RACES = {"token_race": "0*41", "busy_gate": "0*21"}
 
 
 class Totals:
@@ -35,11 +37,11 @@ class Totals:
 
 
 def without_plan(words):
-    """The words behind the command, without a schedule."""
+    """The words behind the command, without a schedule, and with full traces."""
     kept, rest = [], list(words[1:])
     while rest:
         word = rest.pop(0)
-        if word.startswith(("--schedule", "--mix")):
+        if word.startswith(("--schedule", "--mix", "--trace")):
             rest = rest if "=" in word else rest[1:]
         else:
             kept.append(word)
@@ -62,7 +64,7 @@ def main():
     count = int(sys.argv[2]) if len(sys.argv) > 2 else 32
     turns = int(sys.argv[3]) if len(sys.argv) > 3 else 6
     totals = Totals(sys.argv[1])
-    texts = [text for text in all_texts() if text.report is not None and BIRTH in text.report]
+    texts = [text for text in all_texts() if text.name == LAST or text.report is not None and BIRTH in text.report]
     for text in texts:
         check_text(totals, text, count, turns)
     for line in totals.wrong[:20]:

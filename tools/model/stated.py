@@ -1,6 +1,7 @@
 #!/usr/bin/env python3
 """`stated.py CETVM` runs the model on the programs that were worked out by hand, and on each example and each case that
-is a run, and compares with what is stated of them. CETVM assembles and lists the sources, and runs none."""
+is a run, and compares with what is stated of them: the reports, and of the examples the lines that were worked out by
+hand. CETVM assembles and lists the sources, and runs none."""
 import os
 import sys
 
@@ -10,7 +11,7 @@ from listing import Unknown, build
 from outcome import outcome, status
 from texts import all_texts
 from words import read
-from worked import ROWS, missing
+from worked import ABSENT, EXAMPLES, ROWS, missing
 
 
 def worked(cetvm):
@@ -18,6 +19,17 @@ def worked(cetvm):
         run = outcome(build(cetvm, row.source)[1], read(row.words.split()))
         for line in missing(row, run.report()):
             yield f"{row.name}: the model has no {line}"
+
+
+def examples():
+    """What the reports beside the examples lack of the lines that were worked out."""
+    reports = {text.name: text.report for text in all_texts() if text.example}
+    for name, stated in EXAMPLES.items():
+        for line in missing(stated, reports[name]):
+            yield f"{name}.report has no {line}"
+    for name, words in ABSENT.items():
+        if words in reports[name]:
+            yield f"{name}.report has{words}"
 
 
 def texts(cetvm):
@@ -40,10 +52,10 @@ def main():
     if len(sys.argv) < 2 or not os.access(sys.argv[1], os.X_OK):
         sys.exit("model: no program that assembles")
     made, wrong = texts(sys.argv[1])
-    wrong += worked(sys.argv[1])
+    wrong += [*worked(sys.argv[1]), *examples()]
     for line in wrong:
         print(f"model: {line}")
-    print(f"model: {len(ROWS)} programs worked out by hand, {made} examples and cases; "
+    print(f"model: {len(ROWS) + len(EXAMPLES)} programs worked out by hand, {made} examples and cases; "
           f"{len(wrong)} lines or reports differ")
     sys.exit(bool(wrong))
 

@@ -1,20 +1,34 @@
 """The examples and the cases that are runs: their sources, words, and what is stated of them."""
 import subprocess
 from collections import namedtuple
+from functools import cache
 from pathlib import Path
 
 from words import Faulty, read
 
 EXAMPLES = Path(__file__).resolve().parents[2] / "examples"
-Text = namedtuple("Text", "name source words report status")
+Text = namedtuple("Text", "name source words report status example", defaults=(False,))
+CARRIED = EXAMPLES.parent / "tools" / "texts.py"
 
 
-RUNTIME = EXAMPLES.parent / "tools" / "texts.py"
+@cache
+def carried(*words):
+    """A text that the program carries, made from its lines."""
+    return subprocess.run([CARRIED, *words], capture_output=True, check=True, text=True).stdout
 
 
 def runtime():
     """The text that `asm --runtime` appends."""
-    return subprocess.run([RUNTIME, "runtime"], capture_output=True, check=True, text=True).stdout
+    return carried("runtime")
+
+
+def bench(swaps):
+    """The program of `bench`."""
+    return carried("bench", str(int(swaps, 0)))
+
+
+def help_text():
+    return carried("help")
 
 
 def example(path):
@@ -22,7 +36,7 @@ def example(path):
     made, run = words.read_text().splitlines() if words.exists() else ("asm", "run")
     source = path.read_text() + ("\n" + runtime() if made == "asm --runtime" else "")
     status = path.with_suffix(".status").read_text().rstrip("\n").replace("\n", " ")
-    return Text(path.stem, source, run.split(), report.read_text() if report.exists() else None, status)
+    return Text(path.stem, source, run.split(), report.read_text() if report.exists() else None, status, True)
 
 
 def case(path):

@@ -5,17 +5,10 @@ use Rattle.std.proofs.lemmas.Bool.Decides.{eqb_tells}
 use Rattle.cet_words.specs.Change.{Change, Busied, Freed}
 use Rattle.cet_book.specs.Book.{Book, stack_of, put_stack, book_after}
 use Rattle.cet_book.specs.Shape.{StackShape, IsBook}
+use Rattle.cet_book.specs.Relied.{Free, Held}
 use Rattle.cet_book.proofs.Kept.{book_kept, SameHolders}
 use Rattle.cet_book.proofs.Edited.{busied_is, freed_is}
 use Rattle.cet_book.proofs.Supervisor.{stack_there, stack_of-put_stack}
-
--- the thread holds no supervisor stack
-abbrev pub Free : ℕ → Book → Type 0
-Free t b = (k : ℕ) → stack_of b k ≢ Some t
-
--- the note says k exactly where the book's stack k has the thread
-abbrev pub Held : (t : ℕ) → Book → Option ℕ → Type 0
-Held t b held = (k : ℕ) → (held ≡ Some k) ↔ (stack_of b k ≡ Some t)
 
 pub held_free : (t : ℕ) (b : Book) → Free t b → Held t b None
 held_free t b free k = (λ e. cc, λ e. absurd (free k e))

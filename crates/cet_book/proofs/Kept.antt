@@ -18,7 +18,8 @@ use Rattle.cet_book.proofs.Acquire.{parked_at_holds, Takes, acquire_shape}
 use Rattle.cet_book.proofs.Hand.{Made, made_there, seeds, seed_shape, bears, born_shape, ends, end_shape}
 use Rattle.cet_book.proofs.Append.{Appends, append_shape, end_le_last, last_end_low}
 use Rattle.cet_book.proofs.Removes.{returned_is, shortened, raised_shortened}
-use Rattle.cet_book.proofs.Relies.{Relies, relies_same, relies_then, relist_relies, unlink_relies, acquire_relies, seed_relies, born_relies, end_relies, append_relies, removal_relies, raised_relies, stack_relies}
+use Rattle.cet_book.specs.Relied.{Relies, relies_same, relies_then}
+use Rattle.cet_book.proofs.Relies.{relist_relies, unlink_relies, acquire_relies, seed_relies, born_relies, end_relies, append_relies, removal_relies, raised_relies, stack_relies}
 use Rattle.cet_book.proofs.Addresses.{ChangeReturns, older_return, relist_returns, unlink_returns, acquire_returns, hand_returns, append_returns, blanks_return, removal_returns, raised_returns}
 use Rattle.cet_book.proofs.Cases.{if_some, and_true, with_current_some, room_for, maker_true, CanClaim, can_claim_true}
 use Rattle.cet_book.proofs.Supervisor.{holds_true, free_true, stack_there, none_held, busied_stacks, freed_stacks, put_stack_shape}

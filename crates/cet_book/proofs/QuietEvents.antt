@@ -17,7 +17,7 @@ use Rattle.cet_book.proofs.Acquire.{Takes, acquire_taken}
 use Rattle.cet_book.proofs.Hand.{hand, Made, made_empty, hand_all, hand_other, seeds, bears, ends}
 use Rattle.cet_book.proofs.Append.{append_old, append_all, nowhere_there}
 use Rattle.cet_book.proofs.Removes.{raised_shortened}
-use Rattle.cet_book.proofs.Relies.{Relies, owns_current}
+use Rattle.cet_book.specs.Relied.{Relies, owns_current}
 use Rattle.cet_book.proofs.Cases.{if_some, and_true, maker_true}
 use Rattle.cet_book.proofs.Kept.{NotBorn, book_kept}
 use Rattle.cet_book.proofs.Edited.{Edited, relists, unlinks, raises, acquires, appends, seeds_region, bears_child, ends_region, busies, frees, edited}

@@ -17,7 +17,7 @@ use Rattle.cet_book.proofs.Relist.{relist_here}
 use Rattle.cet_book.proofs.Unlink.{unlink_here}
 use Rattle.cet_book.proofs.Removes.{Removal, plain, linked, raised_all, raised_shortened}
 use Rattle.cet_book.proofs.First.{first_is_book}
-use Rattle.cet_book.proofs.Relies.{owns_current}
+use Rattle.cet_book.specs.Relied.{owns_current}
 use Rattle.cet_book.proofs.Cases.{with_current_some}
 use Rattle.cet_book.proofs.Comes.{change_lasts}
 use Rattle.cet_book.proofs.UnusedStays.{IsUnused, unused_stays}

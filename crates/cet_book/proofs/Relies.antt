@@ -7,6 +7,7 @@ use Rattle.cet_book.specs.declared.entries.Holder.{Holder}
 use Rattle.cet_book.specs.declared.entries.Holder.TheVariants.{Maker, Current, Parked, Left, Lost}
 use Rattle.cet_book.specs.Book.{Region, Book, region, is_current, current_of, stack_of, put_stack, relist, unlink, acquire, raised}
 use Rattle.cet_book.specs.Facts.{Owns}
+use Rattle.cet_book.specs.Relied.{Relies, owns_current, relies_same, relies_then}
 use Rattle.cet_book.proofs.Edits.{Owned}
 use Rattle.cet_book.proofs.Relist.{relist_same, relist_other, relist_current}
 use Rattle.cet_book.proofs.Unlink.{Gone, lost, Linked, linked_left, unlink_same, unlink_other, unlink_current}
@@ -15,53 +16,6 @@ use Rattle.cet_book.proofs.Hand.{hand, Hands, Made, hand_same, hand_other, hand_
 use Rattle.cet_book.proofs.Append.{append, Appends, append_length, append_old, append_current, append_none, nowhere_there}
 use Rattle.cet_book.proofs.Removes.{Removal, plain, linked, raised_all}
 use Rattle.cet_book.proofs.Supervisor.{stack_of-put_stack, current_of-put_stack}
-
-pub record Relies (t : ℕ) (b now : Book) : Type 0 where
-  pub grows : length b.regions ≤ length now.regions
-  pub start : (i : ℕ) → i < length b.regions → (region now i).start ≡ (region b i).start
-  pub end : (i : ℕ) → i < length b.regions → (region now i).end ≡ (region b i).end
-  -- the thread's region stays its region, and none comes to a thread that has none
-  pub found : current_of t b < length b.regions → current_of t now ≡ current_of t b
-  pub none : length b.regions ≤ current_of t b → length now.regions ≤ current_of t now
-  -- the regions that are current on the thread or made by it stay as they are, and so does the one that was left for its own
-  pub kept : (i : ℕ) → Owns t (region b i).holder → region now i ≡ region b i
-  pub below : (q s : ℕ) → (region b q).holder ≡ Current t → (region b s).holder ≡ Left q → region now s ≡ region b s
-  -- a supervisor stack that it holds stays so, and no other comes to it
-  pub held : (k : ℕ) → stack_of b k ≡ Some t → stack_of now k ≡ Some t
-  pub free : (k : ℕ) → stack_of now k ≡ Some t → stack_of b k ≡ Some t
-
-pub relies_same : (t : ℕ) (b : Book) → Relies t b b
-relies_same t b = record {
-  grows = omega arith;
-  start = λ i l. refl;
-  end = λ i l. refl;
-  found = λ l. refl;
-  none = λ l. l;
-  kept = λ i o. refl;
-  below = λ q s e f. refl;
-  held = λ k e. e;
-  free = λ k e. e;
-}
-
-pub owns_current : (t : ℕ) (h : Holder) → h ≡ Current t → Owns t h
-owns_current t h e = subst (Owns t) (sym e) refl
-
-pub relies_then : {t : ℕ} {a b c : Book} → Relies t a b → Relies t b c → Relies t a c
-relies_then {t = t} {a = a} {b = b} {c = c} x y = record {
-  grows = let g = x.grows in let g' = y.grows in omega arith;
-  start = λ i l. y.start i (let g = x.grows in omega arith) ∙ x.start i l;
-  end = λ i l. y.end i (let g = x.grows in omega arith) ∙ x.end i l;
-  found = λ l. let e = x.found l in y.found (let g = x.grows in omega arith) ∙ e;
-  none = λ l. y.none (x.none l);
-  kept = λ i o. let e = x.kept i o in y.kept i (subst (λ (r : Region). Owns t r.holder) (sym e) o) ∙ e;
-  below = λ q s e f.
-      let same_q = x.kept q (owns_current t (region a q).holder e) in
-      let same_s = x.below q s e f in
-      y.below q s (subst (λ (r : Region). r.holder ≡ Current t) (sym same_q) e)
-      (subst (λ (r : Region). r.holder ≡ Left q) (sym same_s) f) ∙ same_s;
-  held = λ k e. y.held k (x.held k e);
-  free = λ k e. x.free k (y.free k e);
-}
 
 -- a region whose holder is h is none of the thread's, and wasn't left for its own
 not_owned : (y i m : ℕ) (h : Holder) (b : Book) → (region b m).holder ≡ h → (Owns y h → ⊥) → Owns y (region b i).holder → i ≢ m

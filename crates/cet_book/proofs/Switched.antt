@@ -16,7 +16,7 @@ use Rattle.cet_book.proofs.Edits.{owned, is_there, current_holds}
 use Rattle.cet_book.proofs.Unlink.{Linked, unlink_here, unlink_gone}
 use Rattle.cet_book.proofs.Acquire.{parked_at_holds, Takes, acquire_taken, acquire_left}
 use Rattle.cet_book.proofs.First.{first_is_book}
-use Rattle.cet_book.proofs.Relies.{owns_current}
+use Rattle.cet_book.specs.Relied.{owns_current}
 use Rattle.cet_book.proofs.Cases.{if_some, with_current_some}
 use Rattle.cet_book.proofs.EventSteps.{step_kept}
 use Rattle.cet_book.proofs.EventChanges.{change_of, then_event, then_events, events_book}

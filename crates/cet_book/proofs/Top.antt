@@ -4,19 +4,13 @@ use Rattle.cet_book.specs.declared.entries.Entry.{Entry}
 use Rattle.cet_book.specs.declared.entries.Holder.TheVariants.{Current, Parked}
 use Rattle.cet_book.specs.Book.{Region, Book, region, top, current_of, relist, unlink, acquire, raised}
 use Rattle.cet_book.specs.Shape.{Shape}
+use Rattle.cet_book.specs.Relied.{AtTop, Relies, owns_current}
 use Rattle.cet_book.proofs.Edits.{Owned, owned_there, current_holds}
 use Rattle.cet_book.proofs.Relist.{relist_here, relist_owned}
 use Rattle.cet_book.proofs.Unlink.{Linked, unlink_here}
 use Rattle.cet_book.proofs.Acquire.{Takes, acquire_taken}
 use Rattle.cet_book.proofs.Hand.{hand, Made, made_empty, hand_here, bears}
 use Rattle.cet_book.proofs.Removes.{Removal, shortened, raised_shortened}
-use Rattle.cet_book.proofs.Relies.{Relies, owns_current}
-
--- a thread has a region, whose top is ssp
-pub record AtTop (t : ℕ) (b : Book) (ssp : ℕ) : Type 0 where
-  pub has : current_of t b < length b.regions
-  pub at : ssp ≡ top (region b (current_of t b))
-  pub aligned : ssp % 8 ≡ 0
 
 pub top_relies : {t : ℕ} {b now : Book} {ssp : ℕ} → Relies t b now → AtTop t b ssp → AtTop t now ssp
 top_relies {t = t} {b = b} {now = now} r a =

@@ -2,6 +2,7 @@ pub mod Book
 pub mod Stack
 pub mod Facts
 pub mod Shape
+pub mod Relied
 pub mod Events
 pub mod EventLists
 pub mod Switched

@@ -1,6 +1,6 @@
 -- The words that are commands, and the first faulty word of others, as their reader finds them.
-use Rattle.std.proofs.Common.{ℕ, ◌+◌, ◌<◌, ◌≤◌, ◌≡◌, true, false, List, [], ◌∷◌, ◌++◌, length, take, drop, get_or, Option, Some, None, refl, sym, ap, ◌∙◌, subst, arith, lit<}
-use Rattle.std.specs.Prelude.{map, option_and_then, option_map, slice_get, nat_lt}
+use Rattle.std.proofs.Common.{ℕ, ◌+◌, ◌<◌, ◌≤◌, ◌≡◌, true, false, List, [], ◌∷◌, ◌++◌, length, take, drop, get_or, Option, Some, None, refl, sym, ap, ◌∙◌, inl, inr, subst, arith, lit<}
+use Rattle.std.specs.Prelude.{is_some, map, option_and_then, option_map, slice_get, nat_lt, unwrap_or}
 use Rattle.std.proofs.lemmas.List.{take_all, take_at, take_more, drop_more, take-append-drop, length-append, length-take-le}
 use Rattle.std.proofs.lemmas.Bool.Decides.{Decides-ltb}
 use Rattle.std.proofs.lemmas.Option.{slice_get_within, slice_get-get_or, slice_get-map, get_or_from_slice_get}
@@ -9,14 +9,15 @@ use Rattle.cet_cli.specs.GoodTable.{good_table}
 use Rattle.cet_cli.specs.Grammar.{AreValues, CommandRow, FaultyWord, Given, IsAmong, IsIn, IsLine}
 use Rattle.cet_cli.specs.Reader.{Reader, find_command, forget, given_by, may_end, start, step}
 use Rattle.cet_cli.proofs.ReaderSteps.{steps}
-use Rattle.cet_cli.specs.Values.{Value}
-use Rattle.cet_cli.specs.Words.{IsCommand, Means, command_of, commands, defaults, choices_of, with_any, with_given}
+use Rattle.cet_cli.specs.Values.{Value, number_within}
+use Rattle.cet_cli.specs.Words.{HasSwaps, IsCommand, Means, most_swaps, command_of, commands, defaults, choices_of, with_any, with_given}
 use Rattle.cet_cli.specs.declared.options.Choices.{Choices}
 use Rattle.cet_cli.specs.declared.options.OptionName.{OptionName}
 use Rattle.cet_cli.specs.declared.words.Command.{Command}
 use Rattle.cet_cli.specs.declared.words.CommandName.{CommandName}
 use Rattle.cet_cli.proofs.Faulty.{faulty_same_lists}
 use Rattle.cet_cli.proofs.FaultyLines.{misses, no_command, no_word, read_accepted, same_row, stops, valid_read}
+use Rattle.cet_cli.proofs.SignalLaws.{bounds}
 use Rattle.cet_cli.proofs.Kept.{kept_by, other_step, with_kept}
 use Rattle.cet_cli.proofs.LineReads.{line_read}
 use Rattle.cet_cli.proofs.Tables.{all_among, command_among, good_among}
@@ -153,10 +154,43 @@ pub made_stops : (row : Row) (all : List (List ℕ)) (at : ℕ) (word : List ℕ
 made_stops row all at word r choices other m here f e operands given line =
     absurd ((so_far_stops row all at word r m here f.far e).refused (to_command (row.word ∷ all) (record { row = row; among = m; operands = operands; given = given; line = line })))
 
+-- of the words behind a command's own, those without a name come first
+same_command : (row : Row) → IsAmong row commands → (operands options all : List (List ℕ)) (choices : Choices) → AreValues row.operands operands → all ≡ operands ++ options
+    → command_of row.name all choices ≡ command_of row.name operands choices
+same_command row (inl e) operands options all choices v w = rw (e) refl
+same_command row (inr (inl e)) operands options all choices v w = rw (e) refl
+same_command row (inr (inr (inl e))) operands options all choices v w = rw (e) refl
+same_command row (inr (inr (inr (inl e)))) operands options all choices v w = rw (e) refl
+same_command row (inr (inr (inr (inr (inl e))))) operands options all choices v w = rw (e) refl
+same_command row (inr (inr (inr (inr (inr (inl e)))))) [] options all choices v w =
+    absurd (subst (λ (r : Row). AreValues r.operands []) e v)
+same_command row (inr (inr (inr (inr (inr (inl e)))))) (word ∷ words) options all choices v w = rw (e, w) refl
+same_command row (inr (inr (inr (inr (inr (inr h)))))) operands options all choices v w = absurd h
+
+within : (low high : ℕ) (text : List ℕ) (o : Option ℕ) → number_within low high text ≡ o → is_some o ≡ true → (low ≤ unwrap_or o 0) × (unwrap_or o 0 ≤ high)
+within low high text None e h = cc
+within low high text (Some n) e h = bounds low high text n e
+
+swaps_within : (row : Row) → IsAmong row commands → (operands : List (List ℕ)) (choices : Choices) → AreValues row.operands operands → HasSwaps (command_of row.name operands choices)
+swaps_within row (inl e) operands choices v = rw (e) tt
+swaps_within row (inr (inl e)) operands choices v = rw (e) tt
+swaps_within row (inr (inr (inl e))) operands choices v = rw (e) tt
+swaps_within row (inr (inr (inr (inl e)))) operands choices v = rw (e) tt
+swaps_within row (inr (inr (inr (inr (inl e))))) operands choices v = rw (e) tt
+swaps_within row (inr (inr (inr (inr (inr (inl e)))))) [] choices v = absurd (subst (λ (r : Row). AreValues r.operands []) e v)
+swaps_within row (inr (inr (inr (inr (inr (inl e)))))) (word ∷ words) choices v =
+    let fit : is_some (number_within 1 most_swaps word) ≡ true = (subst (λ (r : Row). AreValues r.operands (word ∷ words)) e v).0 in
+    rw (e) (within 1 most_swaps word (number_within 1 most_swaps word) refl fit)
+swaps_within row (inr (inr (inr (inr (inr (inr h)))))) operands choices v = absurd h
+
+-- a bench that words mean has a number of swaps that it may have
+pub means_swaps : (words : List (List ℕ)) (c : Command) → Means words c → HasSwaps c
+means_swaps words c m = subst HasSwaps (sym m.is) (swaps_within m.row m.among m.operands (choices_of m.given) m.line.values)
+
 -- a command is what its line means
 pub row_means : (row : Row) (all : List (List ℕ)) (choices : Choices) (c : Command) → IsAmong row commands → IsCommand (row.word ∷ all)
     → ((operands : List (List ℕ)) (given : List (Given OptionName)) → IsLine row operands given (row.word ∷ all) → choices ≡ choices_of given)
-    → ((operands : List (List ℕ)) → c ≡ command_of row.name operands choices) → Means (row.word ∷ all) c
+    → c ≡ command_of row.name all choices → Means (row.word ∷ all) c
 row_means row all choices c m (d, means) set is =
     let whole : row.word ∷ all ≡ means.row.word ∷ (means.operands ++ means.line.options) = means.line.whole in
     let words : row.word ≡ means.row.word = cc in
@@ -168,7 +202,8 @@ row_means row all choices c m (d, means) set is =
       operands = means.operands;
       given = means.given;
       line = line;
-      is = is means.operands ∙ ap (command_of row.name means.operands) (set means.operands means.given line);
+      is = is ∙ same_command row m means.operands line.options all choices line.values (let e : row.word ∷ all ≡ row.word ∷ (means.operands ++ line.options) = line.whole in cc)
+          ∙ ap (command_of row.name means.operands) (set means.operands means.given line);
     }
 
 -- ---- the words mean one command

@@ -10,7 +10,7 @@ use Rattle.cet_words.specs.Job.{IsSignal}
 use Rattle.cet_words.specs.declared.images.Signal.{Signal}
 use Rattle.cet_cli.specs.Values.{each_of, items, number_within, signal_by, signal_of, signals_of}
 
-bounds : (low high : ℕ) (text : List ℕ) (n : ℕ) → number_within low high text ≡ Some n → (low ≤ n) × (n ≤ high)
+pub bounds : (low high : ℕ) (text : List ℕ) (n : ℕ) → number_within low high text ≡ Some n → (low ≤ n) × (n ≤ high)
 bounds low high text n e =
     option_and_then_some (λ m. if nat_le low m && nat_le m high then Some m else None) (number_of text) n e (λ m is h.
     let c = cond_some (nat_le low m && nat_le m high) m n h in

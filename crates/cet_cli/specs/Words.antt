@@ -1,7 +1,10 @@
 -- The words that are commands, and what they mean. Source: own.
-use Rattle.std.specs.Prelude.{ℕ, ◌-◌, ◌^◌, ◌≡◌, List, [], ◌∷◌, ◌++◌, fold, codes, Option, Some, None, option_map, unwrap_or}
+use Rattle.std.specs.Prelude.{ℕ, ◌-◌, ◌^◌, ◌≡◌, ◌≤◌, true, false, List, [], ◌∷◌, ◌++◌, fold, codes, Option, Some, None, if◌then◌else◌, option_map, unwrap_or}
+use Rattle.std.specs.Str.{bytes_eq}
+use Rattle.cet_base.specs.declared.styles.Style.{Style}
+use Rattle.cet_base.specs.declared.styles.Style.TheVariants as style
 use Rattle.cet_cli.specs.Grammar.{CommandRow, Given, IsAmong, IsLine, OptionRow}
-use Rattle.cet_cli.specs.Values.{Number, Signals, Turns, number_within, schedule_of, signals_of}
+use Rattle.cet_cli.specs.Values.{Number, OneOf, Signals, Turns, number_within, schedule_of, signals_of}
 use Rattle.cet_cli.specs.Settings.{SettingsData, most_records}
 use Rattle.cet_cli.specs.declared.options.Choices.{Choices}
 use Rattle.cet_cli.specs.declared.options.OptionName.{OptionName}
@@ -24,9 +27,12 @@ procs = record { name = option.Procs; word = codes "--procs"; value = Some (Numb
 abbrev pub signals : OptionRow OptionName
 signals = record { name = option.Signals; word = codes "--signals"; value = Some Signals; part = 2 }
 
+abbrev pub trace : OptionRow OptionName
+trace = record { name = option.Trace; word = codes "--trace"; value = Some (OneOf (codes "full") (codes "last" ∷ [])); part = 4 }
+
 -- those of every run
 abbrev pub common : List (OptionRow OptionName)
-common = limit ∷ procs ∷ signals ∷ []
+common = limit ∷ procs ∷ signals ∷ trace ∷ []
 
 abbrev pub schedule : OptionRow OptionName
 schedule = record { name = option.Schedule; word = codes "--schedule"; value = Some Turns; part = 3 }
@@ -38,6 +44,10 @@ mix = record { name = option.Mix; word = codes "--mix"; value = Some (Number 0 1
 abbrev pub plans : List (OptionRow OptionName)
 plans = schedule ∷ mix ∷ []
 
+-- the runtime is assembled behind the text
+abbrev pub runtime : OptionRow OptionName
+runtime = record { name = option.Runtime; word = codes "--runtime"; value = None; part = 0 }
+
 -- ---- the commands
 
 abbrev pub plain_row : CommandName → (word : List ℕ) → List (OptionRow OptionName) → CommandRow CommandName OptionName
@@ -46,20 +56,27 @@ plain_row name word options = record { name = name; word = word; operands = []; 
 abbrev pub replay : CommandRow CommandName OptionName
 replay = record { name = name.Replay; word = codes "replay"; operands = []; options = common ++ plans; needs = 3 ∷ [] }
 
+-- the most swaps of the bench
+abbrev pub most_swaps : ℕ
+most_swaps = 1000
+
+abbrev pub bench : CommandRow CommandName OptionName
+bench = record { name = name.Bench; word = codes "bench"; operands = Number 1 most_swaps ∷ []; options = []; needs = [] }
+
 abbrev pub commands : List (CommandRow CommandName OptionName)
 commands =
-    plain_row name.Run (codes "run") common ∷ replay ∷ plain_row name.Dis (codes "dis") [] ∷ plain_row name.Asm (codes "asm") []
-    ∷ plain_row name.Check (codes "check") [] ∷ []
+    plain_row name.Run (codes "run") common ∷ replay ∷ plain_row name.Dis (codes "dis") []
+    ∷ plain_row name.Asm (codes "asm") (runtime ∷ []) ∷ plain_row name.Check (codes "check") [] ∷ bench ∷ []
 
 -- ---- what they set
 
 -- the settings where no option is given
 abbrev pub default_settings : SettingsData
-default_settings = record { limit = most_records; procs = 4; signals = [] }
+default_settings = record { limit = most_records; procs = 4; signals = []; style = style.Full }
 
 -- what is set where no option is given
 abbrev pub defaults : Choices
-defaults = record { settings = default_settings; plan = plan.Schedule [] }
+defaults = record { settings = default_settings; plan = plan.Schedule []; runtime = false }
 
 abbrev pub with_limit : SettingsData → (value : List ℕ) → SettingsData
 with_limit s value = record s { limit = unwrap_or (number_within 1 most_records value) s.limit }
@@ -69,6 +86,13 @@ with_procs s value = record s { procs = unwrap_or (number_within 1 8 value) s.pr
 
 abbrev pub with_signals : SettingsData → (value : List ℕ) → SettingsData
 with_signals s value = record s { signals = unwrap_or (signals_of value) s.signals }
+
+-- the style that a text names
+abbrev pub style_of : (value : List ℕ) → Option Style
+style_of value = if bytes_eq value (codes "full") then Some style.Full else if bytes_eq value (codes "last") then Some style.Last else None
+
+abbrev pub with_style : SettingsData → (value : List ℕ) → SettingsData
+with_style s value = record s { style = unwrap_or (style_of value) s.style }
 
 abbrev pub with_schedule : Plan → (value : List ℕ) → Plan
 with_schedule p value = unwrap_or (option_map (λ turns. plan.Schedule turns) (schedule_of value)) p
@@ -81,6 +105,8 @@ abbrev pub with_option : Choices → OptionName → (value : List ℕ) → Choic
 with_option c option.Limit value = record c { settings = with_limit c.settings value }
 with_option c option.Procs value = record c { settings = with_procs c.settings value }
 with_option c option.Signals value = record c { settings = with_signals c.settings value }
+with_option c option.Trace value = record c { settings = with_style c.settings value }
+with_option c option.Runtime value = record c { runtime = true }
 with_option c option.Schedule value = record c { plan = with_schedule c.plan value }
 with_option c option.Mix value = record c { plan = with_mix c.plan value }
 
@@ -96,13 +122,19 @@ choices_of given = fold with_given defaults given
 
 -- ---- what they mean
 
--- the command of this name with these words without a name, of which no command has one yet, and with what its options set
+-- the number of swaps that the first of these words is
+abbrev pub swaps_of : (operands : List (List ℕ)) → ℕ
+swaps_of [] = 0
+swaps_of (word ∷ words) = unwrap_or (number_within 1 most_swaps word) 0
+
+-- the command of this name with these words without a name, and with what its options set
 abbrev pub command_of : CommandName → (operands : List (List ℕ)) → Choices → Command
 command_of name.Run operands choices = command.Run choices.settings
 command_of name.Replay operands choices = command.Replay choices.settings choices.plan
 command_of name.Dis operands choices = command.Dis
-command_of name.Asm operands choices = command.Asm
+command_of name.Asm operands choices = command.Asm choices.runtime
 command_of name.Check operands choices = command.Check
+command_of name.Bench operands choices = command.Bench (swaps_of operands)
 
 -- the words, each as its bytes, are this command
 pub record Means (words : List (List ℕ)) (command : Command) : Type 0 where
@@ -116,3 +148,12 @@ pub record Means (words : List (List ℕ)) (command : Command) : Type 0 where
 -- the words are some command
 abbrev pub IsCommand : List (List ℕ) → Type 0
 IsCommand words = (command : Command) × Means words command
+
+-- a bench has a number of swaps that it may have
+abbrev pub HasSwaps : Command → Type 0
+HasSwaps (command.Bench n) = (1 ≤ n) × (n ≤ most_swaps)
+HasSwaps (command.Run _) = Unit {0}
+HasSwaps (command.Replay _ _) = Unit {0}
+HasSwaps command.Dis = Unit {0}
+HasSwaps (command.Asm _) = Unit {0}
+HasSwaps command.Check = Unit {0}

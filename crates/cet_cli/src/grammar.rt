@@ -5,7 +5,7 @@ ghost use Rattle.cet_cli.specs.Reader.{find_command, find_option};
 ghost use Rattle.cet_cli.specs.Table.{command_view, option_view};
 ghost use Rattle.cet_cli.specs.Words.{commands};
 
-use crate::limits::{MOST_PROCS, MOST_RECORDS};
+use crate::limits::{MOST_PROCS, MOST_RECORDS, MOST_SWAPS};
 use crate::options::OptionName;
 use crate::values::Value;
 use crate::words::CommandName;
@@ -84,11 +84,33 @@ const MIX: OptionRow = OptionRow {
     part: 3,
 };
 
-const RUN_OPTIONS: [OptionRow; 3] = [LIMIT, PROCS, SIGNALS];
+const TRACE: OptionRow = OptionRow {
+    name: OptionName::Trace,
+    word: "--trace",
+    value: Some(Value::OneOf {
+        first: "full",
+        others: &["last"],
+    }),
+    part: 4,
+};
 
-const REPLAY_OPTIONS: [OptionRow; 5] = [LIMIT, PROCS, SIGNALS, SCHEDULE, MIX];
+const RUNTIME: OptionRow = OptionRow {
+    name: OptionName::Runtime,
+    word: "--runtime",
+    value: None,
+    part: 0,
+};
 
-const COMMANDS: [CommandRow; 5] = [
+const RUN_OPTIONS: [OptionRow; 4] = [LIMIT, PROCS, SIGNALS, TRACE];
+
+const REPLAY_OPTIONS: [OptionRow; 6] = [LIMIT, PROCS, SIGNALS, TRACE, SCHEDULE, MIX];
+
+const SWAPS: Value = Value::Number {
+    low: 1,
+    high: MOST_SWAPS as u64,
+};
+
+const COMMANDS: [CommandRow; 6] = [
     CommandRow {
         name: CommandName::Run,
         word: "run",
@@ -114,13 +136,20 @@ const COMMANDS: [CommandRow; 5] = [
         name: CommandName::Asm,
         word: "asm",
         operands: &[],
-        options: &[],
+        options: &[RUNTIME],
         needs: &[],
     },
     CommandRow {
         name: CommandName::Check,
         word: "check",
         operands: &[],
+        options: &[],
+        needs: &[],
+    },
+    CommandRow {
+        name: CommandName::Bench,
+        word: "bench",
+        operands: &[SWAPS],
         options: &[],
         needs: &[],
     },

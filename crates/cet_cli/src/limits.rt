@@ -6,6 +6,9 @@ pub(crate) const MOST_RECORDS: u32 = 100_000;
 /// The most processors of a run.
 pub(crate) const MOST_PROCS: u8 = 8;
 
+/// The most swaps of the bench.
+pub(crate) const MOST_SWAPS: u32 = 1_000;
+
 /// The highest number of a thread.
 pub(crate) const LAST_THREAD: u64 = 31;
 

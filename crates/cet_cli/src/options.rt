@@ -4,13 +4,14 @@ ghost use Rattle.std.specs.Prelude.{◌≡◌, option_map, IfOk};
 ghost use Rattle.cet_cli.specs.Settings.{most_records};
 ghost use Rattle.cet_cli.specs.Table.{given_view};
 ghost use Rattle.cet_cli.specs.Values.{number_within};
-ghost use Rattle.cet_cli.specs.Words.{default_settings, defaults, with_any, with_limit, with_mix, with_option, with_procs, with_schedule, with_signals};
+ghost use Rattle.cet_cli.specs.Words.{default_settings, defaults, style_of, with_any, with_limit, with_mix, with_option, with_procs, with_schedule, with_signals, with_style};
 
 use crate::grammar::Given;
 use crate::limits::{MOST_PROCS, MOST_RECORDS};
 use crate::signals::signals_of;
 use crate::turns::{Turns, turns_of};
 use crate::values::number_within;
+use cet_base::Style;
 use cet_words::{NoMemory, Signals};
 use std::alloc::Global;
 use std::marker::Model;
@@ -27,6 +28,10 @@ pub(crate) enum OptionName {
     Procs,
     /// `--signals`: up to 256 signals.
     Signals,
+    /// `--trace`: how much of each thread is reported.
+    Trace,
+    /// `--runtime`: the runtime is assembled behind the text.
+    Runtime,
     /// `--schedule`: up to 10,000 repeats, of 1,000,000 turns in all.
     Schedule,
     /// `--mix`: a number of 64 bits.
@@ -42,6 +47,8 @@ pub struct Settings {
     pub procs: u8,
     /// The signals that threads post to themselves, at most 256.
     pub signals: Signals,
+    /// How much of each thread is reported.
+    pub style: Style,
 }
 
 impl Model for Settings {
@@ -49,9 +56,9 @@ impl Model for Settings {
 
     ghost Value = { SettingsData };
 
-    ghost view = { λ s. record { limit = s.limit; procs = s.procs; signals = s.signals } };
+    ghost view = { λ s. record { limit = s.limit; procs = s.procs; signals = s.signals; style = s.style } };
 
-    ghost invariant = { λ s. IsSettings (record { limit = s.limit; procs = s.procs; signals = s.signals }) };
+    ghost invariant = { λ s. IsSettings (record { limit = s.limit; procs = s.procs; signals = s.signals; style = s.style }) };
 }
 
 /// Which turns a run has.
@@ -68,6 +75,7 @@ pub enum Plan {
 pub(crate) struct Choices {
     pub settings: Settings,
     pub plan: Plan,
+    pub runtime: bool,
 }
 
 /// The limit that a text is.
@@ -86,15 +94,29 @@ fn procs_of(text: &str) -> Option<u8>
     Some(procs as u8)
 }
 
+/// The style that a text names.
+fn style_of(text: &str) -> Option<Style>
+    ensures { result ≡ style_of text.now }
+{
+    if text == "full" {
+        Some(Style::Full)
+    } else if text == "last" {
+        Some(Style::Last)
+    } else {
+        None
+    }
+}
+
 impl Settings {
-    /// The settings where no option is given.
-    fn defaults(alloc: Global) -> Settings
+    /// The settings where no option is given: 100,000 records, 4 processors, no signals, and the full report.
+    pub fn defaults(alloc: Global) -> Settings
         ensures { result ≡ default_settings }
     {
         Settings {
             limit: MOST_RECORDS,
             procs: PROCS,
             signals: Signals::new(alloc),
+            style: Style::Full,
         }
     }
 }
@@ -108,6 +130,7 @@ impl Settings {
             limit: limit_of(value).unwrap_or(self.limit),
             procs: self.procs,
             signals: self.signals,
+            style: self.style,
         }
     }
 
@@ -119,6 +142,19 @@ impl Settings {
             limit: self.limit,
             procs: procs_of(value).unwrap_or(self.procs),
             signals: self.signals,
+            style: self.style,
+        }
+    }
+
+    /// With the style that a text names.
+    fn with_style(self, value: &str) -> Settings
+        ensures { result ≡ with_style self value.now }
+    {
+        Settings {
+            limit: self.limit,
+            procs: self.procs,
+            signals: self.signals,
+            style: style_of(value).unwrap_or(self.style),
         }
     }
 
@@ -131,6 +167,7 @@ impl Settings {
             limit: self.limit,
             procs: self.procs,
             signals: signals.unwrap_or(self.signals),
+            style: self.style,
         })
     }
 }
@@ -165,6 +202,7 @@ impl Choices {
         Choices {
             settings: Settings::defaults(alloc),
             plan: Plan::Schedule(Turns::new(alloc)),
+            runtime: false,
         }
     }
 
@@ -172,15 +210,25 @@ impl Choices {
     fn with(self, alloc: Global, option: OptionName, value: &str) -> Result<Choices, NoMemory>
         ensures { IfOk result (λ choices. choices ≡ with_option self option value.now) }
     {
-        let Choices { settings, plan } = self;
-        let (settings, plan) = match option {
-            OptionName::Limit => (settings.with_limit(value), plan),
-            OptionName::Procs => (settings.with_procs(value), plan),
-            OptionName::Signals => (settings.with_signals(alloc, value)?, plan),
-            OptionName::Schedule => (settings, plan.with_schedule(alloc, value)?),
-            OptionName::Mix => (settings, plan.with_mix(value)),
+        let Choices {
+            settings,
+            plan,
+            runtime,
+        } = self;
+        let (settings, plan, runtime) = match option {
+            OptionName::Limit => (settings.with_limit(value), plan, runtime),
+            OptionName::Procs => (settings.with_procs(value), plan, runtime),
+            OptionName::Signals => (settings.with_signals(alloc, value)?, plan, runtime),
+            OptionName::Trace => (settings.with_style(value), plan, runtime),
+            OptionName::Runtime => (settings, plan, true),
+            OptionName::Schedule => (settings, plan.with_schedule(alloc, value)?, runtime),
+            OptionName::Mix => (settings, plan.with_mix(value), runtime),
         };
-        Ok(Choices { settings, plan })
+        Ok(Choices {
+            settings,
+            plan,
+            runtime,
+        })
     }
 
     /// With an option, where one is given.

@@ -1,15 +1,17 @@
 //! The words of a command.
 
-ghost use Rattle.std.specs.Prelude.{◌≡◌, ℕ, List, ◌∷◌, map, string_bytes, IfOk, MatchResult};
+ghost use Rattle.std.specs.Prelude.{◌≡◌, ℕ, List, [], ◌∷◌, map, string_bytes, IfOk, MatchResult};
 ghost use Rattle.cet_cli.specs.Faults.{HasCause};
 ghost use Rattle.cet_cli.specs.Grammar.{FaultyWord, Given, IsAmong, IsLine};
 ghost use Rattle.cet_cli.specs.Table.{command_view};
-ghost use Rattle.cet_cli.specs.Words.{IsCommand, Means, choices_of, command_of, commands};
+ghost use Rattle.cet_cli.specs.Words.{HasSwaps, IsCommand, Means, choices_of, command_of, commands, swaps_of};
 ghost use Rattle.cet_cli.specs.declared.options.OptionName.{OptionName};
 
 use crate::grammar::{CommandRow, find_command};
+use crate::limits::MOST_SWAPS;
 use crate::options::{Choices, Plan, Settings};
 use crate::reader::Reader;
+use crate::values::number_within;
 use cet_words::NoMemory;
 use std::alloc::Global;
 
@@ -22,10 +24,12 @@ pub enum Command {
     Replay(Settings, Plan),
     /// `dis`: lists the code of the image that the source gives.
     Dis,
-    /// `asm`: assembles the text that the source gives.
-    Asm,
+    /// `asm`: assembles the text that the source gives, with the runtime behind it or without.
+    Asm { runtime: bool },
     /// `check`: tells that the image that the source gives is accepted.
     Check,
+    /// `bench`: runs a program that swaps contexts so many times, 1 to 1,000, and tells how many records that made.
+    Bench(u32),
 }
 
 /// Why words are read as no command.
@@ -46,19 +50,44 @@ pub(crate) enum CommandName {
     Dis,
     Asm,
     Check,
+    Bench,
+}
+
+/// The number of swaps that a text is.
+fn swaps_in(text: &str) -> u32
+    ensures { result ≡ swaps_of (text.now ∷ []) }
+{
+    match number_within(text, 1, MOST_SWAPS.into()) {
+        Some(swaps) => swaps as u32,
+        None => 0,
+    }
+}
+
+/// The number of swaps that the first of these words is.
+fn swaps_of(words: &[String]) -> u32
+    ensures { result ≡ swaps_of (map string_bytes words.now) }
+{
+    match words.first() {
+        Some(word) => swaps_in(word.as_str()),
+        None => 0,
+    }
 }
 
 impl CommandName {
-    /// The command of this name with what its options set. None has words without a name yet.
-    fn with(self, choices: Choices) -> Command
-        ensures { (operands : List (List ℕ)) → result ≡ command_of self operands choices }
+    /// The command of this name with the words behind its own, of which those without a name come first, and with what its
+    /// options set.
+    fn with(self, words: &[String], choices: Choices) -> Command
+        ensures { result ≡ command_of self (map string_bytes words.now) choices }
     {
         match self {
             CommandName::Run => Command::Run(choices.settings),
             CommandName::Replay => Command::Replay(choices.settings, choices.plan),
             CommandName::Dis => Command::Dis,
-            CommandName::Asm => Command::Asm,
+            CommandName::Asm => Command::Asm {
+                runtime: choices.runtime,
+            },
             CommandName::Check => Command::Check,
+            CommandName::Bench => Command::Bench(swaps_of(words)),
         }
     }
 }
@@ -115,14 +144,16 @@ fn read_line(alloc: Global, row: CommandRow, words: &[String]) -> Result<Command
         return Err(CliFault::Usage(number));
     }
     match choices_of(alloc, row, words) {
-        Ok(choices) => Ok(row.name.with(choices)),
+        Ok(choices) => Ok(row.name.with(words, choices)),
         Err(NoMemory) => Err(CliFault::NoMemory),
     }
 }
 
 /// Reads the words of a command. A faulty word is found without memory.
+#[tactic(auto, using(crate::proofs::CommandWords::means_swaps))]
 pub fn read_words(alloc: Global, words: &[String]) -> Result<Command, CliFault>
-    ensures { MatchResult result (Means (map string_bytes words.now)) (HasCause (map string_bytes words.now)) }
+    ensures means { MatchResult result (Means (map string_bytes words.now)) (HasCause (map string_bytes words.now)) }
+    ensures swaps { IfOk result HasSwaps }
 {
     let Some((first, rest)) = words.split_first() else {
         return Err(CliFault::Usage(1));

@@ -1,6 +1,6 @@
 //! A thread, access by access.
 
-ghost use Rattle.std.specs.Prelude.{◌≡◌, ℕ, ◌+◌, ◌-◌, ◌^◌, ◌<◌, ◌≤◌, length, Some, None, IfSome, option_map};
+ghost use Rattle.std.specs.Prelude.{◌≡◌, ℕ, ◌+◌, ◌-◌, ◌^◌, ◌<◌, ◌≤◌, length, true, false, Some, None, IsSome, IfSome, option_map};
 ghost use Rattle.cet_words.specs.Access.{InRange};
 ghost use Rattle.cet_words.specs.declared.accesses.Access.{Access};
 ghost use Rattle.cet_isa.specs.declared.threads.End.{End};
@@ -186,7 +186,6 @@ impl Cpu {
     }
 
     /// Takes the answer to the thread's next access.
-    #[tactic(auto, using(cet_page::proofs::WithinLaws::room, cet_page::proofs::WithinLaws::taken_at, cet_page::proofs::FaultLaws::faults_of, cet_page::proofs::RestoreLaws::restores_of))]
     pub fn take(&mut self, job: &Job, answer: u64) -> Taken
         requires state { IsCpu job.now self.old }
         requires going { self.old.core.over ≡ None }
@@ -208,8 +207,7 @@ impl Cpu {
         ensures gate { AtGate job.now self.old.core → Enters job.now self.old.core self.new.core answer result.noted }
     {
         let child = self.child(job, answer);
-        let noted = self.accept_answer(job, answer);
-        self.await_access(job);
+        let noted = self.accept(job, answer);
         Taken {
             noted,
             child,
@@ -217,9 +215,43 @@ impl Cpu {
         }
     }
 
+    /// Takes the answer as `take` does, and answers the record alone. The thread that is born, if any, is
+    /// that of `child` before this call. So the thread of most accesses, none, is handed to nobody.
+    #[tactic(auto, using(cet_page::proofs::WithinLaws::room, cet_page::proofs::WithinLaws::taken_at, cet_page::proofs::FaultLaws::faults_of, cet_page::proofs::RestoreLaws::restores_of))]
+    pub fn accept(&mut self, job: &Job, answer: u64) -> Option<Record>
+        requires state { IsCpu job.now self.old }
+        requires going { self.old.core.over ≡ None }
+        ensures core { self.new.core ≡ (taken job.now self.old.core answer).core }
+        ensures noted { result ≡ (taken job.now self.old.core answer).noted }
+        ensures state { IsCpu job.now self.new }
+
+        // As of `take`.
+        ensures fault { (r : Record) (name : FaultName) → result ≡ Some r → r.what ≡ What.Fault name → Faults job.now self.old.core self.new.core answer r }
+        ensures restore { (p : ℕ) → AtRestore job.now self.old.core p → Restores job.now self.old.core self.new.core p answer result }
+        ensures gate { AtGate job.now self.old.core → Enters job.now self.old.core self.new.core answer result }
+    {
+        let noted = self.accept_answer(job, answer);
+        self.await_access(job);
+        noted
+    }
+
+    /// Whether a thread is born where the next access has this answer.
+    #[tactic(auto, unfolding(cet_page::specs::Core::taken, cet_page::specs::Core::next_access))]
+    pub fn bears(&self, job: &Job, answer: u64) -> bool
+        requires state { IsCpu job.now self.now }
+        requires going { self.now.core.over ≡ None }
+        ensures born { result ≡ true → IsSome (taken job.now self.now.core answer).child }
+        ensures none { result ≡ false → (taken job.now self.now.core answer).child ≡ None }
+    {
+        match self.next {
+            Some((_, Mark::Bears(_))) => answer < THREAD_LIMIT,
+            _ => false,
+        }
+    }
+
     /// The thread that is born where the next access has this answer, with its first access.
     #[tactic(auto, using(cet_page::proofs::WithinLaws::child_is))]
-    fn child(&self, job: &Job, answer: u64) -> Option<Cpu>
+    pub fn child(&self, job: &Job, answer: u64) -> Option<Cpu>
         requires state { IsCpu job.now self.now }
         requires going { self.now.core.over ≡ None }
         ensures child { option_map (λ (child : CpuData). child.core) result ≡ (taken job.now self.now.core answer).child }

@@ -14,3 +14,7 @@ text_of lines = flat_map ended lines
 abbrev pub labelled : List ℕ → List (List ℕ) → List (List ℕ)
 labelled label [] = []
 labelled label (line ∷ lines) = (label ++ line) ∷ lines
+
+-- the most bytes of a text here
+abbrev pub most_text : ℕ
+most_text = 4096

@@ -1,7 +1,8 @@
 //! A program that makes work: two contexts that swap a given number of times.
 
-ghost use Rattle.std.specs.Prelude.{◌≡◌, ◌≤◌, ◌++◌, IfOk, OnOk};
+ghost use Rattle.std.specs.Prelude.{◌≡◌, ◌≤◌, ◌++◌, length, IfOk, OnOk};
 ghost use Rattle.cet_ctx.specs.Bench.{bench};
+ghost use Rattle.cet_ctx.specs.Lines.{most_text};
 
 use cet_base::put_decimal;
 use cet_words::{Bytes, NoMemory};
@@ -44,11 +45,8 @@ stack: .zero 4096
 stack_end: .quad 0
 ";
 
-/// A program that swaps `n` times to a second context and back, as assembler text that needs the runtime behind it.
-/// `n` is 1 to 1,000.
-pub fn bench_text(alloc: Global, n: u32) -> Result<Bytes, NoMemory>
-    requires low { 1 ≤ n }
-    requires high { n ≤ 1000 }
+/// The program, with this number for its count.
+fn text_with(alloc: Global, n: u32) -> Result<Bytes, NoMemory>
     ensures { IfOk result (λ text. text ≡ bench n) }
 {
     let mut text = Bytes::new(alloc);
@@ -57,5 +55,17 @@ pub fn bench_text(alloc: Global, n: u32) -> Result<Bytes, NoMemory>
     put_decimal(alloc, &mut text, n as u64)?;
     text.extend(alloc, b"\n")?;
     text.extend(alloc, ROUNDS.as_bytes())?;
+    Ok(text)
+}
+
+/// A program, of at most 4,096 bytes, that swaps `n` times to a second context and back, as assembler text that needs the
+/// runtime behind it. `n` is 1 to 1,000.
+pub fn bench_text(alloc: Global, n: u32) -> Result<Bytes, NoMemory>
+    requires low { 1 ≤ n }
+    requires high { n ≤ 1000 }
+    ensures text { IfOk result (λ text. text ≡ bench n) }
+    ensures short { IfOk result (λ text. length text ≤ most_text) }
+{
+    let text = text_with(alloc, n)?;
     Ok(text)
 }

@@ -1,6 +1,7 @@
 //! The guest runtime.
 
-ghost use Rattle.std.specs.Prelude.{◌≡◌};
+ghost use Rattle.std.specs.Prelude.{◌≡◌, ◌≤◌, length};
+ghost use Rattle.cet_ctx.specs.Lines.{most_text};
 ghost use Rattle.cet_ctx.specs.Runtime.{runtime};
 
 const RUNTIME: &str = "\
@@ -129,9 +130,11 @@ sig_restorer: mov eax, 15
 syscall
 ";
 
-/// The runtime as assembler text.
+/// The runtime as assembler text, of at most 4,096 bytes.
+#[tactic(auto, using(crate::proofs::Lengths::runtime_short))]
 pub fn runtime_text() -> &'static str
-    ensures { result.now ≡ runtime }
+    ensures text { result.now ≡ runtime }
+    ensures short { length result.now ≤ most_text }
 {
     RUNTIME
 }

@@ -1,9 +1,9 @@
 -- RSTORSSP's exchange: the token of a parked region becomes the word of the region that the thread leaves, or no token is found
 -- and nothing changes. Source: own.
-use Rattle.cet_book.proofs.Held.{Free}
-use Rattle.cet_own.proofs.Still.{tells_below, not_below}
-use Rattle.std.proofs.Common.{◌≡◌, ◌≢◌, ℕ, ◌+◌, ◌-◌, ◌*◌, inl, List, [], ◌∷◌, length, refl, sym, ◌∙◌, ap, subst, arith}
+use Rattle.cet_own.proofs.Still.{tells_below, not_below, not_freed}
+use Rattle.std.proofs.Common.{◌<◌, ◌≡◌, ◌≢◌, ℕ, ◌+◌, ◌-◌, ◌*◌, inl, List, [], ◌∷◌, length, refl, sym, ◌∙◌, ap, subst, arith}
 use Rattle.std.specs.Prelude.{slice_index, slice_set}
+use Rattle.cet_words.specs.Layout.{first_kernel_word}
 use Rattle.cet_words.specs.Access.{answer, after}
 use Rattle.cet_words.specs.Change.{Change, Acquired}
 use Rattle.cet_words.specs.Job.{ImageData}
@@ -25,12 +25,12 @@ use Rattle.cet_own.specs.declared.access_classes.Class.TheVariants as class
 use Rattle.cet_own.proofs.Changed.{Spares, changed, place_spares, place_restorers}
 use Rattle.cet_own.proofs.ClassLaws.{exchange_does, exchange_fails}
 use Rattle.cet_own.proofs.Classes.{Spared, leaves_by, next_other, no_count_by, other_word, quiet}
-use Rattle.cet_own.proofs.Holds.{IsMaker, Sound, Holds}
+use Rattle.cet_own.specs.Holds.{IsMaker, Sound, Holds}
 use Rattle.cet_own.proofs.Kept.{ending_out, restorers_out, size_kept, pages_out, pages_same, gates_out, gates_same}
 use Rattle.cet_own.proofs.Marks.{WritesAt, marks_write}
 use Rattle.cet_own.proofs.Fits.{of_class, is_acquire}
 use Rattle.cet_own.proofs.HeldAfter.{exchange_misses, keeps_note, no_token, notes_gate}
-use Rattle.cet_own.proofs.Owed.{Owed}
+use Rattle.cet_own.specs.Owed.{Owed}
 use Rattle.cet_own.proofs.Writes.{in_place, list_kept, list_free, slot_same, top_even}
 
 -- region q, which thread t may take from its own region m, has its token at p
@@ -112,7 +112,7 @@ module _ {image : ImageData} {t k : ℕ} {past : List Visit} {b : Book} {a : Acc
       (λ words is h ssp held stands note. of_class class.Acquire (Acquired p ∷ []) ev refl
       (ap (λ c. class_at c ssp held v) e ∙ is_acquire p ssp v held (token_place (token h.sound.book.shape)).0 (p + 9) (top (region b m) + 3) found))
       (λ words is h. let high = (token_place (token h.sound.book.shape)).0.high in no_count_by (leaves_by e (other_word (slot p) (omega arith)) (next_other (slot p) (omega arith))) (ap birth ev))
-      (λ words is h. let high = (token_place (token h.sound.book.shape)).0.high in tells_below t b v e (λ j l. not_below (slot p) j (λ z. omega arith)))
+      (λ words is h. let high = (token_place (token h.sound.book.shape)).0.high in tells_below t b v e (λ j l. not_below (slot p) j (λ z. omega arith)) (λ j l. not_freed (slot p) (p + 9) (top (region b m) + 3) j (λ z w. omega arith)))
       (λ words is h. let high = (token_place (token h.sound.book.shape)).0.high in notes_gate v e ev (no_token (slot p) (p + 9) (top (region b m) + 3) v (λ j l z. omega arith)) (λ held j q. inl q))
       (λ words is h. acquired_way (token h.sound.book.shape).takes p at)
       (λ words is h sound.
@@ -134,8 +134,9 @@ module _ {image : ImageData} {t k : ℕ} {past : List Visit} {b : Book} {a : Acc
       here words is = sym (is ∙ ap (answer words) e) ∙ found
 
   -- another word is found
-  pub misses : (word expected value : ℕ) → a ≡ access.CompareExchange word expected value → word ≢ draw_word → word ≢ next_word → v ≢ expected → Free t b → changes ≡ [] → Owed image t k past b a v changes
-  misses word expected value e no_draw no_next n free ev =
-      quiet ev (leaves_by e (other_word word no_draw) (next_other word no_next)) (λ j l own q. absurd (free j own)) (keeps_note v e (exchange_misses word expected value v n)) (λ words is h.
+  pub misses : (word expected value : ℕ) → a ≡ access.CompareExchange word expected value → word ≢ draw_word → word ≢ next_word → word < first_kernel_word → v ≢ expected → changes ≡ [] → Owed image t k past b a v changes
+  misses word expected value e no_draw no_next low n ev =
+      quiet ev (leaves_by e (other_word word no_draw) (next_other word no_next))
+      (tells_below t b v e (λ j l. not_below word j (λ z. omega arith)) (λ j l. not_freed word expected value j (λ z w. omega arith))) (keeps_note v e (exchange_misses word expected value v n)) (λ words is h.
       let none : after words a ≡ words = ap (after words) e ∙ exchange_fails words word expected value (λ z. n (is ∙ ap (answer words) e ∙ z)) in
       subst (λ now. Holds image now b × Spared b words now) (sym none) (h, record { own = λ y w own. refl; restorers = λ s l m. m }))

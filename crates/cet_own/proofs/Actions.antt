@@ -13,15 +13,16 @@ use Rattle.cet_book.proofs.Changes.{same_book}
 use Rattle.cet_page.specs.Script.{birth}
 use Rattle.cet_page.specs.Trail.{Visit}
 use Rattle.cet_own.specs.Past.{has_restorer, restorer_word}
-use Rattle.cet_own.specs.Stands.{IsRestorer, Restorers, OwnWord, own_slot, below_token}
+use Rattle.cet_own.specs.Facts.{IsRestorer, Restorers, OwnWord, own_slot, below_token}
 use Rattle.cet_own.proofs.Classes.{leaves_by, next_other, no_count_by, other_word, word_other}
 use Rattle.cet_own.proofs.Fits.{none_of}
-use Rattle.cet_own.proofs.Holds.{Holds}
+use Rattle.cet_own.specs.Holds.{Holds}
 use Rattle.cet_own.proofs.Kept.{ending_out, gates_out, lists_out, pages_out, size_kept}
 use Rattle.cet_own.proofs.Marks.{marks_out}
 use Rattle.cet_own.proofs.HeldAfter.{notes_gate}
-use Rattle.cet_own.proofs.Owed.{Owed}
-use Rattle.cet_own.proofs.Still.{KeepsRestorers, Still, not_below, tells_below}
+use Rattle.cet_own.specs.Owed.{Owed}
+use Rattle.cet_own.proofs.Still.{not_below, tells_below}
+use Rattle.cet_own.specs.Claims.{KeepsRestorers, Still}
 
 -- a word of a signal
 pub record IsAction (word : ℕ) : Type 0 where
@@ -65,7 +66,7 @@ module _ {image : ImageData} {t k : ℕ} {past : List Visit} {b : Book} {a : Acc
       ((words : List ℕ) → Holds image words b → KeepsRestorers words (slice_set words word x)) → Owed image t k past b a v changes
   acts word x at e ev restorers keeps = record {
     notes = λ words is h. notes_gate v e ev (λ held. refl) (λ held j q. inl q);
-    below = λ words is h. (let high = at.high in tells_below t b v e (λ j l. not_below word j (λ z. omega arith)));
+    below = λ words is h. (let high = at.high in tells_below t b v e (λ j l. not_below word j (λ z. omega arith)) (λ j l. refl));
     fits = λ words is h ssp held stands note. none_of _ ev;
     counts = λ words is h. (let low = at.low in no_count_by (leaves_by e (other_word word (omega arith)) (next_other word (omega arith))) (ap birth ev));
     keeps = λ words next is h still q.

@@ -22,17 +22,17 @@ use Rattle.cet_page.specs.Script.{birth}
 use Rattle.cet_page.specs.Trail.{Visit}
 use Rattle.cet_own.specs.Class.{class_at}
 use Rattle.cet_own.specs.Past.{next_word, numbered}
-use Rattle.cet_own.specs.Stands.{OwnWord, own_slot, below_token}
+use Rattle.cet_own.specs.Facts.{OwnWord, own_slot, below_token}
 use Rattle.cet_own.specs.declared.access_classes.Class.TheVariants as class
 use Rattle.cet_own.proofs.Changed.{Spares, changed}
 use Rattle.cet_own.proofs.Classes.{Spared, word_other, keeps_restorers}
-use Rattle.cet_own.proofs.Counters.{Bears, bears_child, bears_nobody}
+use Rattle.cet_own.specs.Claims.{Bears, bears_child, bears_nobody}
 use Rattle.cet_own.proofs.Fits.{of_class, none_of}
-use Rattle.cet_own.proofs.Holds.{IsMaker, Sound, Holds}
+use Rattle.cet_own.specs.Holds.{IsMaker, Sound, Holds}
 use Rattle.cet_own.proofs.Kept.{ending_out, restorers_out, size_kept, lists_out, pages_out, pages_same, gates_out, gates_same}
 use Rattle.cet_own.proofs.Marks.{SameTokens, marks_out, marks_same}
 use Rattle.cet_own.proofs.HeldAfter.{notes_gate}
-use Rattle.cet_own.proofs.Owed.{Owed}
+use Rattle.cet_own.specs.Owed.{Owed}
 use Rattle.cet_own.proofs.Writes.{stack_agrees, top_even}
 
 -- the counter is no thread's own
@@ -95,7 +95,7 @@ module _ {image : ImageData} {t k : ℕ} {past : List Visit} {b : Book} {a : Acc
       changed (Born v start) (hand s (region b s).entries (Current v) b) ev tt
       (λ words is h ssp held stands note. of_class class.Seed (Born v start ∷ []) ev refl (ap (λ c. class_at c ssp held v) e ∙ is_birth ssp v held few))
       (λ words is h. bears_child s start e few child once ev)
-      (λ words is h. tells_below t b v e (λ j l. not_below next_word j (λ z. omega arith)))
+      (λ words is h. tells_below t b v e (λ j l. not_below next_word j (λ z. omega arith)) (λ j l. refl))
       (λ words is h. notes_gate v e ev (λ held. refl) (λ held j q. inl q))
       (λ words is h. born_way (made h.sound.book.shape) v start child.first child.none.regions)
       (λ words is h sound.
@@ -114,7 +114,7 @@ module _ {image : ImageData} {t k : ℕ} {past : List Visit} {b : Book} {a : Acc
   -- nobody is born
   pub unborn : a ≡ access.FetchAdd next_word 1 → thread_limit ≤ v → numbered past ≡ false → changes ≡ [] → Owed image t k past b a v changes
   unborn e many once ev = record {
-    below = λ words is h. tells_below t b v e (λ j l. not_below next_word j (λ z. omega arith));
+    below = λ words is h. tells_below t b v e (λ j l. not_below next_word j (λ z. omega arith)) (λ j l. refl);
     notes = λ words is h. notes_gate v e ev (λ held. refl) (λ held j q. inl q);
     counts = λ words is h. bears_nobody e many once (ap birth ev);
     fits = λ words is h ssp held stands note. none_of _ ev;

@@ -1,5 +1,5 @@
 -- What a thread claims of CALL and RET. Source: own.
-use Rattle.std.proofs.Common.{◌≡◌, ℕ, ◌+◌, ◌-◌, ◌/◌, ◌<◌, ◌≤◌, List, [], ◌∷◌, length, Option, refl, ◌∙◌, ap, subst, arith, false}
+use Rattle.std.proofs.Common.{◌≡◌, ℕ, ◌+◌, ◌-◌, ◌/◌, ◌<◌, ◌≤◌, List, [], ◌∷◌, length, refl, ◌∙◌, ap, subst, arith}
 use Rattle.std.specs.Prelude.{◌==◌, ℤ}
 use Rattle.std.specs.Int.{w64, cast_unsigned}
 use Rattle.cet_words.specs.Job.{JobData}
@@ -11,51 +11,33 @@ use Rattle.cet_isa.specs.declared.instructions.Operand.{Operand}
 use Rattle.cet_isa.specs.declared.instructions.Size.TheVariants as size
 use Rattle.cet_isa.specs.declared.threads.Arch.{Arch}
 use Rattle.cet_isa.specs.declared.threads.Record.{Record}
-use Rattle.cet_book.specs.declared.entries.Entry.{Entry}
 use Rattle.cet_book.specs.declared.entries.Entry.TheVariants.{Call}
 use Rattle.cet_book.specs.Book.{Book, region, top, current_of, relist}
 use Rattle.cet_book.specs.Facts.{IsReturn, In}
 use Rattle.cet_book.proofs.Edits.{Owned, owned, current_holds}
 use Rattle.cet_book.proofs.Kept.{book_kept}
-use Rattle.cet_book.proofs.Relies.{Relies, owns_current}
+use Rattle.cet_book.specs.Relied.{Relies, owns_current}
 use Rattle.cet_book.specs.Stack.{slot}
 use Rattle.cet_book.proofs.Top.{relist_top}
 use Rattle.cet_book.proofs.Ways.{called_way}
-use Rattle.cet_page.specs.Core.{kept_by}
 use Rattle.cet_page.specs.Script.{done, ◌>>=◌}
 use Rattle.cet_page.specs.Finish.{rsp}
 use Rattle.cet_page.specs.Word64.{sub64}
 use Rattle.cet_page.specs.Flow.{called, call, call_next, relative, call_relative, call_indirect}
 use Rattle.cet_page.specs.Parts.{store_as}
 use Rattle.cet_page.specs.declared.checks.Kind.TheVariants as kind
-use Rattle.cet_page.specs.declared.finishes.Finish.{Finish}
-use Rattle.cet_page.specs.declared.finishes.Finish.TheVariants.{Noted, Posted, Exited, Stopped}
-use Rattle.cet_own.specs.Safe.{IsElsewhere, ReturnsBy}
-use Rattle.cet_own.specs.ToldTokens.{TokensBy}
-use Rattle.cet_own.proofs.Standing.{stacked, AtRest, HasNone}
-use Rattle.cet_own.proofs.Owed.{State}
+use Rattle.cet_page.specs.declared.finishes.Finish.TheVariants.{Noted}
+use Rattle.cet_own.specs.Safe.{IsElsewhere}
+use Rattle.cet_own.proofs.Standing.{stacked}
+use Rattle.cet_own.specs.Owed.{State}
 use Rattle.cet_own.proofs.Classes.{pushes}
 use Rattle.cet_own.proofs.Parts.{Claim, one_after, claim_bind, claim_cond, check_address_then, store_look_then, shadow_look_then, store_then}
 use Rattle.cet_own.proofs.OperandParts.{read_operand_then}
 use Rattle.cet_own.proofs.Places.{page_word, shadow_slot, below_is, room_below}
-use Rattle.cet_own.specs.Past.{drew, numbered}
 use Rattle.cet_own.proofs.Progress.{Progress, progress, untouched}
 use Rattle.cet_page.specs.Trail.{Visit}
+use Rattle.cet_own.specs.Threads.{Ends}
 use Rattle.cet_own.proofs.Resting.{Resting, rest_kept, rest_stacked, rested}
-
--- the entries of a thread's region
-abbrev pub entries_of : (t : ℕ) → Book → List Entry
-entries_of t b = (region b (current_of t b)).entries
-
--- What holds at the end of a row: the thread is at rest, or has nothing left, and a return goes right by the entries
--- before the last access.
-abbrev pub Ends : JobData → Arch → (past : List Visit) → (before s : State) → Finish → Type 0
-Ends job arch past before s (Noted next r) =
-    AtRest arch.number s.book next.ssp × ((held now : Option ℕ) → ReturnsBy job (entries_of arch.number before.book) (record arch { held = held }) (kept_by arch now next) r r.what) × TokensBy before.book s.book r r.what
-Ends job arch past before s (Posted next) = AtRest arch.number s.book next.ssp × (drew past ≡ false) × (numbered past ≡ false)
-Ends job arch past before s (Exited next r status) =
-    HasNone arch.number s.book × ((held now : Option ℕ) → ReturnsBy job (entries_of arch.number before.book) (record arch { held = held }) (kept_by arch now next) r r.what) × TokensBy before.book s.book r r.what
-Ends job arch past before s Stopped = AtRest arch.number s.book arch.ssp × (drew past ≡ false) × (numbered past ≡ false)
 
 -- the same of the part of an instruction
 abbrev pub EndsRow : JobData → Arch → (past : List Visit) → (before s : State) → Arch × Record → Type 0

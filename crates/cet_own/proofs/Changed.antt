@@ -10,14 +10,11 @@ use Rattle.cet_book.specs.Book.{Book, region, book_after}
 use Rattle.cet_book.specs.Facts.{Owns}
 use Rattle.cet_book.specs.Stack.{slot}
 use Rattle.cet_book.specs.Facts.{Place, In}
-use Rattle.cet_own.proofs.Holds.{Sound, Holds}
+use Rattle.cet_own.specs.Holds.{Sound, Holds}
 use Rattle.cet_page.specs.Trail.{Visit}
-use Rattle.cet_own.specs.Stands.{OwnWord, own_slot, below_token}
-use Rattle.cet_own.proofs.Still.{KeepsRestorers, TellsBelow}
-use Rattle.cet_own.proofs.Counters.{CountsBy}
-use Rattle.cet_own.proofs.Fits.{Fits}
-use Rattle.cet_own.proofs.HeldAfter.{NotesGate}
-use Rattle.cet_own.proofs.Owed.{Owed}
+use Rattle.cet_own.specs.Facts.{OwnWord, own_slot, below_token}
+use Rattle.cet_own.specs.Claims.{KeepsRestorers, TellsBelow, CountsBy, Fits, NotesGate}
+use Rattle.cet_own.specs.Owed.{Owed}
 use Rattle.cet_own.proofs.ClassLaws.{one_book, sound_after}
 use Rattle.cet_own.proofs.Classes.{word_other, keeps_restorers}
 

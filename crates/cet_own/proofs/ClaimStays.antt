@@ -12,7 +12,7 @@ use Rattle.cet_book.proofs.Changes.{same_book, then_by}
 use Rattle.cet_book.proofs.Kept.{claims, book_kept}
 use Rattle.cet_book.proofs.UnusedStays.{IsUnused, UsesMade, unused_stays}
 use Rattle.cet_own.specs.Past.{NewStack, claimed_by, claimed_after}
-use Rattle.cet_own.specs.Stands.{IsClaimed, HasClaimed}
+use Rattle.cet_own.specs.Facts.{IsClaimed, HasClaimed}
 
 holder_unused : (t : ℕ) (making : Bool) → IsUnused (if making then Maker t else Lost)
 holder_unused t true = tt

@@ -24,18 +24,18 @@ use Rattle.cet_book.proofs.Ways.{claimed_way}
 use Rattle.cet_page.specs.Script.{birth}
 use Rattle.cet_page.specs.Trail.{Visit}
 use Rattle.cet_own.specs.Past.{draw_word, drew}
-use Rattle.cet_own.specs.Stands.{OwnWord, own_slot, below_token}
+use Rattle.cet_own.specs.Facts.{OwnWord, own_slot, below_token}
 use Rattle.cet_own.specs.Class.{class_at}
 use Rattle.cet_own.specs.declared.access_classes.Class.TheVariants as class
 use Rattle.cet_own.proofs.Changed.{Spares, changed}
 use Rattle.cet_own.proofs.Classes.{Spared, word_other, keeps_restorers}
-use Rattle.cet_own.proofs.Counters.{draws_pages}
-use Rattle.cet_own.proofs.Holds.{InUse, Marks, Sound, Holds}
+use Rattle.cet_own.specs.Claims.{draws_pages}
+use Rattle.cet_own.specs.Holds.{InUse, Marks, Sound, Holds}
 use Rattle.cet_own.proofs.Kept.{ending_out, restorers_out, size_kept, lists_out, pages_out, gates_out, gates_same}
 use Rattle.cet_own.proofs.Marks.{parked_place}
 use Rattle.cet_own.proofs.Fits.{of_class, none_of, is_claim}
 use Rattle.cet_own.proofs.HeldAfter.{notes_gate}
-use Rattle.cet_own.proofs.Owed.{Owed}
+use Rattle.cet_own.specs.Owed.{Owed}
 use Rattle.cet_own.proofs.Writes.{in_there, list_kept, slot_out}
 use Rattle.cet_book.proofs.Changes.{same_book}
 
@@ -139,7 +139,7 @@ module _ {image : ImageData} {t k : ℕ} {past : List Visit} {b : Book} {a : Acc
       changed (Claimed (shadow_start + 4096 * (v + 1)) pages maker) (append (claim t (shadow_start + 4096 * (v + 1)) pages maker) b) ev tt
       (λ words is h ssp held stands note. of_class class.Claim (Claimed (shadow_start + 4096 * (v + 1)) pages maker ∷ []) ev refl (ap (λ c. class_at c ssp held v) e ∙ is_claim (pages + 1) ssp v held))
       (λ words is h. draws_pages (pages + 1) (omega arith) e once (ap birth ev))
-      (λ words is h. tells_below t b v e (λ j l. not_below draw_word j (λ z. omega arith)))
+      (λ words is h. tells_below t b v e (λ j l. not_below draw_word j (λ z. omega arith)) (λ j l. refl))
       (λ words is h. notes_gate v e ev (λ held. refl) (λ held j q. inl q))
       (λ words is h. claimed_way t (shadow_start + 4096 * (v + 1)) pages maker b (draw_can_claim b v pages (drawn words is h) least fits))
       (λ words is h sound.
@@ -164,7 +164,7 @@ module _ {image : ImageData} {t k : ℕ} {past : List Visit} {b : Book} {a : Acc
   pub overdraws : (n : ℕ) → a ≡ access.FetchAdd draw_word n → n ≤ 1023 → v + n < 2 ^ 64 → drew past ≡ false → changes ≡ [] → Owed image t k past b a v changes
   overdraws n e most few once ev = record {
     counts = λ words is h. draws_pages n most e once (ap birth ev);
-    below = λ words is h. tells_below t b v e (λ j l. not_below draw_word j (λ z. omega arith));
+    below = λ words is h. tells_below t b v e (λ j l. not_below draw_word j (λ z. omega arith)) (λ j l. refl);
     notes = λ words is h. notes_gate v e ev (λ held. refl) (λ held j q. inl q);
     fits = λ words is h ssp held stands note. none_of _ ev;
     keeps = λ words next is h still q. subst (Holds image (after words a)) (same_book t b next changes ev q) (does words is h).0;

@@ -19,16 +19,15 @@ use Rattle.cet_book.proofs.Kept.{book_kept}
 use Rattle.cet_book.specs.Stack.{slot, slot_word, word_of, tops}
 use Rattle.cet_book.specs.Facts.{Stack}
 use Rattle.cet_own.specs.Past.{next_word, draw_word}
-use Rattle.cet_own.proofs.Holds.{Sound, Holds}
-use Rattle.cet_own.specs.Stands.{IsRestorer, IsEntry, busy}
+use Rattle.cet_own.specs.Holds.{Sound, Holds}
+use Rattle.cet_own.specs.Facts.{IsRestorer, IsEntry, busy}
 use Rattle.cet_own.proofs.Marks.{marks_out, marks_same, tokens_end}
 use Rattle.cet_own.proofs.Kept.{ending_out, restorers_out, size_kept, lists_out, pages_out, pages_same, gates_set, gates_same}
 use Rattle.cet_book.proofs.Changes.{same_book, then_by}
 use Rattle.cet_page.specs.Trail.{Visit}
-use Rattle.cet_own.proofs.Still.{Still}
-use Rattle.cet_own.proofs.Standing.{HasNone}
+use Rattle.cet_own.specs.Claims.{Still, HasNone}
 use Rattle.cet_own.proofs.Counters.{CountersTell}
-use Rattle.cet_own.proofs.Owed.{HeadWord, Known}
+use Rattle.cet_own.specs.Owed.{HeadWord, Known}
 
 -- ---- what an answer tells
 

@@ -7,19 +7,22 @@ use Rattle.cet_words.specs.Job.{JobData, IsJob}
 use Rattle.cet_words.specs.declared.accesses.Access.{Access}
 use Rattle.cet_isa.specs.declared.threads.Arch.{Arch}
 use Rattle.cet_isa.specs.declared.threads.End.{End}
-use Rattle.cet_book.specs.Book.{first_book}
+use Rattle.cet_book.specs.Book.{Book, first_book}
 use Rattle.cet_page.specs.Core.{row_played, wanted, access_of, next_access, next_changes}
 use Rattle.cet_page.specs.Machine.{Machine, Thread, run, step}
 use Rattle.cet_page.specs.Script.{Wants}
-use Rattle.cet_own.specs.Class.{HasClass, Keeps, all_of, class_by}
+use Rattle.cet_own.specs.Class.{all_of, class_by}
+use Rattle.cet_own.specs.Keeps.{HasClass, HasClassInRuns, Keeps, TurnStands}
+use Rattle.cet_own.specs.Stands.{Stands}
 use Rattle.cet_own.specs.Event.{access_changes, thread_changes, turn_changes}
 use Rattle.cet_own.specs.declared.access_classes.Class.{Class}
 use Rattle.cet_own.proofs.CoveredRun.{ran, first_recorded}
-use Rattle.cet_own.proofs.Owed.{State}
+use Rattle.cet_own.specs.Owed.{State}
 use Rattle.cet_own.proofs.Paid.{counters_tell}
 use Rattle.cet_own.proofs.Run.{first_stands, turn}
 use Rattle.cet_own.proofs.StandsAt.{stands_at}
-use Rattle.cet_own.proofs.Threads.{CoreStands, InRow, ThreadStands}
+use Rattle.cet_own.proofs.StandsBack.{carried}
+use Rattle.cet_own.specs.Threads.{CoreStands, InRow, ThreadStands}
 use Rattle.cet_own.proofs.Turn.{led}
 use Rattle.cet_own.proofs.Turns.{Invariant, core_stacked}
 
@@ -60,8 +63,18 @@ module _ (job : JobData) (j : IsJob job) (m : Machine) (s : State) (st : Invaria
       }
 
 pub has_class : (c : Class) (a : Access) (arch : Arch) (value : ℕ) → c ≡ class_by a arch value → HasClass c a arch value
-has_class c a arch value e = λ job start turns t j s at.
-    let r = ran job j turns start (record { book = first_book }) (first_stands job start j s) (first_recorded job start s) in
-    let m = run job start turns in
+has_class c a arch value e = λ job m b t j stands at.
     let same : class_by a at.thread.core.arch (answer m.words a) ≡ c = ap (λ (x : Arch). class_by a x (answer m.words a)) at.state ∙ ap (class_by a arch) at.answers ∙ sym e in
-    (r.next.book, r.is, subst (λ x. Keeps x job m r.next.book t) same (keeps job j m r.next r.stands t at.thread at.found a at.wants))
+    subst (λ x. Keeps x job m b t) same (keeps job j m (record { book = b }) (carried job m b stands) t at.thread at.found a at.wants)
+
+-- and so in every run
+pub has_class_in_runs : (c : Class) (a : Access) (arch : Arch) (value : ℕ) → c ≡ class_by a arch value → HasClassInRuns c a arch value
+has_class_in_runs c a arch value e = λ job start turns t j s at.
+    let r = ran job j turns start (record { book = first_book }) (first_stands job start j s) (first_recorded job start s) in
+    (r.next.book, r.is, has_class c a arch value e job (run job start turns) r.next.book t j (stands_at job (run job start turns) r.next r.stands) at)
+
+-- a turn keeps the invariant
+pub turn_stands : (job : JobData) (m : Machine) (b : Book) (t : ℕ) → IsJob job → Stands job m b → TurnStands job m b t
+turn_stands job m b t j stands =
+    let d = turn job j m t (record { book = b }) (carried job m b stands) in
+    (d.next.book, d.is, stands_at job (step job m t) d.next d.stands)

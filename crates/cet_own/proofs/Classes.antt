@@ -12,32 +12,32 @@ use Rattle.cet_book.specs.Facts.{IsReturn, LiesIn, Place, In, Owns}
 use Rattle.cet_book.specs.declared.entries.Entry.TheVariants.{Call}
 use Rattle.cet_book.specs.declared.entries.Holder.TheVariants.{Current, Lost}
 use Rattle.cet_book.specs.Book.{Book, region, top, stack_of, put_stack, relist, returned, book_after, books_after}
-use Rattle.cet_book.proofs.Edits.{Owned}
+use Rattle.cet_book.proofs.Edits.{Owned, owned_there}
 use Rattle.cet_book.proofs.Hand.{hand}
 use Rattle.cet_book.proofs.Removes.{Removal, returned_is}
 use Rattle.cet_book.proofs.Top.{top_is}
 use Rattle.cet_book.specs.Stack.{slot}
 use Rattle.cet_book.proofs.Ways.{with_current_at, called_way, ended_way, freed_way, busied_way}
-use Rattle.cet_own.proofs.Holds.{Sound, Holds, IsOut, NoAction}
-use Rattle.cet_own.specs.Stands.{IsEntry, busy}
-use Rattle.cet_book.proofs.Held.{Free}
+use Rattle.cet_own.specs.Holds.{Sound, Holds, IsOut, NoAction}
+use Rattle.cet_own.specs.Facts.{IsEntry, busy, OwnWord, own_slot, below_token}
+use Rattle.cet_book.specs.Relied.{Free}
 use Rattle.cet_own.proofs.Kept.{holds_ended, holds_out, holds_entry, holds_below_token}
 use Rattle.cet_own.proofs.Own.{below_top, holds_push, holds_pop}
 use Rattle.cet_own.proofs.Fits.{of_class, none_of, none_held, some_held, is_push, is_load, is_entry, is_end}
 use Rattle.cet_own.proofs.HeldAfter.{keeps_note, notes_gate, taken_own, no_token, exchange_misses, takes_note, gives_note}
-use Rattle.cet_own.proofs.Owed.{Owed}
+use Rattle.cet_own.specs.Owed.{Owed}
 use Rattle.cet_book.proofs.Changes.{same_book, then_by}
+use Rattle.std.proofs.lemmas.Bool.{eqb-true, false≢true}
 use Rattle.std.proofs.lemmas.Bool.Decides.{nat_tests}
 use Rattle.cet_page.specs.Script.{birth, held_after}
 use Rattle.cet_page.specs.Trail.{Visit}
 use Rattle.cet_own.specs.ExitWord.{IsEnding}
 use Rattle.cet_own.specs.Class.{class_at}
-use Rattle.cet_own.specs.Past.{next_word, draw_word, restorer_word, frame_pushed, below_frame, held_by, leaves_word}
+use Rattle.cet_own.specs.Past.{next_word, draw_word, restorer_word, frame_pushed, frees_token, below_frame, held_by, leaves_word, touches}
 use Rattle.cet_own.specs.declared.access_classes.Class.TheVariants as class
-use Rattle.cet_own.proofs.Counters.{CountsBy, no_count, LeavesCounters, alters}
-use Rattle.cet_own.specs.Stands.{OwnWord, own_slot, below_token}
-use Rattle.cet_own.proofs.Standing.{Stacked}
-use Rattle.cet_own.proofs.Still.{KeepsRestorers, TellsBelow, tells_below, not_below}
+use Rattle.cet_own.proofs.Counters.{LeavesCounters}
+use Rattle.cet_own.specs.Claims.{CountsBy, no_count, alters, Stacked, KeepsRestorers, TellsBelow}
+use Rattle.cet_own.proofs.Still.{gives_back, tells_below, not_below, not_freed}
 use Rattle.cet_own.proofs.ClassLaws.{one_book, sound_after, wrote, exchange_does, exchange_fails, holds_gate, holds_end}
 
 pub own_region : {image : ImageData} {words : List ℕ} {b : Book} (t m : ℕ) → Holds image words b → (region b m).holder ≡ Current t → Owned t m b
@@ -178,6 +178,13 @@ other_word w n = grind (arith, nat_tests)
 pub next_other : (w : ℕ) → w ≢ next_word → (w == next_word) ≡ false
 next_other w n = grind (arith, nat_tests)
 
+-- the word below the token of a stack that the thread holds is below that of no other
+own_stack_there : (t : ℕ) (b : Book) (k j : ℕ) → stack_of b k ≡ Some t → (token_word k - 1 == token_word j - 1) ≡ true → stack_of b j ≡ Some t
+own_stack_there t b k j held q =
+    let at : token_word k - 1 ≡ token_word j - 1 = eqb-true (token_word k - 1) (token_word j - 1) q in
+    let same : k ≡ j = omega arith in
+    subst (λ i. stack_of b i ≡ Some t) same held
+
 pub quiet : {image : ImageData} {t k : ℕ} {past : List Visit} {b : Book} {a : Access} {v : ℕ} {changes : List Change} → changes ≡ [] → LeavesCounters a → TellsBelow t b a v →
     ((held : Option ℕ) → held ≡ held_by a v held) → ((words : List ℕ) → v ≡ answer words a → Holds image words b → Holds image (after words a) b × Spared b words (after words a)) →
     Owed image t k past b a v changes
@@ -196,19 +203,19 @@ quiet {image = image} {t = t} {b = b} {a = a} {v = v} {changes = changes} ev lea
 
 module _ {image : ImageData} {t k : ℕ} {past : List Visit} {b : Book} {a : Access} {v : ℕ} {changes : List Change} where
   pub looks : (page : ℕ) → a ≡ access.Look page → changes ≡ [] → Owed image t k past b a v changes
-  looks page e ev = quiet ev (leaves_by e refl refl) (tells_below t b v e (λ j l. refl)) (keeps_note v e (λ held. refl))
+  looks page e ev = quiet ev (leaves_by e refl refl) (tells_below t b v e (λ j l. refl) (λ j l. refl)) (keeps_note v e (λ held. refl))
       (λ words is h. subst (λ c. Holds image (after words c) b × Spared b words (after words c)) (sym e) (h, record { own = λ y w own. refl; restorers = λ s l n. n }))
 
   pub loads : (word : ℕ) → a ≡ access.Load word → TellsBelow t b a v → changes ≡ [] → Owed image t k past b a v changes
   loads word e below ev = quiet ev (leaves_by e refl refl) below (keeps_note v e (λ held. refl))
       (λ words is h. subst (λ c. Holds image (after words c) b × Spared b words (after words c)) (sym e) (h, record { own = λ y w own. refl; restorers = λ s l n. n }))
 
-  -- of a thread that holds no supervisor stack
-  pub free_loads : (word : ℕ) → a ≡ access.Load word → Free t b → changes ≡ [] → Owed image t k past b a v changes
-  free_loads word e free ev = loads word e (λ j l h q. absurd (free j h)) ev
+  -- elsewhere than below a supervisor stack's token
+  pub plain_loads : (word : ℕ) → a ≡ access.Load word → ((j : ℕ) → word ≢ token_word j - 1) → changes ≡ [] → Owed image t k past b a v changes
+  plain_loads word e apart ev = loads word e (tells_below t b v e (λ j l. not_below word j (apart j)) (λ j l. refl)) ev
 
   pub stores : (word value : ℕ) → a ≡ access.Store word value → IsOut word → changes ≡ [] → Owed image t k past b a v changes
-  stores word value e out ev = quiet ev (leaves_by e (other_word word out.draw) (next_other word out.next)) (tells_below t b v e (λ j l. not_below word j (λ z. out.below j l (sym z))))
+  stores word value e out ev = quiet ev (leaves_by e (other_word word out.draw) (next_other word out.next)) (tells_below t b v e (λ j l. not_below word j (λ z. out.below j l (sym z))) (λ j l. refl))
       (keeps_note v e (λ held. refl)) (λ words is h. subst (λ c. Holds image (after words c) b × Spared b words (after words c)) (sym e) (
         holds_out image words b word value out h,
         out_spared words b word value out,
@@ -216,7 +223,7 @@ module _ {image : ImageData} {t k : ℕ} {past : List Visit} {b : Book} {a : Acc
 
   pub exchanges : (word expected value : ℕ) → a ≡ access.CompareExchange word expected value → IsOut word → changes ≡ [] → Owed image t k past b a v changes
   exchanges word expected value e out ev =
-      quiet ev (leaves_by e (other_word word out.draw) (next_other word out.next)) (tells_below t b v e (λ j l. not_below word j (λ z. out.below j l (sym z))))
+      quiet ev (leaves_by e (other_word word out.draw) (next_other word out.next)) (tells_below t b v e (λ j l. not_below word j (λ z. out.below j l (sym z))) (λ j l. not_freed word expected value j (λ z w. out.token j l (sym z))))
       (keeps_note v e (no_token word expected value v out.token)) (λ words is h. subst (λ c. Holds image (after words c) b × Spared b words (after words c)) (sym e) (
         wrote image words b word expected value (slice_index words word == expected) refl h (λ _. holds_out image words b word value out h),
         record {
@@ -226,7 +233,7 @@ module _ {image : ImageData} {t k : ℕ} {past : List Visit} {b : Book} {a : Acc
       ))
 
   pub swaps : (word value : ℕ) → a ≡ access.Swap word value → IsOut word → changes ≡ [] → Owed image t k past b a v changes
-  swaps word value e out ev = quiet ev (leaves_by e (other_word word out.draw) (next_other word out.next)) (tells_below t b v e (λ j l. not_below word j (λ z. out.below j l (sym z))))
+  swaps word value e out ev = quiet ev (leaves_by e (other_word word out.draw) (next_other word out.next)) (tells_below t b v e (λ j l. not_below word j (λ z. out.below j l (sym z))) (λ j l. refl))
       (keeps_note v e (λ held. refl)) (λ words is h. subst (λ c. Holds image (after words c) b × Spared b words (after words c)) (sym e) (
         holds_out image words b word value out h,
         out_spared words b word value out,
@@ -234,7 +241,7 @@ module _ {image : ImageData} {t k : ℕ} {past : List Visit} {b : Book} {a : Acc
 
   pub adds : (word value : ℕ) → a ≡ access.FetchAdd word value → IsOut word → changes ≡ [] → Owed image t k past b a v changes
   adds word value e out ev =
-      quiet ev (leaves_by e (other_word word out.draw) (next_other word out.next)) (tells_below t b v e (λ j l. not_below word j (λ z. out.below j l (sym z)))) (keeps_note v e (λ held. refl))
+      quiet ev (leaves_by e (other_word word out.draw) (next_other word out.next)) (tells_below t b v e (λ j l. not_below word j (λ z. out.below j l (sym z))) (λ j l. refl)) (keeps_note v e (λ held. refl))
       (λ words is h. subst (λ c. Holds image (after words c) b × Spared b words (after words c)) (sym e) (
         holds_out image words b word ((slice_index words word + value) % 2 ^ 64) out h,
         out_spared words b word ((slice_index words word + value) % 2 ^ 64) out,
@@ -242,7 +249,7 @@ module _ {image : ImageData} {t k : ℕ} {past : List Visit} {b : Book} {a : Acc
 
   pub ors : (word value : ℕ) → a ≡ access.FetchOr word value → IsOut word → changes ≡ [] → Owed image t k past b a v changes
   ors word value e out ev =
-      quiet ev (leaves_by e (other_word word out.draw) (next_other word out.next)) (tells_below t b v e (λ j l. not_below word j (λ z. out.below j l (sym z)))) (keeps_note v e (λ held. refl))
+      quiet ev (leaves_by e (other_word word out.draw) (next_other word out.next)) (tells_below t b v e (λ j l. not_below word j (λ z. out.below j l (sym z))) (λ j l. refl)) (keeps_note v e (λ held. refl))
       (λ words is h. subst (λ c. Holds image (after words c) b × Spared b words (after words c)) (sym e) (
         holds_out image words b word (bit_or (slice_index words word) value) out h,
         out_spared words b word (bit_or (slice_index words word) value) out,
@@ -250,7 +257,7 @@ module _ {image : ImageData} {t k : ℕ} {past : List Visit} {b : Book} {a : Acc
 
   pub ands : (word value : ℕ) → a ≡ access.FetchAnd word value → IsOut word → changes ≡ [] → Owed image t k past b a v changes
   ands word value e out ev =
-      quiet ev (leaves_by e (other_word word out.draw) (next_other word out.next)) (tells_below t b v e (λ j l. not_below word j (λ z. out.below j l (sym z)))) (keeps_note v e (λ held. refl))
+      quiet ev (leaves_by e (other_word word out.draw) (next_other word out.next)) (tells_below t b v e (λ j l. not_below word j (λ z. out.below j l (sym z))) (λ j l. refl)) (keeps_note v e (λ held. refl))
       (λ words is h. subst (λ c. Holds image (after words c) b × Spared b words (after words c)) (sym e) (
         holds_out image words b word (bit_and (slice_index words word) value) out h,
         out_spared words b word (bit_and (slice_index words word) value) out,
@@ -259,7 +266,7 @@ module _ {image : ImageData} {t k : ℕ} {past : List Visit} {b : Book} {a : Acc
   -- the process ends, where it hasn't ended before
   pub finishes : (value : ℕ) → a ≡ access.CompareExchange exit_word 0 value → IsEnding value → changes ≡ [] → Owed image t k past b a v changes
   finishes value e ending ev =
-      quiet ev (leaves_by e (other_word exit_word (omega arith)) (next_other exit_word (omega arith))) (tells_below t b v e (λ j l. not_below exit_word j (λ z. omega arith)))
+      quiet ev (leaves_by e (other_word exit_word (omega arith)) (next_other exit_word (omega arith))) (tells_below t b v e (λ j l. not_below exit_word j (λ z. omega arith)) (λ j l. not_freed exit_word 0 value j (λ z w. omega arith)))
       (keeps_note v e (no_token exit_word 0 value v (λ j l z. omega arith))) (λ words is h. subst (λ c. Holds image (after words c) b × Spared b words (after words c)) (sym e) (
         wrote image words b exit_word 0 value (slice_index words exit_word == 0) refl h (λ _. holds_ended image words b value ending h),
         record {
@@ -273,7 +280,7 @@ module _ {image : ImageData} {t k : ℕ} {past : List Visit} {b : Book} {a : Acc
   pub sets_page : (page x : ℕ) → a ≡ access.Store (entry_word page) x → first_mmap_page ≤ page → page < first_kernel_page → IsEntry image page x →
       (x ≢ 0 → first_shadow_page ≤ page → (i : ℕ) × LiesIn (region b i) page) → changes ≡ [] → Owed image t k past b a v changes
   sets_page page x e lo hi entry lies ev = quiet ev (leaves_by e (other_word (entry_word page) (omega arith)) (next_other (entry_word page) (omega arith)))
-      (tells_below t b v e (λ j l. not_below (entry_word page) j (λ z. omega arith))) (keeps_note v e (λ held. refl))
+      (tells_below t b v e (λ j l. not_below (entry_word page) j (λ z. omega arith)) (λ j l. refl)) (keeps_note v e (λ held. refl))
       (λ words is h. subst (λ c. Holds image (after words c) b × Spared b words (after words c)) (sym e) (
         holds_entry image words b page x lo hi entry lies h,
         record {
@@ -292,7 +299,7 @@ module _ {image : ImageData} {t k : ℕ} {past : List Visit} {b : Book} {a : Acc
   -- the way in finds the supervisor stack busy
   pub refused : (value : ℕ) → k < 8 → a ≡ access.CompareExchange (token_word k) (token k) value → v ≢ token k → changes ≡ [] → Owed image t k past b a v changes
   refused value l e n ev =
-      quiet ev (leaves_by e (other_word (token_word k) (omega arith)) (next_other (token_word k) (omega arith))) (tells_below t b v e (λ j m. not_below (token_word k) j (λ z. omega arith)))
+      quiet ev (leaves_by e (other_word (token_word k) (omega arith)) (next_other (token_word k) (omega arith))) (tells_below t b v e (λ j m. not_below (token_word k) j (λ z. omega arith)) (λ j m. not_freed (token_word k) (token k) value j (λ z w. omega arith)))
       (keeps_note v e (exchange_misses (token_word k) (token k) value v n)) (λ words is h.
       let n' : slice_index words (token_word k) ≢ token k = λ z. n (is ∙ ap (answer words) e ∙ z) in
       subst (λ c. Holds image (after words c) b × Spared b words (after words c)) (sym e) (
@@ -301,14 +308,23 @@ module _ {image : ImageData} {t k : ℕ} {past : List Visit} {b : Book} {a : Acc
       ))
 
   -- the way out reads it again
-  pub reloads : k < 8 → a ≡ access.Load (token_word k - 1) → v ≡ kernel_return → changes ≡ [] → Owed image t k past b a v changes
-  reloads l e found ev = loads (token_word k - 1) e (λ j m h q. ap (λ c. leaves_word c v) e ∙ found) ev
+  pub reloads : k < 8 → a ≡ access.Load (token_word k - 1) → v ≡ kernel_return → stack_of b k ≡ Some t → changes ≡ [] → Owed image t k past b a v changes
+  reloads l e found held ev =
+      loads (token_word k - 1) e (record {
+        holder = λ j m q. own_stack_there t b k j held (sym (ap (λ c. touches c (token_word j - 1)) e) ∙ q);
+        address = λ j m q. ap (λ c. leaves_word c v) e ∙ found;
+        frees = λ j m q. absurd (false≢true (sym (ap (λ c. frees_token c j) e) ∙ q));
+      }) ev
 
   -- the way in stores the kernel's return address below its token
   pub settles : k < 8 → a ≡ access.Store (token_word k - 1) kernel_return → stack_of b k ≡ Some t → changes ≡ [] → Owed image t k past b a v changes
   settles l e held ev = record {
     notes = λ words is h. notes_gate v e ev (λ note. refl) (λ note j q. inl q);
-    below = λ words is h j m own q. ap (λ c. leaves_word c v) e;
+    below = λ words is h. record {
+      holder = λ j m q. own_stack_there t b k j held (sym (ap (λ c. touches c (token_word j - 1)) e) ∙ q);
+      address = λ j m q. ap (λ c. leaves_word c v) e;
+      frees = λ j m q. absurd (false≢true (sym (ap (λ c. frees_token c j) e) ∙ q));
+    };
     fits = λ words is h ssp held stands note. none_of _ ev;
     counts = λ words is h. no_count_by (leaves_by e (other_word (token_word k - 1) (omega arith)) (next_other (token_word k - 1) (omega arith))) (ap birth ev);
     keeps = λ words next is h still q.
@@ -334,7 +350,7 @@ module _ {image : ImageData} {t k : ℕ} {past : List Visit} {b : Book} {a : Acc
     notes = λ words is h. notes_gate v e ev (λ note. refl) (λ note j q. inl q);
     below = λ words is h.
         let high = (below_top (own_region t m h current) room).place.high in
-        tells_below t b v e (λ j l. not_below (slot (top (region b m) - 8)) j (λ z. omega arith));
+        tells_below t b v e (λ j l. not_below (slot (top (region b m) - 8)) j (λ z. omega arith)) (λ j l. refl);
     fits = λ words is h ssp held stands note.
         let o = own_region t m h current in
         let place = (below_top o room).place in
@@ -363,7 +379,10 @@ module _ {image : ImageData} {t k : ℕ} {past : List Visit} {b : Book} {a : Acc
   pub pops : (m : ℕ) → (region b m).holder ≡ Current t → a ≡ access.Load (slot (top (region b m))) → Free t b → frame_pushed past ≡ false → changes ≡ Returned ∷ [] → Owed image t k past b a v changes
   pops m current e free level ev = record {
     notes = λ words is h. notes_gate v e ev (λ note. refl) (λ note j q. inl q);
-    below = λ words is h j l own q. absurd (free j own);
+    below = λ words is h.
+        let o = own_region t m h current in
+        let high = (h.sound.book.shape.bounds m (owned_there o)).high in
+        tells_below t b v e (λ j l. not_below (slot (top (region b m))) j (λ z. omega arith)) (λ j l. refl);
     fits = λ words is h ssp held stands note.
         let at' = subst (λ f. Stacked t b (below_frame f ssp)) level stands in
         let here : ssp ≡ top (region b m) = top_is (own_region t m h current) at'.top in
@@ -387,7 +406,7 @@ module _ {image : ImageData} {t k : ℕ} {past : List Visit} {b : Book} {a : Acc
   pub enters : k < 8 → a ≡ access.CompareExchange (token_word k) (token k) (token k + 1) → v ≡ token k → Free t b → changes ≡ Busied k ∷ [] → Owed image t k past b a v changes
   enters l e found free ev = record {
     notes = λ words is h. notes_gate v e ev (takes_note k v l found) (λ note j q. inr (taken_own k j q));
-    below = λ words is h. tells_below t b v e (λ j m. not_below (token_word k) j (λ z. omega arith));
+    below = λ words is h. tells_below t b v e (λ j m. not_below (token_word k) j (λ z. omega arith)) (λ j m. not_freed (token_word k) (token k) (token k + 1) j (λ z w. omega arith));
     fits = λ words is h ssp held stands note. of_class class.Neutral (Busied k ∷ []) ev refl (ap (λ c. class_at c ssp held v) e ∙ is_entry k (token k) (token k + 1) ssp v held l (none_held b held free note));
     counts = λ words is h. no_count_by (leaves_by e (other_word (token_word k) (omega arith)) (next_other (token_word k) (omega arith))) (ap birth ev);
     keeps = λ words next is h still q.
@@ -406,7 +425,7 @@ module _ {image : ImageData} {t k : ℕ} {past : List Visit} {b : Book} {a : Acc
   pub leaves : k < 8 → a ≡ access.CompareExchange (token_word k) (token k + 1) (token k) → stack_of b k ≡ Some t → changes ≡ Freed k ∷ [] → Owed image t k past b a v changes
   leaves l e held ev = record {
     notes = λ words is h. notes_gate v e ev (gives_note k v l (is ∙ ap (answer words) e ∙ token_held t k h l held)) (λ note j q. cc);
-    below = λ words is h. tells_below t b v e (λ j m. not_below (token_word k) j (λ z. omega arith));
+    below = λ words is h. gives_back t b v k e l held;
     fits = λ words is h ssp noted stands note. of_class class.End (Freed k ∷ []) ev refl (ap (λ c. class_at c ssp noted v) e ∙ is_end k (token k + 1) (token k) ssp v noted l (some_held b noted k held note));
     counts = λ words is h. no_count_by (leaves_by e (other_word (token_word k) (omega arith)) (next_other (token_word k) (omega arith))) (ap birth ev);
     keeps = λ words next is h still q.
@@ -426,7 +445,7 @@ module _ {image : ImageData} {t k : ℕ} {past : List Visit} {b : Book} {a : Acc
       Owed image t k past b a v changes
   exits m l e held current ev = record {
     notes = λ words is h. notes_gate v e ev (gives_note k v l (is ∙ ap (answer words) e ∙ token_held t k h l held)) (λ note j q. cc);
-    below = λ words is h. tells_below t b v e (λ j n. not_below (token_word k) j (λ z. omega arith));
+    below = λ words is h. gives_back t b v k e l held;
     fits = λ words is h ssp noted stands note. of_class class.End (Ended ∷ Freed k ∷ []) ev refl (ap (λ c. class_at c ssp noted v) e ∙ is_end k (token k + 1) (token k) ssp v noted l (some_held b noted k held note));
     counts = λ words is h. no_count_by (leaves_by e (other_word (token_word k) (omega arith)) (next_other (token_word k) (omega arith))) (ap birth ev);
     keeps = λ words next is h still q.

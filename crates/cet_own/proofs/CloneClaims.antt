@@ -12,7 +12,7 @@ use Rattle.cet_book.specs.Book.{Book, Region, region, top, current_of}
 use Rattle.cet_book.specs.declared.entries.Holder.TheVariants.{Current}
 use Rattle.cet_book.proofs.Edits.{current_holds}
 use Rattle.cet_book.proofs.Hand.{hand, Made, bears, born_others, hand_same, hand_other}
-use Rattle.cet_book.proofs.Top.{AtTop}
+use Rattle.cet_book.specs.Relied.{AtTop}
 use Rattle.cet_book.proofs.Ways.{born_way}
 use Rattle.cet_page.specs.Finish.{rdi, rsi}
 use Rattle.cet_page.specs.MapShadowStack.{drawn_page, drawn_start}
@@ -24,12 +24,12 @@ use Rattle.cet_page.specs.declared.services.Errno.TheVariants as errno
 use Rattle.cet_own.specs.Past.{left_in, next_word, numbered}
 use Rattle.cet_own.specs.Safe.{IsElsewhere}
 use Rattle.cet_own.proofs.Born.{births, unborn}
-use Rattle.cet_own.proofs.Calls.{Ends}
-use Rattle.cet_own.proofs.Counters.{Bears}
+use Rattle.cet_own.specs.Threads.{Ends}
+use Rattle.cet_own.specs.Claims.{Bears}
 use Rattle.cet_own.proofs.GateParts.{gate_out_then}
 use Rattle.cet_own.proofs.KernelParts.{counted_by, Leaves, Within, failed_claim}
 use Rattle.cet_own.proofs.MapClaims.{Begun, begun_kept, draw_then, entries_claim}
-use Rattle.cet_own.proofs.Owed.{State, state_after, Known, Owed, own_stack}
+use Rattle.cet_own.specs.Owed.{State, state_after, Known, Owed, own_stack}
 use Rattle.cet_own.proofs.Parts.{Claim, one_after, claim_bind, claim_cond, clears_claim}
 use Rattle.cet_own.proofs.Progress.{Progress, progress, untouched}
 use Rattle.cet_own.proofs.Resting.{Inside, inside_kept, inside_left, inside_stacked, rested}

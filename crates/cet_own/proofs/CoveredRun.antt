@@ -26,18 +26,19 @@ use Rattle.cet_book.proofs.Ways.{starting_at_is}
 use Rattle.cet_page.specs.Core.{Core, first_core}
 use Rattle.cet_page.specs.Machine.{Machine, Thread, step, run, Starts}
 use Rattle.cet_page.specs.Trail.{row_trail, trail_of}
-use Rattle.cet_own.specs.Event.{events_by, turn_changes, events_from}
+use Rattle.cet_own.specs.Event.{book_of, events_by, turn_changes, events_from}
 use Rattle.cet_own.specs.Safe.{KeepsStack}
+use Rattle.cet_own.specs.Stands.{Stands}
 use Rattle.cet_own.specs.Told.{told_in, told_spans, first_span, kept_pointer, kept_pointers}
-use Rattle.cet_own.proofs.Covered.{Covered, told_numbers, AllEnded, LastCovered}
+use Rattle.cet_own.specs.Covered.{Covered, told_numbers, AllEnded, LastCovered}
 use Rattle.cet_own.proofs.Drawing.{times, occurs, once_here, HasSpan}
 use Rattle.cet_own.proofs.Drawn.{Drawn, nothing_drawn, drawn}
 use Rattle.cet_own.proofs.Numbers.{core_number}
-use Rattle.cet_own.proofs.Owed.{State}
+use Rattle.cet_own.specs.Owed.{State}
 use Rattle.cet_own.proofs.Recorded.{Recorded, ThreadSpans, row_drawn, used, shown, recorded_turn}
 use Rattle.cet_own.proofs.Run.{turn, first_stands}
 use Rattle.cet_own.proofs.StandsAt.{stands_at, token_found}
-use Rattle.cet_own.proofs.Threads.{Ended, CoreStands, ThreadStands}
+use Rattle.cet_own.specs.Threads.{Ended, CoreStands, ThreadStands}
 use Rattle.cet_own.proofs.ToldLaws.{order_times, order_all, flat_times, flat_all, flat_has, same_sums, times_place, one_place, map_back}
 use Rattle.cet_own.proofs.Turns.{Invariant, safe_at}
 use Rattle.cet_own.proofs.Views.{kept_there}
@@ -329,3 +330,11 @@ pub last_covered : (job : JobData) (start : Machine) (turns : List ℕ) → IsJo
 last_covered job start turns j s over =
     let r = ran job j turns start (record { book = first_book }) (first_stands job start j s) (first_recorded job start s) in
     record { book = r.next.book; last = r.is; covered = covered_at job (run job start turns) r.next r.stands r.told over }
+
+-- the invariant holds of what a run has left and its last book
+pub last_stands : (job : JobData) (start : Machine) (turns : List ℕ) → IsJob job → Starts job start → (b : Book) → book_of job start turns ≡ Some b → Stands job (run job start turns) b
+last_stands job start turns j s b e =
+    let r = ran job j turns start (record { book = first_book }) (first_stands job start j s) (first_recorded job start s) in
+    let is = sym r.is ∙ e in
+    let same : r.next.book ≡ b = cc in
+    subst (Stands job (run job start turns)) same (stands_at job (run job start turns) r.next r.stands)

@@ -20,7 +20,7 @@ use Rattle.cet_book.specs.Facts.{In, IsReturn}
 use Rattle.cet_book.specs.Shape.{Shape}
 use Rattle.cet_book.proofs.Edits.{Owned, owned}
 use Rattle.cet_book.proofs.Kept.{book_kept}
-use Rattle.cet_book.proofs.Relies.{Relies}
+use Rattle.cet_book.specs.Relied.{Relies}
 use Rattle.cet_book.proofs.Top.{relist_top}
 use Rattle.cet_book.proofs.Ways.{pushed_way}
 use Rattle.cet_book.specs.Stack.{slot}
@@ -39,19 +39,21 @@ use Rattle.cet_page.specs.declared.actions.FramePlaces.{FramePlaces}
 use Rattle.cet_page.specs.declared.checks.Kind.TheVariants as kind
 use Rattle.cet_own.specs.ExitWord.{IsEnding, killed}
 use Rattle.cet_own.specs.Past.{drew, has_restorer, left_in, numbered}
-use Rattle.cet_own.specs.Stands.{IsRestorer}
-use Rattle.cet_own.proofs.Calls.{Ends, own_kept}
+use Rattle.cet_own.specs.Facts.{IsRestorer}
+use Rattle.cet_own.proofs.Calls.{own_kept}
+use Rattle.cet_own.specs.Threads.{Ends}
 use Rattle.cet_own.proofs.Endings.{by_signal}
 use Rattle.cet_own.proofs.GateParts.{gate_out_then}
-use Rattle.cet_own.proofs.Holds.{IsOut}
+use Rattle.cet_own.specs.Holds.{IsOut}
 use Rattle.cet_own.proofs.KernelParts.{Leaves, Within}
-use Rattle.cet_own.proofs.Owed.{State, own_stack}
+use Rattle.cet_own.specs.Owed.{State, own_stack}
 use Rattle.cet_own.proofs.Parts.{Claim, claim_bind, claim_cond, end_then, fetch_and_then, kernel_load_known, kernel_load_then, one_after}
 use Rattle.cet_own.proofs.Places.{below_is, room_below, room_two_below, shadow_slot}
 use Rattle.cet_own.proofs.Progress.{Progress, untouched}
 use Rattle.cet_own.proofs.Pushed.{stores_marker, stores_restorer}
 use Rattle.cet_own.proofs.Resting.{Inside, inside_kept, inside_left, inside_stacked, rested}
-use Rattle.cet_own.proofs.Standing.{Stacked, stacked}
+use Rattle.cet_own.proofs.Standing.{stacked}
+use Rattle.cet_own.specs.Claims.{Stacked}
 use Rattle.cet_own.proofs.StructureParts.{shadow_probe_then, store_each_claim, store_span_claim}
 use Rattle.cet_own.proofs.TokenWords.{frame_word_is}
 
@@ -119,7 +121,7 @@ module _ (job : JobData) (j : IsJob job) (arch : Arch) (l : own_stack job arch.n
   kill_claim past before s signal is within =
       let apart : (exit_word == token_word gate - 1) ≡ false = (let n : exit_word ≢ token_word gate - 1 = omega arith in grind (arith, nat_tests)) in
       end_then job arch (Leaves job arch l) past before s (0x200 + signal) _ is (inside_stacked within) (λ now r found.
-      gate_out_then job arch l (Ends job arch) _ now now _ (inside_left (rw apart refl) (inside_kept r within)) (λ p z n rest. (rested rest, λ held later. tt, tt)))
+      gate_out_then job arch l (Ends job arch) _ now now _ (inside_left (rw apart refl) (inside_kept r within)) (λ p z n rest. (rested rest, λ held later. refl, tt)))
 
   -- ---- the places of a frame
 
@@ -244,22 +246,22 @@ module _ (job : JobData) (j : IsJob job) (arch : Arch) (l : own_stack job arch.n
       Claim job arch (Leaves job arch l) past before s (enter_handler arch signal cause handler)
   unfolding enter_handler
   handler_claim past before s signal handler cause few shows within =
-      kernel_load_then job arch (Leaves job arch l) past before s gate (action_word signal + 1) _ (λ z. omega arith) within (λ now r flags within1.
-      kernel_load_known job arch (Leaves job arch l) _ now now gate (action_word signal + 2) _ (λ z. omega arith) within1 (λ now2 r2 restorer known within2.
+      kernel_load_then job arch (Leaves job arch l) past before s gate (action_word signal + 1) _ (λ k z. omega arith) within (λ now r flags within1.
+      kernel_load_known job arch (Leaves job arch l) _ now now gate (action_word signal + 2) _ (λ k z. omega arith) within1 (λ now2 r2 restorer known within2.
       let other : (action_word signal + 1 == action_word signal) ≡ false = (let n : action_word signal + 1 ≢ action_word signal = omega arith in grind (arith, nat_tests)) in
       let some = known.restorer signal few (rw other shows) refl in
       let is_return = restorer_returns job restorer j some (known.code signal few refl) in
-      kernel_load_then job arch (Leaves job arch l) _ now2 now2 gate (action_word signal + 3) _ (λ z. omega arith) within2 (λ now3 r3 mask within3.
+      kernel_load_then job arch (Leaves job arch l) _ now2 now2 gate (action_word signal + 3) _ (λ k z. omega arith) within2 (λ now3 r3 mask within3.
       push_or_kill_claim _ now3 now3 signal cause (record { handler = handler; flags = flags; restorer = restorer; mask = mask }) is_return within3)))
 
   ignore_claim : (past : List Visit) (before s : State) (signal : ℕ) (cause : Option Fault) → IsEnding (0x200 + signal) → Inner past s → Claim job arch (Leaves job arch l) past before s (ignore arch signal cause)
-  ignore_claim past before s signal None is within = gate_out_then job arch l (Ends job arch) past before s _ within (λ p z n rest. (rested rest, λ held later. tt, tt))
+  ignore_claim past before s signal None is within = gate_out_then job arch l (Ends job arch) past before s _ within (λ p z n rest. (rested rest, λ held later. refl, tt))
   ignore_claim past before s signal (Some e) is within = kill_claim past before s signal is within
 
   handle_claim : (past : List Visit) (before s : State) (signal : ℕ) (cause : Option Fault) → signal < 64 → IsEnding (0x200 + signal) → Inner past s → Claim job arch (Leaves job arch l) past before s (handle arch signal cause)
   unfolding handle
   handle_claim past before s signal cause few is within =
-      kernel_load_then job arch (Leaves job arch l) past before s gate (action_word signal) _ (λ z. omega arith) within (λ now r handler within1.
+      kernel_load_then job arch (Leaves job arch l) past before s gate (action_word signal) _ (λ k z. omega arith) within (λ now r handler within1.
       claim_cond job arch (Leaves job arch l) _ now now (handler == 0) _ _ (λ _. kill_claim _ now now signal is within1)
       (λ none. claim_cond job arch (Leaves job arch l) _ now now (handler == 1) _ _ (λ _. ignore_claim _ now now signal cause is within1)
       (λ not_one.

@@ -20,16 +20,16 @@ use Rattle.cet_page.specs.Machine.{Machine, Thread, Starts}
 use Rattle.cet_page.proofs.WithinLaws.{first_waits}
 use Rattle.cet_own.specs.ExitWord.{IsExitWord}
 use Rattle.cet_own.specs.Past.{restorer_word, next_word, draw_word}
-use Rattle.cet_own.proofs.Holds.{Marks, Pages, Gates, Holds}
-use Rattle.cet_own.specs.Stands.{Restorers, IsEntry, busy}
-use Rattle.cet_book.proofs.Held.{Free, held_free}
-use Rattle.cet_own.proofs.Standing.{AtRest, HasNone}
-use Rattle.cet_own.specs.Stands.{HasMade}
+use Rattle.cet_own.specs.Holds.{Marks, Pages, Gates, Holds}
+use Rattle.cet_own.specs.Facts.{Restorers, IsEntry, busy, HasMade}
+use Rattle.cet_book.specs.Relied.{Free}
+use Rattle.cet_book.proofs.Held.{held_free}
+use Rattle.cet_own.specs.Claims.{AtRest, HasNone, Still}
 use Rattle.cet_own.proofs.Rows.{row_claim}
 use Rattle.cet_page.specs.Trail.{trail_of}
 use Rattle.cet_own.proofs.Paid.{Paid}
-use Rattle.cet_own.proofs.Still.{Still, still_none}
-use Rattle.cet_own.proofs.Threads.{InRow, ThreadStands}
+use Rattle.cet_own.proofs.Still.{still_none}
+use Rattle.cet_own.specs.Threads.{InRow, ThreadStands}
 
 -- ---- words
 

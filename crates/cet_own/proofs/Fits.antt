@@ -4,25 +4,16 @@ use Rattle.std.specs.Prelude.{◌==◌, nat_le, nat_lt, is_some}
 use Rattle.std.proofs.lemmas.Bool.Decides.{nat_tests}
 use Rattle.cet_words.specs.Change.{Change}
 use Rattle.cet_words.specs.Layout.{first_shadow_page, first_kernel_page, first_shadow_word, first_kernel_word, draw_shadow_word, token_word}
-use Rattle.cet_words.specs.declared.accesses.Access.{Access}
 use Rattle.cet_words.specs.declared.accesses.Access.TheVariants as access
 use Rattle.cet_book.specs.Book.{Book, stack_of}
 use Rattle.cet_book.specs.Facts.{Place}
 use Rattle.cet_book.specs.Stack.{slot}
-use Rattle.cet_book.proofs.Held.{Free, Held}
+use Rattle.cet_book.specs.Relied.{Free, Held}
 use Rattle.cet_page.specs.Tokens.{restore_token}
-use Rattle.cet_page.specs.Trail.{Visit}
 use Rattle.cet_own.specs.Class.{address_of, all_of, class_at}
-use Rattle.cet_own.specs.Past.{below_frame, frame_pushed}
 use Rattle.cet_own.specs.declared.access_classes.Class.{Class}
 use Rattle.cet_own.specs.declared.access_classes.Class.TheVariants as class
-use Rattle.cet_own.proofs.Standing.{Stacked}
 use Rattle.cet_own.proofs.TokenWords.{restore_token_is}
-
--- Where SSP is at the top of the thread's region, and its note of the supervisor stack that it holds agrees with the book, the
--- changes are of the class of the access.
-abbrev pub Fits : (t : ℕ) → (past : List Visit) → Book → Access → (v : ℕ) → List Change → Type 0
-Fits t past b a v changes = (ssp : ℕ) (held : Option ℕ) → Stacked t b (below_frame (frame_pushed past) ssp) → Held t b held → all_of (class_at a ssp held v) changes ≡ true
 
 -- it is enough to say which class it is
 pub of_class : {x : Class} {changes : List Change} (c : Class) (l : List Change) → changes ≡ l → all_of c l ≡ true → x ≡ c → all_of x changes ≡ true

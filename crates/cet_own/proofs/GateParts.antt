@@ -16,19 +16,19 @@ use Rattle.cet_book.proofs.Edits.{Owned, owned, current_holds}
 use Rattle.cet_book.proofs.Hand.{hand, end_none}
 use Rattle.cet_book.proofs.Supervisor.{stack_of-put_stack, current_of-put_stack}
 use Rattle.cet_book.proofs.Kept.{book_kept}
-use Rattle.cet_book.proofs.Relies.{Relies, owns_current}
 use Rattle.cet_book.proofs.Top.{relist_top}
 use Rattle.cet_book.proofs.Ways.{busied_way, freed_way, ended_way, popped_way}
 use Rattle.cet_page.specs.Script.{Script, ◌>>=◌}
 use Rattle.cet_page.specs.Parts.{compare_exchange_as, store, store_as, load, load_as}
 use Rattle.cet_page.specs.declared.finishes.Leaving.TheVariants as leaving
 use Rattle.cet_page.specs.Gate.{gate_in, gate_out}
-use Rattle.cet_own.specs.Stands.{busy}
+use Rattle.cet_own.specs.Facts.{busy, below_token}
 use Rattle.cet_own.proofs.Popped.{pops_frame}
-use Rattle.cet_own.proofs.Standing.{Stacked, HasNone, stacked}
-use Rattle.cet_book.proofs.Held.{Free, given_held}
-use Rattle.cet_own.specs.Stands.{below_token}
-use Rattle.cet_own.proofs.Owed.{State, own_stack}
+use Rattle.cet_own.proofs.Standing.{stacked}
+use Rattle.cet_own.specs.Claims.{Stacked, HasNone}
+use Rattle.cet_book.specs.Relied.{Relies, owns_current, Free}
+use Rattle.cet_book.proofs.Held.{given_held}
+use Rattle.cet_own.specs.Owed.{State, own_stack}
 use Rattle.cet_own.proofs.Classes.{refused, settles, reloads, enters, leaves, exits}
 use Rattle.cet_own.proofs.Parts.{Claim, one_after, claim_bind, read_entry_then}
 use Rattle.cet_own.specs.Past.{left_in, below_frame}
@@ -157,7 +157,7 @@ module _ (job : JobData) (arch : Arch) (l : own_stack job arch.number < 8) where
         λ now r v known.
             let inside' = inside_kept r inside in
             let found : v ≡ kernel_return = known.left (token_word gate - 1) kernel_return (below_token gate l inside'.holds refl) inside.settled refl in (
-              reloads l refl found refl,
+              reloads l refl found inside'.holds refl,
               now,
               refl,
               claim_bind job arch (λ p z n x. Claim job arch Q p z n (f x)) _ now now _ _ (
@@ -197,7 +197,7 @@ module _ (job : JobData) (arch : Arch) (l : own_stack job arch.number < 8) where
             let inside' = inside_kept r inside in
             let list' : (region now.book (current_of arch.number now.book)).entries ≡ Frame ∷ es = own_entries r inside.stacked.top.has list in
             let found : v ≡ kernel_return = known.left (token_word gate - 1) kernel_return (below_token gate l inside'.holds refl) inside.settled refl in (
-              reloads l refl found refl,
+              reloads l refl found inside'.holds refl,
               now,
               refl,
               claim_bind job arch (λ p z n x. Claim job arch Q p z n (f x)) _ now now _ _ (
@@ -243,7 +243,7 @@ module _ (job : JobData) (arch : Arch) (l : own_stack job arch.number < 8) where
         λ now r v known.
             let inside' = inside_kept r inside in
             let found : v ≡ kernel_return = known.left (token_word gate - 1) kernel_return (below_token gate l inside'.holds refl) inside.settled refl in (
-              reloads l refl found refl,
+              reloads l refl found inside'.holds refl,
               now,
               refl,
               claim_bind job arch (λ p z n x. Claim job arch Q p z n (f x)) _ now now _ _ (

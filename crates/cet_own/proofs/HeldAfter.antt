@@ -9,10 +9,12 @@ use Rattle.cet_words.specs.Change.{Change, Called, Returned, Raised, Acquired, R
 use Rattle.cet_book.specs.Book.{Book, book_after, books_after}
 use Rattle.cet_book.specs.Shape.{IsBook}
 use Rattle.cet_book.proofs.Changes.{same_book, then_by}
-use Rattle.cet_book.proofs.Held.{Held, held_by_change, change_held}
+use Rattle.cet_book.specs.Relied.{Held}
+use Rattle.cet_book.proofs.Held.{held_by_change, change_held}
 use Rattle.cet_book.proofs.Kept.{book_kept}
 use Rattle.cet_page.specs.Script.{held_after}
 use Rattle.cet_own.specs.Past.{held_by, held_where, stack_at}
+use Rattle.cet_own.specs.Claims.{NotesGate}
 
 -- what the first change makes of it, and then the others
 held_first : (c : Change) (cs : List Change) (held : Option ℕ) → held_after (c ∷ cs) held ≡ held_after cs (held_by_change c held)
@@ -38,11 +40,6 @@ changes_held t (c ∷ cs) b next held h e old =
     subst (Held t next) (sym (held_first c cs held)) (changes_held t cs d.0 next (held_by_change c held) (book_kept t c b d.0 h d.1).book d.2 now)
 
 -- ---- and what the access's answer says
-
--- an access leaves the note that its answer tells, and of no other stack than k
-pub record NotesGate (k : ℕ) (a : Access) (v : ℕ) (changes : List Change) : Type 0 where
-  pub says : (held : Option ℕ) → held_after changes held ≡ held_by a v held
-  pub own : (held : Option ℕ) (j : ℕ) → held_after changes held ≡ Some j → (held ≡ Some j) ⊎ (j ≡ k)
 
 pub notes_gate : {k : ℕ} {a c : Access} {changes l : List Change} (v : ℕ) → a ≡ c → changes ≡ l → ((held : Option ℕ) → held_after l held ≡ held_by c v held) →
     ((held : Option ℕ) (j : ℕ) → held_after l held ≡ Some j → (held ≡ Some j) ⊎ (j ≡ k)) → NotesGate k a v changes

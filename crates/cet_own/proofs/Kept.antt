@@ -13,8 +13,8 @@ use Rattle.cet_book.specs.Facts.{Stack, LiesIn}
 use Rattle.cet_book.specs.Stack.{tops}
 use Rattle.cet_own.specs.ExitWord.{IsEnding, IsExitWord}
 use Rattle.cet_own.specs.Past.{restorer_word}
-use Rattle.cet_own.proofs.Holds.{NoAction, Pages, Gates, Holds, IsOut}
-use Rattle.cet_own.specs.Stands.{IsRestorer, Restorers, IsEntry, busy}
+use Rattle.cet_own.specs.Holds.{NoAction, Pages, Gates, Holds, IsOut}
+use Rattle.cet_own.specs.Facts.{IsRestorer, Restorers, IsEntry, busy}
 use Rattle.cet_own.proofs.Writes.{stack_agrees, top_even, list_out}
 use Rattle.cet_own.proofs.Marks.{marks_out}
 

@@ -15,14 +15,14 @@ use Rattle.cet_page.specs.declared.checks.Kind.{Kind}
 use Rattle.cet_page.specs.declared.checks.Who.{Who}
 use Rattle.cet_page.specs.declared.finishes.Leaving.{Leaving}
 use Rattle.cet_page.specs.declared.services.Errno.{Errno}
-use Rattle.cet_book.proofs.Relies.{Relies}
+use Rattle.cet_book.specs.Relied.{Relies}
 use Rattle.cet_own.specs.Past.{left_in}
 use Rattle.cet_own.specs.Safe.{IsElsewhere}
-use Rattle.cet_own.specs.Stands.{IsEntry}
-use Rattle.cet_own.proofs.Calls.{Ends}
+use Rattle.cet_own.specs.Facts.{IsEntry}
+use Rattle.cet_own.specs.Threads.{Ends}
 use Rattle.cet_own.proofs.Classes.{looks}
 use Rattle.cet_own.proofs.GateParts.{gate_out_then}
-use Rattle.cet_own.proofs.Owed.{State, Known, own_stack}
+use Rattle.cet_own.specs.Owed.{State, Known, own_stack}
 use Rattle.cet_own.proofs.Parts.{Claim, claim_bind}
 use Rattle.cet_own.proofs.Progress.{Progress, progress}
 use Rattle.cet_own.proofs.Resting.{Inside, inside_kept, inside_stacked, rested}

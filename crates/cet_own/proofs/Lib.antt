@@ -1,6 +1,5 @@
 pub mod Endings
 pub mod Frame
-pub mod Holds
 pub mod Standing
 pub mod Writes
 pub mod Marks
@@ -15,13 +14,12 @@ pub mod TellingRows
 pub mod Drawing
 pub mod Recorded
 pub mod ToldLaws
-pub mod Covered
 pub mod CoveredRun
 pub mod ClassRun
 pub mod TokenWords
 pub mod Fits
+pub mod Switches
 pub mod HeldAfter
-pub mod Owed
 pub mod Told
 pub mod ClassLaws
 pub mod Classes
@@ -63,6 +61,8 @@ pub mod Newborn
 pub mod First
 pub mod Turns
 pub mod StandsAt
+pub mod Exchanges
+pub mod StandsBack
 pub mod Run
 pub mod Switched
 pub mod Numbers

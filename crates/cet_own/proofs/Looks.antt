@@ -13,15 +13,15 @@ use Rattle.cet_isa.specs.declared.threads.Arch.{Arch}
 use Rattle.cet_book.specs.Book.{Book, region, top}
 use Rattle.cet_book.specs.Facts.{In}
 use Rattle.cet_book.specs.Shape.{Shape}
-use Rattle.cet_book.proofs.Relies.{Relies}
+use Rattle.cet_book.specs.Relied.{Relies}
 use Rattle.cet_page.specs.Page.{allows}
 use Rattle.cet_page.specs.Parts.{look}
 use Rattle.cet_page.specs.Script.{Script, ◌>>=◌}
 use Rattle.cet_page.specs.Trail.{Visit, visit}
 use Rattle.cet_page.specs.declared.checks.Kind.TheVariants as kind
 use Rattle.cet_page.specs.declared.checks.Who.TheVariants.{User}
-use Rattle.cet_own.specs.Stands.{IsEntry}
-use Rattle.cet_own.proofs.Owed.{State, Known}
+use Rattle.cet_own.specs.Facts.{IsEntry}
+use Rattle.cet_own.specs.Owed.{State, Known}
 use Rattle.cet_own.proofs.Parts.{Claim, look_then}
 use Rattle.cet_own.proofs.Places.{low_bits, entry_there, shadow_page, in_page}
 use Rattle.cet_own.proofs.Progress.{progress, untouched}

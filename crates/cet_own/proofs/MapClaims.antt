@@ -19,8 +19,8 @@ use Rattle.cet_book.proofs.Append.{append, append_length, append_new}
 use Rattle.cet_book.proofs.Edits.{current_holds}
 use Rattle.cet_book.proofs.Hand.{hand, Made, seeds, hand_same, hand_other, hand_current}
 use Rattle.cet_book.proofs.Kept.{claims}
-use Rattle.cet_book.proofs.Relies.{Relies, append_relies}
-use Rattle.cet_book.proofs.Top.{AtTop}
+use Rattle.cet_book.proofs.Relies.{append_relies}
+use Rattle.cet_book.specs.Relied.{Relies, AtTop}
 use Rattle.cet_book.proofs.Ways.{claimed_way, seeded_way}
 use Rattle.cet_page.specs.Finish.{rdi, rdx, rsi}
 use Rattle.cet_page.specs.Gate.{Work, failed}
@@ -33,13 +33,13 @@ use Rattle.cet_page.specs.declared.services.Errno.{Errno}
 use Rattle.cet_page.specs.declared.services.Errno.TheVariants as errno
 use Rattle.cet_own.specs.Past.{draw_word, drew, left_in}
 use Rattle.cet_own.specs.Safe.{IsElsewhere}
-use Rattle.cet_own.proofs.Calls.{Ends}
+use Rattle.cet_own.specs.Threads.{Ends}
 use Rattle.cet_own.proofs.Claimed.{draws, overdraws, draw_can_claim}
 use Rattle.cet_own.proofs.Classes.{makes_page}
 use Rattle.cet_own.proofs.GateParts.{gate_out_then}
 use Rattle.cet_own.proofs.KernelParts.{counted_by, Leaves, Within, failed_claim}
 use Rattle.cet_own.proofs.TokenWords.{restore_token_is}
-use Rattle.cet_own.proofs.Owed.{State, state_after, Known, Owed, own_stack}
+use Rattle.cet_own.specs.Owed.{State, state_after, Known, Owed, own_stack}
 use Rattle.cet_own.proofs.Parts.{Claim, one_after, claim_bind}
 use Rattle.cet_own.proofs.Places.{shadow_slot}
 use Rattle.cet_own.proofs.Progress.{Progress, progress, untouched}

@@ -16,7 +16,7 @@ use Rattle.cet_book.specs.Shape.{Shape}
 use Rattle.cet_book.specs.Stack.{slot, slot_word}
 use Rattle.cet_book.proofs.Unlink.{Linked, linked_left, unlink_all, unlink_same, unlink_other}
 use Rattle.cet_own.specs.Past.{draw_word}
-use Rattle.cet_own.proofs.Holds.{IsMaker, Marks}
+use Rattle.cet_own.specs.Holds.{IsMaker, Marks}
 use Rattle.cet_own.proofs.Writes.{in_one, in_place, slot_same, slot_other, slot_out}
 
 -- the token of a parked region stands in it

@@ -15,9 +15,9 @@ use Rattle.cet_page.specs.declared.services.Errno.{Errno}
 use Rattle.cet_page.specs.declared.services.Errno.TheVariants as errno
 use Rattle.cet_own.specs.Safe.{IsElsewhere}
 use Rattle.cet_own.proofs.Classes.{sets_page}
-use Rattle.cet_own.proofs.Holds.{IsOut}
+use Rattle.cet_own.specs.Holds.{IsOut}
 use Rattle.cet_own.proofs.KernelParts.{Leaves, Within, failed_claim, serve_claim}
-use Rattle.cet_own.proofs.Owed.{State, own_stack}
+use Rattle.cet_own.specs.Owed.{State, own_stack}
 use Rattle.cet_own.proofs.Parts.{Claim, claim_bind, claim_cond, clears_claim, fetch_add_then}
 use Rattle.cet_own.proofs.Progress.{untouched}
 use Rattle.cet_own.proofs.Resting.{inside_kept, inside_left, inside_stacked}

@@ -32,7 +32,7 @@ use Rattle.cet_own.specs.Told.{told}
 use Rattle.cet_book.specs.View.{Span}
 use Rattle.cet_own.proofs.Drawn.{Drawn, draw, draws, drawn, TellsOf as StackTells, tells_nothing, tells_stack, EndTells, CameTells, Telling, came_tells}
 use Rattle.cet_own.proofs.Numbers.{draws_right, numbered_at}
-use Rattle.cet_own.proofs.Owed.{State}
+use Rattle.cet_own.specs.Owed.{State}
 use Rattle.cet_own.proofs.Run.{first_stands, turn}
 use Rattle.cet_own.proofs.TellingRows.{row_tells}
 use Rattle.cet_own.proofs.Threads.{left_by}

@@ -6,18 +6,19 @@ use Rattle.cet_book.specs.declared.entries.Holder.TheVariants.{Current}
 use Rattle.cet_book.specs.Book.{Book, region}
 use Rattle.cet_book.proofs.Hand.{hand, Made, made_there, bears, born_shape, hand_same}
 use Rattle.cet_book.specs.Shape.{Shape}
-use Rattle.cet_book.proofs.Top.{AtTop, born_top}
+use Rattle.cet_book.proofs.Top.{born_top}
 use Rattle.cet_page.specs.Core.{unheld, child_arch, child_core}
 use Rattle.cet_page.specs.Machine.{Thread}
 use Rattle.cet_page.specs.Within.{Waits}
-use Rattle.cet_own.proofs.Counters.{Bears}
+use Rattle.cet_own.specs.Claims.{Bears, AtRest}
 use Rattle.cet_page.specs.Trail.{trail_of}
-use Rattle.cet_book.proofs.Held.{held_free, Free}
-use Rattle.cet_own.proofs.Owed.{State}
+use Rattle.cet_book.specs.Relied.{AtTop, Free}
+use Rattle.cet_book.proofs.Held.{held_free}
+use Rattle.cet_own.specs.Owed.{State}
 use Rattle.cet_own.proofs.Rows.{row_claim}
-use Rattle.cet_own.proofs.Standing.{stacked, AtRest}
-use Rattle.cet_own.specs.Stands.{HasMade}
-use Rattle.cet_own.proofs.Threads.{ThreadStands}
+use Rattle.cet_own.proofs.Standing.{stacked}
+use Rattle.cet_own.specs.Facts.{HasMade}
+use Rattle.cet_own.specs.Threads.{ThreadStands}
 use Rattle.cet_words.specs.Layout.{thread_region_size}
 
 -- thread x is new: it has made no access and no record, and has number y

@@ -18,14 +18,14 @@ use Rattle.cet_page.specs.Script.{Wants, birth}
 use Rattle.cet_page.specs.Trail.{trail_of}
 use Rattle.cet_page.proofs.ChildLaws.{child_taken}
 use Rattle.cet_own.specs.Past.{draw_word, drew, next_word, numbered}
-use Rattle.cet_own.specs.Stands.{thread_births, thread_draws}
-use Rattle.cet_own.proofs.Counters as counters
-use Rattle.cet_own.proofs.Counters.{CountsBy}
-use Rattle.cet_own.proofs.Owed.{State}
+use Rattle.cet_own.specs.Facts.{thread_births, thread_draws}
+use Rattle.cet_own.specs.Claims as counters
+use Rattle.cet_own.specs.Claims.{CountsBy}
+use Rattle.cet_own.specs.Owed.{State}
 use Rattle.cet_own.proofs.Paid.{counters_tell, few_sum, one_most, unaltered}
 use Rattle.cet_own.proofs.Run.{first_stands, turn}
 use Rattle.cet_own.proofs.StandsAt.{core_at}
-use Rattle.cet_own.proofs.Threads.{CoreStands, ThreadStands}
+use Rattle.cet_own.specs.Threads.{CoreStands, ThreadStands}
 use Rattle.cet_own.proofs.Turn.{led}
 use Rattle.cet_own.proofs.Turns.{Invariant}
 

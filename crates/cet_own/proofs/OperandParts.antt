@@ -1,6 +1,5 @@
 -- What a thread claims of the accesses to operands, each with what follows it. Source: own.
-use Rattle.cet_own.proofs.Standing.{free_kept}
-use Rattle.std.proofs.Common.{ℕ, ◌%◌, refl, List}
+use Rattle.std.proofs.Common.{ℕ, ◌%◌, refl, List, arith}
 use Rattle.std.specs.Int.{cast_unsigned}
 use Rattle.cet_words.specs.Job.{JobData}
 use Rattle.cet_words.specs.Layout.{word_in}
@@ -14,11 +13,11 @@ use Rattle.cet_page.specs.Script.{Script, ◌>>=◌}
 use Rattle.cet_page.specs.Values.{width, limit}
 use Rattle.cet_page.specs.declared.checks.Kind.TheVariants as kind
 use Rattle.cet_page.specs.declared.checks.Who.TheVariants.{User}
-use Rattle.cet_own.proofs.Holds.{IsOut}
-use Rattle.cet_own.proofs.Owed.{State}
-use Rattle.cet_own.proofs.Classes.{free_loads, stores}
+use Rattle.cet_own.specs.Holds.{IsOut}
+use Rattle.cet_own.specs.Owed.{State}
+use Rattle.cet_own.proofs.Classes.{plain_loads, stores}
 use Rattle.cet_own.proofs.Parts.{Claim, claim_bind, check_address_then, look_then, store_look_then}
-use Rattle.cet_own.proofs.Places.{page_word}
+use Rattle.cet_own.proofs.Places.{load_page, page_word}
 use Rattle.cet_own.proofs.Progress.{progress, untouched}
 use Rattle.cet_page.specs.Trail.{Visit}
 use Rattle.cet_own.proofs.Resting.{Resting, rest_kept, rest_stacked}
@@ -33,9 +32,10 @@ module _ (job : JobData) (arch : Arch) where
       (claim_bind job arch (λ p z n x. Claim job arch Q p z n (f x)) past before s (load_word addr count) _
       (check_address_then job arch (λ p z n x. Claim job arch Q p z n (f (bytes_at addr count x))) past before s addr count _ rest (λ c e.
       look_then job arch (λ p z n x. Claim job arch Q p z n (f (bytes_at addr count x))) past before s kind.Load User addr _ rest (λ now r page v at known a.
-      let rest1 = rest_kept r rest in (
+      let rest1 = rest_kept r rest in
+      let below = load_page job.image page v (known.entry page refl) a in (
         (rest_stacked rest1),
-        λ later r' word known'. (free_loads (word_in page addr) refl (free_kept r' rest1.free) refl, later, refl, h _ later later (rest_kept r' rest1) (bytes_at addr count word)),
+        λ later r' word known'. (plain_loads (word_in page addr) refl (λ k z. omega arith) refl, later, refl, h _ later later (rest_kept r' rest1) (bytes_at addr count word)),
       )))))
 
   -- a write goes to a word that matters for no stack

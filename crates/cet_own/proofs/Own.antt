@@ -14,7 +14,7 @@ use Rattle.cet_book.proofs.Relist.{relist_all, relist_same, relist_other, relist
 use Rattle.cet_book.proofs.Unlink.{unlink_all, unlink_same, unlink_top}
 use Rattle.cet_book.proofs.Removes.{Removal, plain, linked}
 use Rattle.cet_book.specs.Stack.{slot, tops}
-use Rattle.cet_own.proofs.Holds.{Sound, Holds}
+use Rattle.cet_own.specs.Holds.{Sound, Holds}
 use Rattle.cet_own.proofs.Writes.{in_place, list_kept, list_free, slot_same}
 use Rattle.cet_own.proofs.Marks.{marks_same, marks_write, writes_own, tokens_relist, tokens_unlink}
 use Rattle.cet_own.proofs.Kept.{ending_out, restorers_out, size_kept, pages_out, pages_same, gates_out, gates_same}

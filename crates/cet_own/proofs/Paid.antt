@@ -23,15 +23,15 @@ use Rattle.cet_page.specs.Script.{Played, Completed, Faulted, Wants}
 use Rattle.cet_page.specs.ValsData.{ValsData}
 use Rattle.cet_page.specs.declared.finishes.Finish.{Finish}
 use Rattle.cet_page.specs.declared.finishes.Finish.TheVariants.{Noted, Posted, Exited, Stopped}
-use Rattle.cet_own.proofs.Calls as calls
+use Rattle.cet_own.specs.Threads as calls
 use Rattle.cet_page.specs.Trail.{Visit, row_trail, trail_of}
 use Rattle.cet_own.proofs.Frame.{OnCame}
-use Rattle.cet_own.proofs.Owed.{State, rules}
-use Rattle.cet_own.proofs.Parts.{During, Fails}
+use Rattle.cet_own.specs.Owed.{State, rules}
+use Rattle.cet_own.specs.Threads.{During, Fails}
 use Rattle.cet_own.specs.Past.{draw_word, next_word, is_draw, drew, is_number, numbered}
-use Rattle.cet_own.proofs.Counters.{CountsBy, no_count, draws_pages, bears_child, bears_nobody, CountersTell, alters}
-use Rattle.cet_own.proofs.Standing.{HasNone}
-use Rattle.cet_own.specs.Stands.{paid_births, paid_draws, thread_births, thread_draws}
+use Rattle.cet_own.proofs.Counters.{CountersTell}
+use Rattle.cet_own.specs.Claims.{CountsBy, no_count, draws_pages, bears_child, bears_nobody, alters, HasNone}
+use Rattle.cet_own.specs.Facts.{paid_births, paid_draws, thread_births, thread_draws}
 
 -- ---- one access
 

@@ -12,7 +12,7 @@ use Rattle.cet_isa.specs.Address.{canonical}
 use Rattle.cet_isa.specs.declared.threads.Arch.{Arch}
 use Rattle.cet_isa.specs.declared.threads.Fault.{Fault}
 use Rattle.cet_book.specs.Book.{Book, book_after, region, top}
-use Rattle.cet_book.proofs.Relies.{Relies}
+use Rattle.cet_book.specs.Relied.{Relies}
 use Rattle.cet_page.specs.Script.{Script, done, fault, ◌>>=◌, no_changes}
 use Rattle.cet_page.specs.Page.{allows, page_fault}
 use Rattle.cet_page.specs.Parts.{clears, check_address, check_address_as, look_in_as, look, look_as, read_entry, load_as, load, store_as, store}
@@ -22,27 +22,21 @@ use Rattle.cet_page.specs.declared.checks.Kind.TheVariants as kind
 use Rattle.cet_page.specs.declared.checks.Who.{Who}
 use Rattle.cet_page.specs.declared.checks.Who.TheVariants.{User}
 use Rattle.cet_own.specs.Safe.{AtReturn, IsReturnFault}
-use Rattle.cet_own.proofs.Frame.{Steady, steady_bind, steady_cond}
+use Rattle.cet_own.proofs.Frame.{steady_bind, steady_cond}
+use Rattle.cet_own.specs.Frame.{Steady}
 use Rattle.cet_own.specs.ToldTokens.{MissesToken}
 use Rattle.cet_book.specs.Facts.{In}
-use Rattle.cet_own.proofs.Holds.{IsOut}
-use Rattle.cet_own.proofs.Standing.{Stacked, AtRest, free_kept}
-use Rattle.cet_own.proofs.Owed.{State, state_after, Known, rules}
+use Rattle.cet_own.specs.Holds.{IsOut}
+use Rattle.cet_own.specs.Claims.{Stacked}
+use Rattle.cet_own.specs.Owed.{State, state_after, Known, rules}
 use Rattle.cet_own.specs.ExitWord.{IsEnding}
-use Rattle.cet_own.proofs.Classes.{looks, loads, stores as stored, exchanges, finishes, swaps, adds, ands, ors, clears as cleared, free_loads}
+use Rattle.cet_own.proofs.Classes.{looks, stores as stored, exchanges, finishes, swaps, adds, ands, ors, clears as cleared, plain_loads}
 use Rattle.cet_own.proofs.Places.{store_page, entry_there, shadow_page, in_page}
 use Rattle.cet_own.specs.Past.{left_in, frame_pushed, below_frame}
 use Rattle.cet_own.proofs.Progress.{Progress, progress, untouched}
 use Rattle.cet_page.specs.Trail.{Visit, visit}
+use Rattle.cet_own.specs.Threads.{During, Fails}
 use Rattle.cet_own.proofs.Resting.{Resting, rest_kept, Inside, inside_kept, inside_left, rest_stacked, inside_stacked, rested}
-
--- SSP is at the top of the thread's region before each access
-abbrev pub During : Arch → List Visit → State → Type 0
-During arch past s = Stacked arch.number s.book (below_frame (frame_pushed past) arch.ssp)
-
--- a fault leaves the thread as it was, and one of a return has its names
-abbrev pub Fails : JobData → Arch → State → Fault → Type 0
-Fails job arch s e = AtRest arch.number s.book arch.ssp × (AtReturn job arch → IsReturnFault e.name e.code) × MissesToken s.book e.code e.a e.name
 
 -- what a thread claims of a script
 abbrev pub Claim : {A : Type 0} → JobData → Arch → (Q : List Visit → State → State → A → Type 0) → (past : List Visit) → (before s : State) → Script A → Type 0
@@ -128,14 +122,14 @@ module _ (job : JobData) (arch : Arch) where
   unfolding read_entry
   read_entry_then Q past before s page f top h = claim_bind Q past before s (read_entry page) f (top, λ now r v known. (looks page refl refl, now, refl, h now r v))
 
-  pub load_then : {A : Type 0} {d : Progress} (Q : List Visit → State → State → A → Type 0) (past : List Visit) (before s : State) (word : ℕ) (f : ℕ → Script A) →
+  pub load_then : {A : Type 0} {d : Progress} (Q : List Visit → State → State → A → Type 0) (past : List Visit) (before s : State) (word : ℕ) (f : ℕ → Script A) → ((j : ℕ) → word ≢ token_word j - 1) →
       Resting arch.number d (progress past) s.book arch.ssp → ((now : State) → Relies arch.number s.book now.book → (v : ℕ) → Claim job arch Q (visit (access.Load word) v [] ∷ past) now now (f v)) →
       Claim job arch Q past before s (load word >>= f)
   unfolding load_as
-  load_then Q past before s word f rest h = claim_bind Q past before s (load word) f (rest_stacked rest, λ now r v known. (free_loads word refl (free_kept r rest.free) refl, now, refl, h now r v))
+  load_then Q past before s word f apart rest h = claim_bind Q past before s (load word) f (rest_stacked rest, λ now r v known. (plain_loads word refl apart refl, now, refl, h now r v))
 
   -- of a thread in the kernel, elsewhere than below its token, with what the answer tells
-  pub kernel_load_known : {A : Type 0} {d : Progress} (Q : List Visit → State → State → A → Type 0) (past : List Visit) (before s : State) (k word : ℕ) (f : ℕ → Script A) → word ≢ token_word k - 1 →
+  pub kernel_load_known : {A : Type 0} {d : Progress} (Q : List Visit → State → State → A → Type 0) (past : List Visit) (before s : State) (k word : ℕ) (f : ℕ → Script A) → ((j : ℕ) → word ≢ token_word j - 1) →
       Inside arch.number k d (progress past) (left_in past (token_word k - 1)) s.book arch.ssp →
       ((now : State) → Relies arch.number s.book now.book → (v : ℕ) → Known job.image arch.number past now.book (access.Load word) v →
       Inside arch.number k d (progress past) (left_in (visit (access.Load word) v [] ∷ past) (token_word k - 1)) now.book arch.ssp →
@@ -146,15 +140,15 @@ module _ (job : JobData) (arch : Arch) where
         inside_stacked inside,
         λ now r v known.
             let inside' = inside_kept r inside in
-            let other : (word == token_word k - 1) ≡ false = not_below word k apart in (
-              loads word refl (λ j l own q. absurd (apart (let same = inside'.alone j own in let here : word ≡ token_word j - 1 = eqb-true word (token_word j - 1) q in omega arith))) refl,
+            let other : (word == token_word k - 1) ≡ false = not_below word k (apart k) in (
+              plain_loads word refl apart refl,
               now,
               refl,
               h now r v known (inside_left (rw other refl) inside'),
             ),
       )
 
-  pub kernel_load_then : {A : Type 0} {d : Progress} (Q : List Visit → State → State → A → Type 0) (past : List Visit) (before s : State) (k word : ℕ) (f : ℕ → Script A) → word ≢ token_word k - 1 →
+  pub kernel_load_then : {A : Type 0} {d : Progress} (Q : List Visit → State → State → A → Type 0) (past : List Visit) (before s : State) (k word : ℕ) (f : ℕ → Script A) → ((j : ℕ) → word ≢ token_word j - 1) →
       Inside arch.number k d (progress past) (left_in past (token_word k - 1)) s.book arch.ssp →
       ((now : State) → Relies arch.number s.book now.book → (v : ℕ) → Inside arch.number k d (progress past) (left_in (visit (access.Load word) v [] ∷ past) (token_word k - 1)) now.book arch.ssp →
       Claim job arch Q (visit (access.Load word) v [] ∷ past) now now (f v)) → Claim job arch Q past before s (load word >>= f)

@@ -17,8 +17,8 @@ use Rattle.cet_page.specs.declared.checks.Kind.{Kind}
 use Rattle.cet_page.specs.declared.checks.Kind.TheVariants as kind
 use Rattle.cet_page.specs.declared.checks.Who.TheVariants.{User}
 use Rattle.cet_book.specs.Facts.{In, LiesIn}
-use Rattle.cet_own.specs.Stands.{IsEntry}
-use Rattle.cet_own.proofs.Holds.{IsOut}
+use Rattle.cet_own.specs.Facts.{IsEntry}
+use Rattle.cet_own.specs.Holds.{IsOut}
 use Rattle.cet_own.proofs.Writes.{in_there}
 
 -- ---- the bits of an entry

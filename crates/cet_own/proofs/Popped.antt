@@ -22,11 +22,12 @@ use Rattle.cet_own.specs.declared.access_classes.Class.TheVariants as class
 use Rattle.cet_own.proofs.ClassLaws.{exchange_does, holds_gate, one_book, sound_after}
 use Rattle.cet_own.proofs.Classes.{leaves_by, next_other, no_count_by, other_word, own_region, token_held, token_spares}
 use Rattle.cet_own.proofs.Fits.{is_end, of_class, some_held}
-use Rattle.cet_own.proofs.Holds.{Holds, Sound}
+use Rattle.cet_own.specs.Holds.{Holds, Sound}
 use Rattle.cet_own.proofs.HeldAfter.{gives_note, notes_gate}
-use Rattle.cet_own.proofs.Owed.{Owed}
+use Rattle.cet_own.specs.Owed.{Owed}
 use Rattle.cet_own.proofs.Own.{holds_pop}
-use Rattle.cet_own.proofs.Still.{KeepsRestorers, not_below, tells_below}
+use Rattle.cet_own.proofs.Still.{gives_back}
+use Rattle.cet_own.specs.Claims.{KeepsRestorers}
 
 -- the frame's entry goes, and then a stack is given back
 record Went (t m k : ℕ) (es : List Entry) (b next : Book) : Type 0 where
@@ -51,7 +52,7 @@ pub pops_frame : {image : ImageData} {t k : ℕ} {past : List Visit} {b : Book} 
     Owed image t k past b a v changes
 pops_frame {image = image} {t = t} {k = k} {b = b} {v = v} {changes = changes} m es l e held current list ev = record {
   notes = λ words is h. notes_gate v e ev (gives_note k v l (is ∙ ap (answer words) e ∙ token_held t k h l held)) (λ note j q. cc);
-  below = λ words is h. tells_below t b v e (λ j n. not_below (token_word k) j (λ z. omega arith));
+  below = λ words is h. gives_back t b v k e l held;
   fits = λ words is h ssp noted stands note. of_class class.End (Popped ∷ Freed k ∷ []) ev refl (ap (λ c. class_at c ssp noted v) e ∙ is_end k (token k + 1) (token k) ssp v noted l (some_held b noted k held note));
   counts = λ words is h. no_count_by (leaves_by e (other_word (token_word k) (omega arith)) (next_other (token_word k) (omega arith))) (ap birth ev);
   keeps = λ words next is h still q.

@@ -17,12 +17,12 @@ use Rattle.cet_page.specs.declared.checks.Who.TheVariants.{User}
 use Rattle.cet_page.specs.declared.services.Errno.{Errno}
 use Rattle.cet_page.specs.declared.services.Errno.TheVariants as errno
 use Rattle.cet_own.specs.Safe.{IsElsewhere}
-use Rattle.cet_own.proofs.Calls.{Ends}
+use Rattle.cet_own.specs.Threads.{Ends}
 use Rattle.cet_own.proofs.CloneClaims.{clone_claim}
 use Rattle.cet_own.proofs.Endings.{by_status}
 use Rattle.cet_own.proofs.GateParts.{exit_out_then, gate_out_then}
 use Rattle.cet_own.proofs.KernelParts.{Leaves, Within, failed_claim, probe_then, serve_claim}
-use Rattle.cet_own.proofs.Owed.{State, own_stack}
+use Rattle.cet_own.specs.Owed.{State, own_stack}
 use Rattle.cet_own.proofs.Parts.{Claim, claim_bind, claim_cond, clears_claim, end_then, kernel_load_then, store_then}
 use Rattle.cet_own.proofs.Places.{load_page, page_word, store_page}
 use Rattle.cet_own.proofs.Progress.{untouched}
@@ -76,14 +76,14 @@ module _ (job : JobData) (arch : Arch) (l : own_stack job arch.number < 8) (free
   unfolding ◌>>=◌
   last_claim past before s addr count last low true below within = wrote_claim past before s count _ within
   last_claim past before s addr count last low false below within =
-      kernel_load_then job arch (Leaves job arch l) past before s gate (word_in last (addr + count - 1)) _ (λ z. omega arith) within (λ now r high within1.
+      kernel_load_then job arch (Leaves job arch l) past before s gate (word_in last (addr + count - 1)) _ (λ k z. omega arith) within (λ now r high within1.
       wrote_claim _ now now count _ within1)
 
   words_claim : (past : List Visit) (before s : State) (addr count first last : ℕ) → first < first_kernel_page → last < first_kernel_page → Inner past s →
       Claim job arch (Leaves job arch l) past before s (write_words arch addr count first last)
   unfolding write_words load_last
   words_claim past before s addr count first last below below' within =
-      kernel_load_then job arch (Leaves job arch l) past before s gate (word_in first addr) _ (λ z. omega arith) within (λ now r low within1.
+      kernel_load_then job arch (Leaves job arch l) past before s gate (word_in first addr) _ (λ k z. omega arith) within (λ now r low within1.
       last_claim _ now now addr count last low (in_one_word addr count) below' within1)
 
   bytes_claim : (past : List Visit) (before s : State) (addr count : ℕ) → Inner past s → Claim job arch (Leaves job arch l) past before s (write_bytes arch addr count)

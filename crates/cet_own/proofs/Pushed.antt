@@ -15,7 +15,7 @@ use Rattle.cet_book.specs.Facts.{In, IsReturn, Owns, Place, Stack}
 use Rattle.cet_book.specs.Stack.{slot, slot_word, tops}
 use Rattle.cet_book.proofs.Changes.{same_book}
 use Rattle.cet_book.proofs.Edits.{Owned}
-use Rattle.cet_book.proofs.Relies.{owns_current}
+use Rattle.cet_book.specs.Relied.{owns_current}
 use Rattle.cet_book.proofs.Relist.{relist_all, relist_holder, relist_other, relist_same}
 use Rattle.cet_book.proofs.Top.{top_is}
 use Rattle.cet_book.proofs.Ways.{pushed_way}
@@ -23,20 +23,20 @@ use Rattle.cet_page.specs.Script.{birth}
 use Rattle.cet_page.specs.Trail.{Visit}
 use Rattle.cet_own.specs.Class.{class_at}
 use Rattle.cet_own.specs.Past.{below_frame, frame_pushed, left_in}
-use Rattle.cet_own.specs.Stands.{IsOwnPlace, own_slot}
+use Rattle.cet_own.specs.Facts.{IsOwnPlace, own_slot}
 use Rattle.cet_own.specs.declared.access_classes.Class.TheVariants as class
 use Rattle.cet_own.proofs.Changed.{place_restorers}
 use Rattle.cet_own.proofs.ClassLaws.{one_book, sound_after}
 use Rattle.cet_own.proofs.Classes.{leaves_by, next_other, no_count_by, other_word, own_region, own_spares}
 use Rattle.cet_own.proofs.Fits.{is_push_lower, none_of, of_class}
-use Rattle.cet_own.proofs.Holds.{Holds, Sound}
+use Rattle.cet_own.specs.Holds.{Holds, Sound}
 use Rattle.cet_own.proofs.Kept.{ending_out, gates_out, gates_same, pages_out, pages_same, restorers_out, size_kept}
 use Rattle.cet_own.proofs.Marks.{marks_write, tokens_none, tokens_relist, writes_own}
 use Rattle.cet_own.proofs.HeldAfter.{notes_gate}
-use Rattle.cet_own.proofs.Owed.{Owed}
+use Rattle.cet_own.specs.Owed.{Owed}
 use Rattle.cet_own.proofs.Own.{below_top, none_leads}
-use Rattle.cet_own.proofs.Standing.{Stacked}
-use Rattle.cet_own.proofs.Still.{KeepsRestorers, not_below, tells_below}
+use Rattle.cet_own.specs.Claims.{Stacked, KeepsRestorers}
+use Rattle.cet_own.proofs.Still.{not_below, tells_below}
 use Rattle.cet_own.proofs.Writes.{in_one, in_place, list_free, list_kept, slot_other, slot_same}
 
 -- an address of the thread's own region is its own
@@ -133,7 +133,7 @@ module _ {image : ImageData} {t k : ℕ} {past : List Visit} {b : Book} {a : Acc
     notes = λ words is h. notes_gate v e ev (λ held. refl) (λ held j q. inl q);
     below = λ words is h.
         let high = (below_top (own_region t m h current) room).place.high in
-        tells_below t b v e (λ j l. not_below (slot (top (region b m) - 8)) j (λ z. omega arith));
+        tells_below t b v e (λ j l. not_below (slot (top (region b m) - 8)) j (λ z. omega arith)) (λ j l. refl);
     fits = λ words is h ssp held stands note. none_of _ ev;
     counts = λ words is h.
         let high = (below_top (own_region t m h current) room).place.high in
@@ -156,7 +156,7 @@ module _ {image : ImageData} {t k : ℕ} {past : List Visit} {b : Book} {a : Acc
     notes = λ words is h. notes_gate v e ev (λ held. refl) (λ held j q. inl q);
     below = λ words is h.
         let high = (lower_place image words (own_region t m h current) x room).0.high in
-        tells_below t b v e (λ j l. not_below (slot (top (region b m) - 16)) j (λ z. omega arith));
+        tells_below t b v e (λ j l. not_below (slot (top (region b m) - 16)) j (λ z. omega arith)) (λ j l. refl);
     fits = λ words is h ssp held stands note.
         let o = own_region t m h current in
         let place = (lower_place image words o x room).0 in

@@ -12,21 +12,22 @@ use Rattle.cet_book.specs.Shape.{StackShape}
 use Rattle.cet_book.specs.declared.entries.Holder.TheVariants.{Current}
 use Rattle.cet_book.proofs.Addresses.{removal_returns}
 use Rattle.cet_book.proofs.Edits.{Owned}
-use Rattle.cet_book.proofs.Held.{Free}
+use Rattle.cet_book.specs.Relied.{Free}
 use Rattle.cet_book.proofs.Removes.{Removal, shortened, raised_all}
 use Rattle.cet_book.proofs.Ways.{with_current_at}
 use Rattle.cet_page.specs.Script.{birth}
 use Rattle.cet_page.specs.Trail.{Visit}
 use Rattle.cet_own.specs.Class.{class_at}
 use Rattle.cet_own.specs.declared.access_classes.Class.TheVariants as class
+use Rattle.cet_own.proofs.Still.{tells_below}
 use Rattle.cet_own.proofs.ClassLaws.{one_book}
 use Rattle.cet_own.proofs.Classes.{leaves_by, no_count_by, own_region}
-use Rattle.cet_own.proofs.Holds.{Sound, Holds}
+use Rattle.cet_own.specs.Holds.{Sound, Holds}
 use Rattle.cet_own.proofs.Own.{holds_pop}
 use Rattle.cet_own.proofs.Fits.{of_class, none_held, is_look}
 use Rattle.cet_own.proofs.HeldAfter.{notes_gate}
-use Rattle.cet_own.proofs.Owed.{Owed}
-use Rattle.cet_own.proofs.Still.{KeepsRestorers}
+use Rattle.cet_own.specs.Owed.{Owed}
+use Rattle.cet_own.specs.Claims.{KeepsRestorers}
 
 sound_removed : {t m : ℕ} {b next : Book} → Owned t m b → Removal t m b next → Sound b → Sound next
 sound_removed o r s =
@@ -44,7 +45,7 @@ pub raises : {image : ImageData} {t k : ℕ} {past : List Visit} {b : Book} {a :
 raises {image = image} {t = t} {b = b} {v = v} {changes = changes} m n page current low high free e ev = record {
   fits = λ words is h ssp held stands note. of_class class.Raise (Raised n ∷ []) ev refl (ap (λ c. class_at c ssp held v) e ∙ is_look page ssp v held low high (none_held b held free note));
   counts = λ words is h. no_count_by (leaves_by e refl refl) (ap birth ev);
-  below = λ words is h j l own q. absurd (free j own);
+  below = λ words is h. tells_below t b v e (λ j l. refl) (λ j l. refl);
   notes = λ words is h. notes_gate v e ev (λ held. refl) (λ held j q. inl q);
   keeps = λ words next is h still q.
       let o = own_region t m h current in

@@ -14,21 +14,22 @@ use Rattle.cet_book.specs.declared.entries.Entry.{Entry}
 use Rattle.cet_book.specs.declared.entries.Entry.TheVariants.{Previous}
 use Rattle.cet_book.specs.declared.entries.Holder.TheVariants.{Current, Parked}
 use Rattle.cet_book.proofs.Unlink.{Linked, linked_left, left_there, unlink_all, unlink_same, unlink_other, unlink_top, unlink_gone}
-use Rattle.cet_book.proofs.Held.{Free}
+use Rattle.cet_book.specs.Relied.{Free}
 use Rattle.cet_book.proofs.Ways.{released_way}
 use Rattle.cet_page.specs.Script.{birth}
 use Rattle.cet_page.specs.Trail.{Visit}
 use Rattle.cet_own.specs.Class.{class_at}
 use Rattle.cet_own.specs.declared.access_classes.Class.TheVariants as class
+use Rattle.cet_own.proofs.Still.{not_below, tells_below}
 use Rattle.cet_own.proofs.Changed.{Spares, changed, place_spares, place_restorers}
 use Rattle.cet_own.proofs.Classes.{leaves_by, next_other, no_count_by, other_word}
-use Rattle.cet_own.proofs.Holds.{IsMaker, Sound, Holds}
+use Rattle.cet_own.specs.Holds.{IsMaker, Sound, Holds}
 use Rattle.cet_own.proofs.Kept.{ending_out, restorers_out, size_kept, pages_out, pages_same, gates_out, gates_same}
 use Rattle.cet_own.proofs.Marks.{WritesAt, marks_write, other_holder}
 use Rattle.cet_own.proofs.Own.{none_leads, tail_of}
 use Rattle.cet_own.proofs.Fits.{of_class, none_held, is_release}
 use Rattle.cet_own.proofs.HeldAfter.{notes_gate}
-use Rattle.cet_own.proofs.Owed.{Owed}
+use Rattle.cet_own.specs.Owed.{Owed}
 use Rattle.cet_own.proofs.Writes.{in_place, list_kept, list_free}
 
 module _ {t m s : ℕ} {es : List Entry} {b : Book} (l : Linked t m s es b) (room : (region b s).start + 8 ≤ top (region b s)) where
@@ -98,7 +99,9 @@ releases {image = image} {t = t} {b = b} {a = a} {v = v} m s es current list roo
     of_class class.Release (Released ∷ []) ev refl
     (ap (λ c. class_at c ssp held v) (e ∙ ap (access.Store (slot (top (region b s) - 8))) value) ∙ is_release (top (region b s) - 8) ssp v held place (none_held b held free note)))
     (λ words is h. let high = (save_place (link h.sound.book.shape) room).0.high in no_count_by (leaves_by e (other_word (slot (top (region b s) - 8)) (omega arith)) (next_other (slot (top (region b s) - 8)) (omega arith))) (ap birth ev))
-    (λ words is h j l own q. absurd (free j own))
+    (λ words is h.
+    let high = (save_place (link h.sound.book.shape) room).0.high in
+    tells_below t b v e (λ j l. not_below (slot (top (region b s) - 8)) j (λ z. omega arith)) (λ j l. refl))
     (λ words is h. notes_gate v e ev (λ held. refl) (λ held j q. inl q))
     (λ words is h. let fits = (h.sound.book.shape.fits s).room in released_way (link h.sound.book.shape) (omega arith))
     (λ words is h sound.

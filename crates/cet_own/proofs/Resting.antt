@@ -3,9 +3,9 @@
 use Rattle.std.proofs.Common.{◌≡◌, ℕ, Bool, false, Option, Some, refl, sym, ◌∙◌, subst}
 use Rattle.cet_words.specs.Layout.{kernel_return}
 use Rattle.cet_book.specs.Book.{Book, stack_of}
-use Rattle.cet_book.proofs.Relies.{Relies}
-use Rattle.cet_own.proofs.Standing.{Stacked, stacked_kept, free_kept, AtRest}
-use Rattle.cet_book.proofs.Held.{Free}
+use Rattle.cet_own.proofs.Standing.{stacked_kept, free_kept}
+use Rattle.cet_own.specs.Claims.{Stacked, AtRest}
+use Rattle.cet_book.specs.Relied.{Relies, Free}
 use Rattle.cet_own.specs.Past.{below_frame}
 use Rattle.cet_own.proofs.Progress.{Progress, untouched}
 

@@ -19,7 +19,7 @@ use Rattle.cet_book.specs.Book.{Region, Book, region, top, current_of, relist, u
 use Rattle.cet_book.proofs.Edits.{Owned, owned}
 use Rattle.cet_book.proofs.Removes.{returned_is, shortened}
 use Rattle.cet_book.specs.Stack.{slot, tops}
-use Rattle.cet_book.proofs.Top.{AtTop, removal_top}
+use Rattle.cet_book.proofs.Top.{removal_top}
 use Rattle.cet_book.proofs.Unlink.{Linked, left_there}
 use Rattle.cet_book.proofs.Ways.{with_current_at}
 use Rattle.cet_page.specs.Script.{done, fault, ◌>>=◌}
@@ -32,12 +32,13 @@ use Rattle.cet_page.specs.declared.checks.Who.TheVariants.{User}
 use Rattle.cet_own.specs.Safe.{GoesRight}
 use Rattle.cet_book.specs.Facts.{In}
 use Rattle.cet_own.proofs.Standing.{stacked}
-use Rattle.cet_book.proofs.Held.{Free}
-use Rattle.cet_own.proofs.Owed.{State, state_after, HeadWord, Known, Owed, own_stack}
-use Rattle.cet_own.proofs.Classes.{free_loads, pops}
+use Rattle.cet_book.specs.Relied.{AtTop, Free}
+use Rattle.cet_own.specs.Owed.{State, state_after, HeadWord, Known, Owed, own_stack}
+use Rattle.cet_own.proofs.Classes.{plain_loads, pops}
 use Rattle.cet_own.proofs.Parts.{Claim, one_after, claim_bind, check_address_then, look_then, shadow_look_then, load_then}
-use Rattle.cet_own.proofs.Places.{shadow_slot, above_is, entry_at}
-use Rattle.cet_own.proofs.Calls.{entries_of, EndsRow, own_kept}
+use Rattle.cet_own.proofs.Places.{load_page, shadow_slot, above_is, entry_at}
+use Rattle.cet_own.proofs.Calls.{EndsRow, own_kept}
+use Rattle.cet_own.specs.Threads.{entries_of}
 use Rattle.cet_own.proofs.Progress.{Progress, progress, untouched}
 use Rattle.cet_page.specs.Trail.{Visit, visit}
 use Rattle.cet_own.proofs.Resting.{Resting, rest_kept, rest_stacked, rested}
@@ -95,8 +96,8 @@ module _ (job : JobData) (j : IsJob job) (arch : Arch) where
       (state_after arch.number now (if c && d then Returned ∷ [] else []) ≡ Some next) × Claim job arch (EndsRow job arch)
       (visit (access.Load w) v (if c && d then Returned ∷ [] else []) ∷ past) now next (if c then (if d then done (returned arch bytes word) else fault general_protection) else fault
       (return_differs word v))
-  loaded past now bytes w word v known ws rest some false d e f = (free_loads w refl rest.free refl, now, refl, (rested rest, λ r. refl, λ z k. absurd (omega arith)))
-  loaded past now bytes w word v known ws rest some true false e f = (free_loads w refl rest.free refl, now, refl, (rested rest, λ r. tt, tt))
+  loaded past now bytes w word v known ws rest some false d e f = (plain_loads w refl (λ k z. (let high = rest.stacked.high in omega arith)) refl, now, refl, (rested rest, λ r. refl, λ z k. absurd (omega arith)))
+  loaded past now bytes w word v known ws rest some true false e f = (plain_loads w refl (λ k z. (let high = rest.stacked.high in omega arith)) refl, now, refl, (rested rest, λ r. tt, tt))
   loaded past now bytes w word v known ws rest some true true e f =
       let same : word ≡ v = eqb-true word v e in
       let has = rest.stacked.top.has in
@@ -145,7 +146,8 @@ module _ (job : JobData) (j : IsJob job) (arch : Arch) where
       let rest2 = rest_kept r2 rest1 in
       let at = rest2.stacked.top.at in
       let some = entry_at now2.book (current_of arch.number now2.book) i known2.sound.book.shape rest2.stacked.top.has (subst (In (region now2.book i)) at inn) in
-      load_then job arch (EndsRow job arch) _ now2 now2 (word_in page (rsp arch)) _ rest2 (λ now3 r3 word.
+      let below = load_page job.image page v (known.entry page refl) a in
+      load_then job arch (EndsRow job arch) _ now2 now2 (word_in page (rsp arch)) _ (λ k z. omega arith) rest2 (λ now3 r3 word.
       let same = own_kept arch.number now2.book now3.book r3 rest2.stacked.top.has in
       load_claim _ now3 now3 bytes (word_in (first_shadow_page + (arch.ssp - shadow_start) / 4096) arch.ssp) word (shadow_slot arch.ssp (omega arith) (omega arith)) (rest_kept r3 rest2)
       (subst (λ (r : Region). 1 ≤ length r.entries) (sym same) some)))))

@@ -35,10 +35,11 @@ use Rattle.cet_page.specs.declared.services.Errno.TheVariants as errno
 use Rattle.cet_page.specs.Parts.{invalid_opcode}
 use Rattle.cet_page.specs.Row.{after_signals, between, execute_family, fetched, instruction, instruction_bytes, boundary, row, row_from}
 use Rattle.cet_own.specs.Safe.{is_near_return, IsElsewhere, IsNearReturn}
-use Rattle.cet_own.proofs.Standing.{AtRest}
-use Rattle.cet_own.proofs.Owed.{State, own_stack}
+use Rattle.cet_own.specs.Claims.{AtRest}
+use Rattle.cet_own.specs.Owed.{State, own_stack}
 use Rattle.cet_own.proofs.Classes.{looks}
-use Rattle.cet_own.proofs.Parts.{Fails, Claim, claim_bind, claim_cond, fetch_or_then, load_then}
+use Rattle.cet_own.proofs.Parts.{Claim, claim_bind, claim_cond, fetch_or_then, load_then}
+use Rattle.cet_own.specs.Threads.{Fails, Ends}
 use Rattle.cet_own.proofs.GateParts.{gate_in_then}
 use Rattle.cet_own.proofs.KernelParts.{Leaves as LeavesOf, Within as WithinBy, failed_claim}
 use Rattle.cet_own.proofs.MapClaims.{map_shadow_stack_claim}
@@ -48,7 +49,7 @@ use Rattle.cet_own.proofs.ProcessClaims.{process_claim}
 use Rattle.cet_own.proofs.SignalClaims.{rt_sigaction_claim, rt_sigprocmask_claim, tgkill_claim}
 use Rattle.cet_own.proofs.SigReturnClaims.{rt_sigreturn_claim}
 use Rattle.cet_own.proofs.ShadowClaims.{shadow_stacks_claim}
-use Rattle.cet_own.proofs.Calls.{Ends, EndsRow, call_relative_claim, call_indirect_claim}
+use Rattle.cet_own.proofs.Calls.{EndsRow, call_relative_claim, call_indirect_claim}
 use Rattle.cet_own.proofs.Returns.{ret_claim}
 use Rattle.cet_own.proofs.Steps.{push_claim, pop_claim, leave_claim, jump_indirect_claim, arithmetic_claim}
 use Rattle.cet_own.proofs.Progress.{Progress, progress, untouched}
@@ -139,7 +140,7 @@ module _ (job : JobData) (j : IsJob job) (arch : Arch) where
   entered_claim past before s work rest h =
       gate_in_then job arch (stack_below job arch.number j) (Ends job arch) past before s (inside arch (own_stack job arch.number) work) rest
       (λ p z n within. claim_bind job arch (Ends job arch) p z n work (leave (own_stack job arch.number)) (h p z n within))
-      (λ p z n found busy rest'. (rested rest', λ held now. tt, record { stack = own_stack job arch.number; few = stack_below job arch.number j; address = refl; found = busy.0; held = busy.1 }))
+      (λ p z n found busy rest'. (rested rest', λ held now. refl, record { stack = own_stack job arch.number; few = stack_below job arch.number j; address = refl; found = busy.0; held = busy.1 }))
 
   -- ---- instructions
 
@@ -200,10 +201,10 @@ module _ (job : JobData) (j : IsJob job) (arch : Arch) where
   boundary_claim : (past : List Visit) (before s : State) → IsState arch → Resting arch.number untouched (progress past) s.book arch.ssp → Claim job arch (Ends job arch) past before s (boundary job arch)
   unfolding boundary
   boundary_claim past before s is rest =
-      load_then job arch (Ends job arch) past before s exit_word _ rest (λ now r ending.
+      load_then job arch (Ends job arch) past before s exit_word _ (λ k z. omega arith) rest (λ now r ending.
       let rest1 = rest_kept r rest in
       claim_cond job arch (Ends job arch) _ now now (ending == 0) _ _
-      (λ _. load_then job arch (Ends job arch) _ now now (pend_word arch.number) _ rest1 (λ now2 r2 pending.
+      (λ _. load_then job arch (Ends job arch) _ now now (pend_word arch.number) _ (λ k z. (let few = is.number in omega arith)) rest1 (λ now2 r2 pending.
       after_claim _ now2 now2 (pending_signal pending arch.mask) is (pending_few pending arch.mask) (rest_kept r2 rest1)))
       (λ _. (rested rest1, ap (λ (x : Progress). x.drawing) rest1.level, ap (λ (x : Progress). x.numbering) rest1.level)))
 
@@ -213,7 +214,7 @@ module _ (job : JobData) (j : IsJob job) (arch : Arch) where
   posting_claim past before s signal is rest =
       fetch_or_then job arch (Ends job arch) past before s (pend_word arch.number) _ _ (pend_out arch.number is.number) (rest_stacked rest) (λ now r v.
       let rest1 = rest_kept r rest in
-      (rested rest1, ap (λ (x : Progress). x.drawing) rest1.level, ap (λ (x : Progress). x.numbering) rest1.level))
+      (rested rest1, ap (λ (x : Progress). x.drawing) rest1.level, ap (λ (x : Progress). x.numbering) rest1.level, refl))
 
   between_claim : (past : List Visit) (before s : State) (o : Option ℕ) → IsState arch → Resting arch.number untouched (progress past) s.book arch.ssp → Claim job arch (Ends job arch) past before s (between job arch o)
   between_claim past before s None is rest = boundary_claim past before s is rest

@@ -1,10 +1,12 @@
 -- The invariant holds along every run from the start, and what follows from it. Source: own.
-use Rattle.cet_book.proofs.Supervisor.{stack_there}
 use Rattle.cet_words.specs.declared.accesses.Access.{Access}
 use Rattle.cet_words.specs.Layout.{token}
 use Rattle.cet_words.specs.Access.{answer}
-use Rattle.cet_own.specs.Gates.{AccessGates, TurnGates, TurnTells}
-use Rattle.std.proofs.Common.{◌≡◌, ℕ, List, [], ◌∷◌, Option, Some, None, refl, sym, ◌∙◌, ap, subst, ◌+◌, ◌<◌, arith}
+use Rattle.cet_own.specs.Enters.{TurnEnters}
+use Rattle.cet_own.specs.Gates.{AccessGates, GatesExactly, RestoresExactly, TurnGates, TurnTells}
+use Rattle.cet_own.specs.Restores.{TurnRestores}
+use Rattle.cet_own.proofs.Exchanges.{turn_enters, turn_restores}
+use Rattle.std.proofs.Common.{◌≡◌, ℕ, List, [], ◌∷◌, Option, Some, None, refl, sym, ◌∙◌, ap, subst, ◌+◌, arith}
 use Rattle.std.specs.Prelude.{slice_get, ◌↔◌}
 use Rattle.cet_words.specs.Job.{JobData, IsJob}
 use Rattle.cet_isa.specs.declared.threads.End.{End}
@@ -15,12 +17,13 @@ use Rattle.cet_own.specs.Along.{Along}
 use Rattle.cet_own.specs.ExitWord.{EndsRight}
 use Rattle.cet_own.specs.Event.{turn_changes}
 use Rattle.cet_own.specs.Safe.{AccessReturns, TurnReturns, IsSafeAt, Safe}
-use Rattle.cet_own.proofs.Owed.{State}
+use Rattle.cet_own.specs.Owed.{State}
 use Rattle.cet_own.specs.ToldTokens.{TurnTokens}
 use Rattle.cet_own.proofs.First.{first_holds, first_threads, first_still, first_paid, first_made}
-use Rattle.cet_own.specs.Stands.{Stands, busy}
+use Rattle.cet_own.specs.Facts.{busy}
+use Rattle.cet_own.specs.Stands.{Stands}
 use Rattle.cet_own.proofs.StandsAt.{stands_at}
-use Rattle.cet_own.proofs.Threads.{CoreStands, ThreadStands}
+use Rattle.cet_own.specs.Threads.{CoreStands, ThreadStands}
 use Rattle.cet_own.proofs.Turns.{Invariant, safe_at, Turned, TurnedBy, stays, acts, ReadsBelow}
 
 -- a thread's turn, by its end
@@ -42,17 +45,9 @@ finds_gate : (job : JobData) (m : Machine) (t : ℕ) (s : State) (thread : Threa
 finds_gate job m t s thread st found None r = tt
 finds_gate job m t s thread st found (Some a) r = record {
   enters = λ k value l e. free_by (stack_of s.book k) (token k) (answer m.words a) (ap (answer m.words) e ∙ st.holds.gates k l);
-  reads = λ k held e. (let own = owned k held in r k (few k own) own e);
-  leaves = λ k expected value held e.
-      let own = owned k held in
-      ap (answer m.words) e ∙ st.holds.gates k (few k own) ∙ ap (λ o. token k + busy o) own;
+  reads = λ k l e. r.0 k l e;
+  leaves = λ k l e. ap (answer m.words) e ∙ st.holds.gates k l ∙ ap (λ o. token k + busy o) (r.1 k l e);
 }
-  where
-    owned : (k : ℕ) → thread.core.arch.held ≡ Some k → stack_of s.book k ≡ Some t
-    owned k held = ((safe_at job m s st).held t thread found k).0 held
-
-    few : (k : ℕ) → stack_of s.book k ≡ Some t → k < 8
-    few k own = let eight = st.holds.sound.book.stacks.eight in let there = stack_there t k s.book own in omega arith
 
 turned_by : (job : JobData) (j : IsJob job) (m : Machine) (t : ℕ) (s : State) (o : Option Thread) → Invariant job m s → slice_get m.threads t ≡ o → ThreadStands job t s o → Turned job m t s o
 turned_by job j m t s None st found at = record { next = s; is = refl; stands = st; returns = tt; restores = tt; gates = tt }
@@ -76,12 +71,25 @@ pub record Goes (job : JobData) (m : Machine) (t : ℕ) (s : State) : Type 0 whe
   pub returns : TurnReturns job m s.book t
   pub restores : TurnTokens job m s.book next.book t
   pub gates : TurnGates job m s.book t
+  pub takes : TurnRestores job m s.book t
+  pub enters : TurnEnters job m s.book t
+
+-- and what it takes, by what it tells and finds of tokens
+turn_from : (job : JobData) (j : IsJob job) (m : Machine) (t : ℕ) (s : State) → Invariant job m s → Turned job m t s (slice_get m.threads t) → Goes job m t s
+unfolding turn_changes step
+turn_from job j m t s st d = record {
+  next = d.next;
+  is = d.is;
+  stands = d.stands;
+  returns = d.returns;
+  restores = d.restores;
+  gates = d.gates;
+  takes = turn_restores job m t s d.next.book st d.restores;
+  enters = turn_enters job m t s j st d.gates;
+}
 
 pub turn : (job : JobData) (j : IsJob job) (m : Machine) (t : ℕ) (s : State) → Invariant job m s → Goes job m t s
-unfolding turn_changes step
-turn job j m t s st =
-    let d = turned_by job j m t s (slice_get m.threads t) st refl (st.threads t) in
-    record { next = d.next; is = d.is; stands = d.stands; returns = d.returns; restores = d.restores; gates = d.gates }
+turn job j m t s st = turn_from job j m t s st (turned_by job j m t s (slice_get m.threads t) st refl (st.threads t))
 
 -- what the invariant tells at each moment, and each turn of itself, holds along a run
 pub along_from : (At : Machine → Book → Type 0) (Turn : Machine → (before after : Book) → ℕ → Type 0) (job : JobData) (j : IsJob job) → ((m : Machine) (s : State) → Invariant job m s → At m s.book) →
@@ -106,7 +114,15 @@ safe_run job start turns j s =
 
 pub stands_run : (job : JobData) (start : Machine) (turns : List ℕ) → IsJob job → Starts job start → Along (Stands job) (TurnTells job) job start first_book turns
 stands_run job start turns j s =
-    along_from (Stands job) (TurnTells job) job j (stands_at job) (λ m t s d. record { tokens = d.restores; gates = d.gates }) turns start (record { book = first_book }) (first_stands job start j s)
+    along_from (Stands job) (TurnTells job) job j (stands_at job) (λ m t s d. record { tokens = d.restores; gates = d.gates; restores = d.takes; enters = d.enters }) turns start (record { book = first_book }) (first_stands job start j s)
+
+pub restores_run : (job : JobData) (start : Machine) (turns : List ℕ) → IsJob job → Starts job start → RestoresExactly job start first_book turns
+restores_run job start turns j s =
+    along_from (λ m b. Unit {0}) (λ m b next t. TurnRestores job m b t) job j (λ m s st. tt) (λ m t s d. d.takes) turns start (record { book = first_book }) (first_stands job start j s)
+
+pub gates_run : (job : JobData) (start : Machine) (turns : List ℕ) → IsJob job → Starts job start → GatesExactly job start first_book turns
+gates_run job start turns j s =
+    along_from (λ m b. Unit {0}) (λ m b next t. TurnEnters job m b t × TurnGates job m b t) job j (λ m s st. tt) (λ m t s d. (d.enters, d.gates)) turns start (record { book = first_book }) (first_stands job start j s)
 
 -- EXIT at a run's end
 exit_from : (job : JobData) (j : IsJob job) (turns : List ℕ) (m : Machine) (s : State) → Invariant job m s → EndsRight (run job m turns)

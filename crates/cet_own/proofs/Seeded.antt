@@ -25,12 +25,12 @@ use Rattle.cet_own.specs.Class.{class_at}
 use Rattle.cet_own.specs.declared.access_classes.Class.TheVariants as class
 use Rattle.cet_own.proofs.Changed.{Spares, changed, place_spares, place_restorers}
 use Rattle.cet_own.proofs.Classes.{leaves_by, next_other, no_count_by, other_word}
-use Rattle.cet_own.proofs.Holds.{IsMaker, Marks, Sound, Holds}
+use Rattle.cet_own.specs.Holds.{IsMaker, Marks, Sound, Holds}
 use Rattle.cet_own.proofs.Kept.{ending_out, restorers_out, size_kept, pages_out, pages_same, gates_out, gates_same}
 use Rattle.cet_own.proofs.Marks.{WritesAt, marks_write}
 use Rattle.cet_own.proofs.Fits.{of_class, some_held, is_seed}
 use Rattle.cet_own.proofs.HeldAfter.{notes_gate}
-use Rattle.cet_own.proofs.Owed.{Owed}
+use Rattle.cet_own.specs.Owed.{Owed}
 use Rattle.cet_own.proofs.Writes.{in_one, in_place, list_kept, list_free, slot_other}
 
 -- blanks stand where the words are 0
@@ -121,7 +121,7 @@ seeds_region {image = image} {t = t} {k = k} {b = b} {v = v} s n p start maker f
     (λ words is h ssp held stands note. of_class class.Seed (Seeded start n ∷ []) ev refl
     (ap (λ c. class_at c ssp held v) e ∙ is_seed p ssp v held (seed_place (made h.sound.book.shape) n p (omega arith) at).0 (some_held b held k inside note)))
     (λ words is h. let high = (seed_place (made h.sound.book.shape) n p (omega arith) at).0.high in no_count_by (leaves_by e (other_word (slot p) (omega arith)) (next_other (slot p) (omega arith))) (ap birth ev))
-    (λ words is h. let high = (seed_place (made h.sound.book.shape) n p (omega arith) at).0.high in tells_below t b v e (λ j l. not_below (slot p) j (λ z. omega arith)))
+    (λ words is h. let high = (seed_place (made h.sound.book.shape) n p (omega arith) at).0.high in tells_below t b v e (λ j l. not_below (slot p) j (λ z. omega arith)) (λ j l. refl))
     (λ words is h. notes_gate v e ev (λ held. refl) (λ held j q. inl q))
     (λ words is h. seeded_way (made h.sound.book.shape) n start first (omega arith))
     (λ words is h sound.

@@ -20,11 +20,10 @@ use Rattle.cet_book.specs.declared.entries.Entry.TheVariants.{Call, Restorer, Fr
 use Rattle.cet_book.specs.declared.entries.Holder.TheVariants.{Parked}
 use Rattle.cet_book.proofs.Acquire.{Takes, acquire_shape}
 use Rattle.cet_book.proofs.Edits.{Owned, owned}
-use Rattle.cet_book.proofs.Held.{Free}
 use Rattle.cet_book.proofs.Kept.{book_kept}
-use Rattle.cet_book.proofs.Relies.{Relies, owns_current}
 use Rattle.cet_book.proofs.Removes.{raised_shortened}
-use Rattle.cet_book.proofs.Top.{AtTop, acquired_top, released_top, raised_top, top_is}
+use Rattle.cet_book.specs.Relied.{Free, Relies, owns_current, AtTop}
+use Rattle.cet_book.proofs.Top.{acquired_top, released_top, raised_top, top_is}
 use Rattle.cet_book.proofs.Unlink.{Linked, linked_left, left_there}
 use Rattle.cet_book.proofs.Ways.{acquired_way, released_way, raised_way}
 use Rattle.cet_page.specs.Operands.{effective, register}
@@ -39,18 +38,20 @@ use Rattle.cet_page.specs.declared.checks.Kind.TheVariants as kind
 use Rattle.cet_page.specs.declared.checks.Who.TheVariants.{User}
 use Rattle.cet_own.specs.Safe.{IsElsewhere}
 use Rattle.cet_own.proofs.Acquired.{takes, misses}
-use Rattle.cet_own.proofs.Calls.{entries_of, EndsRow, own_kept}
-use Rattle.cet_own.proofs.Classes.{free_loads, looks}
+use Rattle.cet_own.proofs.Calls.{EndsRow, own_kept}
+use Rattle.cet_own.specs.Threads.{entries_of}
+use Rattle.cet_own.proofs.Classes.{plain_loads, looks}
 use Rattle.cet_own.proofs.Looks.{shadow_store_look_then, entries_at}
 use Rattle.cet_own.proofs.TokenWords.{restore_token_is, previous_token_is}
-use Rattle.cet_own.proofs.Owed.{State, state_after, HeadWord, Known, Owed, own_stack}
+use Rattle.cet_own.specs.Owed.{State, state_after, HeadWord, Known, Owed, own_stack}
 use Rattle.cet_own.proofs.Parts.{Claim, one_after, claim_bind, claim_cond, check_address_as_then, shadow_look_then}
 use Rattle.cet_own.proofs.Places.{entry_there, shadow_page, shadow_slot, above_is, entry_at, room_below, in_page}
 use Rattle.cet_own.proofs.Progress.{Progress, progress, untouched}
 use Rattle.cet_own.proofs.Raised.{raises}
 use Rattle.cet_own.proofs.Released.{releases}
 use Rattle.cet_own.proofs.Resting.{Resting, rest_kept, rest_stacked, rested}
-use Rattle.cet_own.proofs.Standing.{stacked, AtRest}
+use Rattle.cet_own.proofs.Standing.{stacked}
+use Rattle.cet_own.specs.Claims.{AtRest}
 use Rattle.cet_own.proofs.Writes.{top_even}
 
 -- ---- where the word at the top leads
@@ -127,7 +128,7 @@ module _ (job : JobData) (arch : Arch) (free : IsElsewhere job arch) where
                     (let f = found_after later p there.0 there.1 o rest2 in (f.2, λ held now'. free, (there.0, there.1.parked, there.1.top_is))),
                   )
               | inr e ↦ rw e.0 (
-                misses (word_in (first_shadow_page + (p - shadow_start) / 4096) p) (restore_token_at p) (previous_token arch.ssp) refl (omega arith) (omega arith) e.1 rest2.free refl,
+                misses (word_in (first_shadow_page + (p - shadow_start) / 4096) p) (restore_token_at p) (previous_token arch.ssp) refl (omega arith) (omega arith) (omega arith) e.1 refl,
                 later,
                 refl,
                 (
@@ -229,7 +230,7 @@ module _ (job : JobData) (arch : Arch) (free : IsElsewhere job arch) where
             let some' : 1 ≤ length (region later.book (current_of arch.number later.book)).entries = subst (λ (r : Region). 1 ≤ length r.entries) (sym same) some in
             let word_is : word_in (first_shadow_page + (arch.ssp - shadow_start) / 4096) arch.ssp ≡ slot arch.ssp = shadow_slot arch.ssp (omega arith) (omega arith) in
             let head = known'.head has (ap access.Load (word_is ∙ ap slot rest2.stacked.top.at)) in (
-              free_loads (word_in (first_shadow_page + (arch.ssp - shadow_start) / 4096) arch.ssp) refl rest2.free refl,
+              plain_loads (word_in (first_shadow_page + (arch.ssp - shadow_start) / 4096) arch.ssp) refl (λ k z. (let high = rest2.stacked.high in omega arith)) refl,
               later,
               refl,
               save_by_claim _ later later word next

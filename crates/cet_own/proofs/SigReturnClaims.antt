@@ -23,17 +23,18 @@ use Rattle.cet_page.specs.Tokens.{frame_ssp, is_frame_word}
 use Rattle.cet_page.specs.Trail.{Visit}
 use Rattle.cet_page.specs.declared.checks.Kind.TheVariants as kind
 use Rattle.cet_own.specs.Safe.{IsElsewhere}
-use Rattle.cet_own.proofs.Calls.{Ends, own_kept}
+use Rattle.cet_own.proofs.Calls.{own_kept}
+use Rattle.cet_own.specs.Threads.{Ends}
 use Rattle.cet_own.proofs.DeliveryClaims.{kill_claim}
 use Rattle.cet_own.proofs.Endings.{by_signal}
 use Rattle.cet_own.proofs.GateParts.{popped_out_then}
 use Rattle.cet_own.proofs.KernelParts.{Leaves, Within}
-use Rattle.cet_own.proofs.Owed.{HeadWord, State, own_stack}
+use Rattle.cet_own.specs.Owed.{HeadWord, State, own_stack}
 use Rattle.cet_own.proofs.Parts.{Claim, claim_bind, claim_cond, kernel_load_known}
 use Rattle.cet_own.proofs.Places.{entry_at, shadow_slot}
 use Rattle.cet_own.proofs.Progress.{untouched}
 use Rattle.cet_own.proofs.Resting.{rested}
-use Rattle.cet_own.proofs.Standing.{AtRest}
+use Rattle.cet_own.specs.Claims.{AtRest}
 use Rattle.cet_own.proofs.StructureParts.{load_span_claim, loads_claim, shadow_probe_then}
 
 -- tops lie below the end of the shadow area
@@ -107,7 +108,7 @@ module _ (job : JobData) (j : IsJob job) (arch : Arch) (l : own_stack job arch.n
       (claim_cond job arch _ past before s (canonical (returned_frame arch) && returned_frame arch % 8 == 0) _ _
       (λ _. load_span_claim job arch l {d = untouched} _ past before s (returned_frame arch) frame_last within none_claim (λ p z n frame few within1.
       shadow_probe_then job arch l {d = untouched} _ p z n kind.ShadowLoad arch.ssp _ (omega arith) (omega arith) within1 none_claim (λ p1 z1 n1 r1 shape i inn within2.
-      kernel_load_known job arch _ p1 z1 n1 gate (word_in (first_shadow_page + (arch.ssp - shadow_start) / 4096) arch.ssp) _ (λ z. omega arith) within2 (λ n2 r2 word known within3.
+      kernel_load_known job arch _ p1 z1 n1 gate (word_in (first_shadow_page + (arch.ssp - shadow_start) / 4096) arch.ssp) _ (λ k z. omega arith) within2 (λ n2 r2 word known within3.
       let some = entry_at n1.book (current_of arch.number n1.book) i shape within2.stacked.top.has (subst (In (region n1.book i)) within2.stacked.top.at inn) in
       let same = own_kept arch.number n1.book n2.book r2 within2.stacked.top.has in
       let some' : 1 ≤ length (region n2.book (current_of arch.number n2.book)).entries = rw same some in

@@ -23,14 +23,14 @@ use Rattle.cet_page.specs.declared.services.Errno.{Errno}
 use Rattle.cet_page.specs.declared.services.Errno.TheVariants as errno
 use Rattle.cet_own.specs.Past.{restorer_word}
 use Rattle.cet_own.specs.Safe.{IsElsewhere}
-use Rattle.cet_own.specs.Stands.{IsRestorer}
+use Rattle.cet_own.specs.Facts.{IsRestorer}
 use Rattle.cet_own.proofs.Actions.{sets_handler, sets_other, sets_restorer}
-use Rattle.cet_own.proofs.Calls.{Ends}
+use Rattle.cet_own.specs.Threads.{Ends}
 use Rattle.cet_own.proofs.Classes.{stores as stored}
 use Rattle.cet_own.proofs.DeliveryClaims.{pend_out}
 use Rattle.cet_own.proofs.GateParts.{gate_out_then}
 use Rattle.cet_own.proofs.KernelParts.{Leaves, Within, failed_claim, serve_claim}
-use Rattle.cet_own.proofs.Owed.{Owed, State, own_stack}
+use Rattle.cet_own.specs.Owed.{Owed, State, own_stack}
 use Rattle.cet_own.proofs.Parts.{Claim, claim_bind, claim_cond, fetch_or_then, kernel_load_then}
 use Rattle.cet_own.proofs.Progress.{untouched}
 use Rattle.cet_own.proofs.Resting.{inside_kept, inside_left, inside_stacked, rested}
@@ -73,10 +73,10 @@ module _ (job : JobData) (j : IsJob job) (arch : Arch) (l : own_stack job arch.n
       ((p : List Visit) (z n : State) (action : Action) → Inner p n → Q p z n action) → Claim job arch Q past before s (load_action word)
   unfolding load_action
   action_claim Q past before s word low within h =
-      kernel_load_then job arch Q past before s gate word _ (λ z. omega arith) within (λ n1 r1 handler within1.
-      kernel_load_then job arch Q _ n1 n1 gate (word + 1) _ (λ z. omega arith) within1 (λ n2 r2 flags within2.
-      kernel_load_then job arch Q _ n2 n2 gate (word + 2) _ (λ z. omega arith) within2 (λ n3 r3 restorer within3.
-      kernel_load_then job arch Q _ n3 n3 gate (word + 3) _ (λ z. omega arith) within3 (λ n4 r4 mask within4.
+      kernel_load_then job arch Q past before s gate word _ (λ k z. omega arith) within (λ n1 r1 handler within1.
+      kernel_load_then job arch Q _ n1 n1 gate (word + 1) _ (λ k z. omega arith) within1 (λ n2 r2 flags within2.
+      kernel_load_then job arch Q _ n2 n2 gate (word + 2) _ (λ k z. omega arith) within2 (λ n3 r3 restorer within3.
+      kernel_load_then job arch Q _ n3 n3 gate (word + 3) _ (λ k z. omega arith) within3 (λ n4 r4 mask within4.
       h _ n4 n4 (record { handler = handler; flags = flags; restorer = restorer; mask = mask }) within4))))
 
   asked_claim : (Q : List Visit → State → State → Option Action → Type 0) (past : List Visit) (before s : State) (o : Option ℕ) → BelowWord first_kernel_word o → Inner past s →
@@ -210,7 +210,7 @@ module _ (job : JobData) (j : IsJob job) (arch : Arch) (l : own_stack job arch.n
   unfolding asked_mask
   asked_mask_claim Q past before s None low within h = h past before s (new_mask arch None) within
   asked_mask_claim Q past before s (Some word) low within h =
-      kernel_load_then job arch Q past before s gate word _ (λ z. omega arith) within (λ now r set within1. h _ now now (new_mask arch (Some set)) within1)
+      kernel_load_then job arch Q past before s gate word _ (λ k z. omega arith) within (λ now r set within1. h _ now now (new_mask arch (Some set)) within1)
 
   copy_mask_claim : (Q : List Visit → State → State → Unit {0} → Type 0) (past : List Visit) (before s : State) (old : Option ℕ) → BelowWord first_shadow_word old → Inner past s →
       ((p : List Visit) (z n : State) → Inner p n → Q p z n tt) → Claim job arch Q past before s (copy_mask arch old)
@@ -269,4 +269,4 @@ module _ (job : JobData) (j : IsJob job) (arch : Arch) (l : own_stack job arch.n
   tgkill_claim past before s within =
       claim_cond job arch (Leaves job arch l) past before s (nat_lt last_signal (rdx arch)) _ _ (λ _. fails past before s errno.Inval within)
       (λ _. claim_cond job arch (Leaves job arch l) past before s (not (rdi arch == group)) _ _ (λ _. fails past before s errno.Srch within)
-      (λ _. kernel_load_then job arch (Leaves job arch l) past before s gate next_thread_word _ (λ z. omega arith) within (λ now r born within1. post_claim _ now now born within1)))
+      (λ _. kernel_load_then job arch (Leaves job arch l) past before s gate next_thread_word _ (λ k z. omega arith) within (λ now r born within1. post_claim _ now now born within1)))

@@ -1,28 +1,11 @@
 -- Where a thread stands on its shadow stack, and that other threads leave it there. Source: own.
-use Rattle.std.proofs.Common.{ℕ, ◌≤◌, length, ◌∙◌, arith}
-use Rattle.cet_words.specs.Layout.{first_region_start, last_region_end}
+use Rattle.std.proofs.Common.{ℕ, ◌∙◌, arith}
 use Rattle.cet_book.specs.Book.{Book, current_of}
 use Rattle.cet_book.specs.Shape.{Shape}
-use Rattle.cet_book.proofs.Relies.{Relies}
-use Rattle.cet_book.proofs.Top.{AtTop, top_relies}
-use Rattle.cet_own.specs.Stands.{HasMade}
-use Rattle.cet_book.proofs.Held.{Free}
-
--- SSP is at the top of the thread's region, within the shadow area
-pub record Stacked (t : ℕ) (b : Book) (ssp : ℕ) : Type 0 where
-  pub top : AtTop t b ssp
-  pub low : first_region_start ≤ ssp
-  pub high : ssp ≤ last_region_end
-
--- so it is between instructions
-pub record AtRest (t : ℕ) (b : Book) (ssp : ℕ) : Type 0 where
-  pub stacked : Stacked t b ssp
-  pub free : Free t b
-
--- a thread that isn't born, or has ended by exit, has nothing
-pub record HasNone (t : ℕ) (b : Book) : Type 0 where
-  pub regions : length b.regions ≤ current_of t b
-  pub free : Free t b
+use Rattle.cet_book.proofs.Top.{top_relies}
+use Rattle.cet_own.specs.Facts.{HasMade}
+use Rattle.cet_book.specs.Relied.{Relies, AtTop, Free}
+use Rattle.cet_own.specs.Claims.{Stacked, AtRest, HasNone}
 
 pub stacked : (t : ℕ) (b : Book) (ssp : ℕ) → Shape b → AtTop t b ssp → Stacked t b ssp
 stacked t b ssp s a =

@@ -1,9 +1,9 @@
 -- The facts of the ownership invariant, from what is carried from turn to turn. Source: own.
 use Rattle.cet_book.proofs.Supervisor.{stack_there}
-use Rattle.cet_own.proofs.Still.{Still}
+use Rattle.cet_own.specs.Claims.{Still}
 use Rattle.cet_own.specs.Past.{held_in, left_in}
 use Rattle.cet_own.proofs.Told.{free_note}
-use Rattle.cet_book.proofs.Held.{Free, Held}
+use Rattle.cet_book.specs.Relied.{Free, Held}
 use Rattle.cet_page.specs.Trail.{Visit, row_trail, trail_of}
 use Rattle.cet_words.specs.Layout.{token_word, kernel_return}
 use Rattle.std.proofs.Common.{◌≡◌, ℕ, ◌+◌, ◌-◌, ◌<◌, inl, inr, List, Option, Some, None, ap, sym, ◌∙◌, subst, arith, true, refl}
@@ -20,12 +20,13 @@ use Rattle.cet_page.specs.Machine.{Machine, Thread}
 use Rattle.cet_page.specs.Core.{Core}
 use Rattle.cet_page.specs.Within.{CoreAt, Rests}
 use Rattle.cet_own.specs.ToldTokens.{IsToken}
-use Rattle.cet_own.specs.Stands.{AllTold, ShadowPages, AllBounds, Stands, below_token}
-use Rattle.cet_own.proofs.Holds.{Marks}
+use Rattle.cet_own.specs.Facts.{AllTold, ShadowPages, AllBounds, below_token}
+use Rattle.cet_own.specs.Stands.{Stands}
+use Rattle.cet_own.specs.Holds.{Marks}
 use Rattle.cet_own.proofs.TokenWords.{restore_token_is}
-use Rattle.cet_own.proofs.Owed.{State}
+use Rattle.cet_own.specs.Owed.{State}
 use Rattle.cet_own.proofs.Seeded.{making_zero}
-use Rattle.cet_own.proofs.Threads.{CoreStands, ThreadStands}
+use Rattle.cet_own.specs.Threads.{CoreStands, ThreadStands}
 use Rattle.cet_own.proofs.Turns.{Invariant, safe_at}
 
 -- a word is a restore token exactly where a parked region has its token
@@ -125,7 +126,11 @@ module _ (job : JobData) (m : Machine) (s : State) (st : Invariant job m s) wher
       below = λ t thread e k own q. below_told t k (trail_of job thread.core) (st.still t thread e) own (left_in (trail_of job thread.core) (token_word k - 1)) refl q;
     };
     restorers = st.holds.restorers;
-    steady_rows = λ t thread e. record { word = (st.still t thread e).word; claimed = (st.still t thread e).claimed };
+    steady_rows = λ t thread e. record {
+      word = (st.still t thread e).place;
+      below = λ k x l own q. (st.still t thread e).word (token_word k - 1) x (below_token k l own refl) q;
+      claimed = (st.still t thread e).claimed;
+    };
     counters = record { drawn = st.holds.marks.drawn; least = st.paid.least; number = st.paid.number };
     made = st.made;
     bounds = all_bounds;
@@ -142,4 +147,8 @@ module _ (job : JobData) (m : Machine) (s : State) (st : Invariant job m s) wher
       draws = st.paid.draws;
       births = st.paid.nexts;
     };
+    size = st.holds.size;
+    eight = st.holds.sound.book.stacks.eight;
+    ending = st.holds.ending;
+    rows = st.threads;
   }

@@ -23,8 +23,9 @@ use Rattle.cet_page.specs.Operands.{register, assigned, settled}
 use Rattle.cet_page.specs.Parts.{invalid_opcode}
 use Rattle.cet_page.specs.Values.{limit, shifted_left, shifted_right, shifted_arithmetic}
 use Rattle.cet_own.specs.Safe.{IsElsewhere}
-use Rattle.cet_own.proofs.Owed.{State}
-use Rattle.cet_own.proofs.Parts.{Fails, Claim, claim_cond, exchange_then, swap_then, fetch_add_then}
+use Rattle.cet_own.specs.Owed.{State}
+use Rattle.cet_own.proofs.Parts.{Claim, claim_cond, exchange_then, swap_then, fetch_add_then}
+use Rattle.cet_own.specs.Threads.{Fails}
 use Rattle.cet_own.proofs.OperandParts.{load_at_then, write_place_then, store_at_then, read_operand_then}
 use Rattle.cet_own.proofs.Calls.{EndsRow}
 use Rattle.cet_own.proofs.Progress.{Progress, progress, untouched}

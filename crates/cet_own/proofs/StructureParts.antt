@@ -7,7 +7,7 @@ use Rattle.cet_isa.specs.declared.threads.Arch.{Arch}
 use Rattle.cet_book.specs.Book.{region}
 use Rattle.cet_book.specs.Facts.{In, LiesIn}
 use Rattle.cet_book.specs.Shape.{Shape}
-use Rattle.cet_book.proofs.Relies.{Relies, relies_same, relies_then}
+use Rattle.cet_book.specs.Relied.{Relies, relies_same, relies_then}
 use Rattle.cet_page.specs.Page.{allows}
 use Rattle.cet_page.specs.Parts.{load_as, loads, probe, store_each}
 use Rattle.cet_page.specs.Script.{Script, done, ◌>>=◌}
@@ -19,11 +19,11 @@ use Rattle.cet_page.specs.declared.checks.Kind.TheVariants as kind
 use Rattle.cet_page.specs.declared.checks.Who.TheVariants.{User}
 use Rattle.cet_page.specs.declared.services.Errno.TheVariants as errno
 use Rattle.cet_page.proofs.StructureLaws.{unwrapped, words_follow}
-use Rattle.cet_own.specs.Stands.{IsEntry}
+use Rattle.cet_own.specs.Facts.{IsEntry}
 use Rattle.cet_own.proofs.Classes.{stores as stored}
-use Rattle.cet_own.proofs.Holds.{IsOut}
+use Rattle.cet_own.specs.Holds.{IsOut}
 use Rattle.cet_own.proofs.KernelParts.{Within, probe_known}
-use Rattle.cet_own.proofs.Owed.{State, own_stack}
+use Rattle.cet_own.specs.Owed.{State, own_stack}
 use Rattle.cet_own.proofs.Parts.{Claim, claim_bind, claim_cond, kernel_load_then}
 use Rattle.cet_own.proofs.Places.{entry_there, in_page, load_page, shadow_page, store_page}
 use Rattle.cet_own.proofs.Progress.{Progress}
@@ -76,7 +76,7 @@ module _ (job : JobData) (arch : Arch) (l : own_stack job arch.number < 8) where
   unfolding loads load_as ◌>>=◌
   loads_claim Q past before s zero word few within h = h past before s [] (relies_same arch.number s.book) within
   loads_claim {d = d} Q past before s (suc count) word few within h =
-      kernel_load_then job arch Q past before s gate word (λ value. loads count (word + 1) >>= (λ values. done (value ∷ values))) (λ z. omega arith) within (λ now r v within'.
+      kernel_load_then job arch Q past before s gate word (λ value. loads count (word + 1) >>= (λ values. done (value ∷ values))) (λ k z. omega arith) within (λ now r v within'.
       claim_bind job arch Q _ now now (loads count (word + 1)) (λ values. done (v ∷ values))
       (loads_claim {d = d} (λ p z n values. Q p z n (v ∷ values)) _ now now count (word + 1) (omega arith) within'
       (λ p z n values r' within''. h p z n (v ∷ values) (relies_then r r') within'')))

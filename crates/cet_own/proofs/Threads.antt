@@ -1,64 +1,35 @@
 -- Where each thread of a machine stands, and one access of a thread. Source: own.
 use Rattle.std.proofs.Common.{List, [], ◌≡◌, ℕ, ◌+◌, Bool, true, false, Option, Some, None, refl, sym, ◌∙◌, ap, subst}
 use Rattle.std.specs.Prelude.{option_map, ◌==◌, if◌then◌else◌}
+use Rattle.cet_words.specs.Change.{Change}
 use Rattle.cet_words.specs.Job.{JobData, IsJob}
+use Rattle.cet_words.specs.declared.accesses.Access.{Access}
 use Rattle.cet_isa.specs.declared.threads.Arch.{Arch}
 use Rattle.cet_isa.specs.declared.threads.End.{End}
 use Rattle.cet_isa.specs.declared.threads.End.TheVariants as ending
 use Rattle.cet_book.specs.Book.{Book}
-use Rattle.cet_book.proofs.Relies.{Relies}
 use Rattle.cet_page.specs.Script.{Played, Completed, Faulted, Wants}
 use Rattle.cet_page.specs.ValsData.{ValsData, no_vals}
 use Rattle.cet_page.specs.Row.{row}
 use Rattle.cet_page.specs.Core.{Core, After, unheld, kept_by, faulted, core_by, noted_by}
-use Rattle.cet_page.specs.Within.{Waits, Rests, CoreAt, IsCore}
+use Rattle.cet_page.specs.Within.{CoreAt, IsCore}
 use Rattle.cet_page.specs.Machine.{Thread}
 use Rattle.cet_page.specs.declared.finishes.Finish.{Finish}
 use Rattle.cet_page.specs.declared.finishes.Finish.TheVariants.{Noted, Posted, Exited, Stopped}
 use Rattle.cet_own.specs.Safe.{NotedReturns}
 use Rattle.cet_own.specs.ToldTokens.{NotedTokens}
-use Rattle.cet_page.specs.Trail.{Visit, row_trail, trail, trail_of}
+use Rattle.cet_page.specs.Trail.{Visit, row_trail, trail_of}
 use Rattle.cet_own.specs.Past.{held_in}
-use Rattle.cet_own.specs.Stands.{AllTold}
+use Rattle.cet_own.specs.Facts.{AllTold}
 use Rattle.cet_own.proofs.Told.{all_last, free_note}
-use Rattle.cet_own.proofs.Still.{Still, still_none}
-use Rattle.cet_own.proofs.Frame.{SteadyAt, others_at, OnCame}
-use Rattle.cet_own.proofs.Standing.{stacked_kept, AtRest, rest_kept, HasNone, none_kept}
-use Rattle.cet_book.proofs.Held.{Held}
-use Rattle.cet_own.proofs.Owed.{State, own_stack, rules}
-use Rattle.cet_own.proofs.Parts.{During, Fails}
-use Rattle.cet_own.proofs.Calls.{entries_of, Ends}
+use Rattle.cet_own.proofs.Still.{still_none}
+use Rattle.cet_own.specs.Claims.{Still, AtRest}
+use Rattle.cet_own.proofs.Frame.{others_at, OnCame}
+use Rattle.cet_own.proofs.Standing.{stacked_kept, rest_kept, none_kept}
+use Rattle.cet_book.specs.Relied.{Relies, Held}
+use Rattle.cet_own.specs.Owed.{State, own_stack, rules}
+use Rattle.cet_own.specs.Threads.{During, Fails, entries_of, Ends, Left, InRow, CoreStands, ThreadStands}
 use Rattle.cet_own.proofs.Rows.{row_claim}
-
--- the claim on what is left of a thread's row
-abbrev pub Left : JobData → Arch → (before s : State) → ValsData → Type 0
-Left job arch before s seen = SteadyAt (rules job arch.number) (During arch) (Ends job arch) (λ p. Fails job arch) [] before s (row job arch) seen.accesses seen.values
-
--- a thread that waits for an access
-pub record InRow (job : JobData) (t : ℕ) (s : State) (core : Core) : Type 0 where
-  pub waits : Waits job core
-  pub number : core.arch.number ≡ t
-  -- it holds what its row has taken, and what it has seen stays told
-  pub holding : core.arch.held ≡ held_in (trail_of job core)
-  pub own : (k : ℕ) → core.arch.held ≡ Some k → k ≡ own_stack job core.arch.number
-  pub told : AllTold job.image s.book (trail_of job core)
-  pub before : State
-  pub left : Left job (unheld core.arch) before s core.vals
-
--- an ended thread is at rest, and in no row
-abbrev pub Ended : JobData → (t : ℕ) → State → Core → Type 0
-Ended job t s core = AtRest t s.book core.arch.ssp × (trail_of job core ≡ []) × Rests job core × (core.arch.number ≡ t)
-
-abbrev pub CoreStands : JobData → (t : ℕ) → State → Core → Option End → Type 0
-CoreStands job t s core None = InRow job t s core
-CoreStands job t s core (Some (ending.Exit status)) = HasNone t s.book × Rests job core × (core.arch.number ≡ t)
-CoreStands job t s core (Some ending.Group) = Ended job t s core
-CoreStands job t s core (Some ending.Limit) = Ended job t s core
-
--- a thread by its number, where it is born
-abbrev pub ThreadStands : JobData → (t : ℕ) → State → Option Thread → Type 0
-ThreadStands job t s None = HasNone t s.book
-ThreadStands job t s (Some thread) = Held t s.book thread.core.arch.held × CoreStands job t s thread.core thread.core.over
 
 -- ---- what the others do
 
@@ -115,20 +86,20 @@ pub came_stands : (job : JobData) (core : Core) (held : Option ℕ) (seen : Vals
     OnCame (rules job core.arch.number) (During (unheld core.arch)) (Ends job (unheld core.arch)) (λ p. Fails job (unheld core.arch)) past before s c → IsCore job (core_by job core.arch held seen c) →
     CoreStands job core.arch.number s (core_by job core.arch held seen c) (core_by job core.arch held seen c).over ×
     NotedReturns job (entries_of core.arch.number before.book) core (left_by job core.arch held seen c child) (noted_by core.arch c) × NotedTokens before.book s.book (noted_by core.arch c)
-came_stands job core held seen past before s child (Wants a changes) note holding own told j l o w = (record { waits = w; number = refl; holding = holding; own = own; told = told; before = before; left = l }, tt, tt)
+came_stands job core held seen past before s child (Wants a changes) note holding own told j l o w = (record { waits = w; number = refl; holding = holding; own = own; told = told; before = before; left = l }, refl, tt)
 came_stands job core held seen past before s child (Faulted e) note holding own told j l o w =
     (recorded_stands job (kept_by core.arch held (faulted core.arch e)) s (core.arch.count + 1 == job.limit) (free_note core.arch.number s.book held o.0.free note) j o.0 w, λ r. (o.1 r, refl, refl), o.2)
 came_stands job core held seen past before s child (Completed (Noted next r) left values) note holding own told j l o w =
     (recorded_stands job (kept_by core.arch held next) s (next.count == job.limit) (free_note core.arch.number s.book held o.0.free note) j o.0 w, o.1 core.arch.held held, o.2)
 came_stands job core held seen past before s child (Completed (Posted next) left values) note holding own told j l o w =
-    (recorded_stands job (kept_by core.arch held next) s false (free_note core.arch.number s.book held o.0.free note) j o.0 w, tt, tt)
+    (recorded_stands job (kept_by core.arch held next) s false (free_note core.arch.number s.book held o.0.free note) j o.0 w, o.3, tt)
 came_stands job core held seen past before s child (Completed (Exited next r status) left values) note holding own told j l o w = ((o.0, w, refl), o.1 core.arch.held held, o.2)
-came_stands job core held seen past before s child (Completed Stopped left values) note holding own told j l o w = ((o.0, refl, w, refl), tt, tt)
+came_stands job core held seen past before s child (Completed Stopped left values) note holding own told j l o w = ((o.0, refl, w, refl), refl, tt)
 
 -- a row that goes on has its trail, and one that is over leaves none
 pub came_still : (job : JobData) (arch : Arch) (held : Option ℕ) (seen : ValsData) (c : Played Finish) (words : List ℕ) (t : ℕ) (b : Book) →
-    Still words t b (trail seen.accesses (row job (unheld arch)) seen.values []) → Still words t b (trail_of job (core_by job arch held seen c))
-came_still job arch held seen (Wants a changes) words t b h = h
+    ((a : Access) (changes : ℕ → List Change) → c ≡ Wants a changes → Still words t b (row_trail job arch seen)) → Still words t b (trail_of job (core_by job arch held seen c))
+came_still job arch held seen (Wants a changes) words t b h = h a changes refl
 came_still job arch held seen (Faulted e) words t b h = still_none words t b
 came_still job arch held seen (Completed (Noted next r) left values) words t b h = still_none words t b
 came_still job arch held seen (Completed (Posted next) left values) words t b h = still_none words t b

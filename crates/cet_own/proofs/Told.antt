@@ -7,10 +7,10 @@ use Rattle.cet_words.specs.declared.accesses.Access.TheVariants as access
 use Rattle.cet_book.specs.Book.{Book, region}
 use Rattle.cet_book.specs.Facts.{LiesIn}
 use Rattle.cet_book.proofs.Comes.{Lasts}
-use Rattle.cet_book.proofs.Held.{Free, Held}
+use Rattle.cet_book.specs.Relied.{Free, Held}
 use Rattle.cet_page.specs.Trail.{Visit}
-use Rattle.cet_own.specs.Stands.{AllTold, HasTold}
-use Rattle.cet_own.proofs.Owed.{Known}
+use Rattle.cet_own.specs.Facts.{AllTold, HasTold}
+use Rattle.cet_own.specs.Owed.{Known}
 use Rattle.cet_own.proofs.Writes.{in_there}
 
 -- what is known of an answer is told by it

@@ -5,7 +5,6 @@ use Rattle.cet_words.specs.Job.{JobData, IsJob}
 use Rattle.cet_words.specs.declared.accesses.Access.{Access}
 use Rattle.cet_book.specs.Book.{Book, books_after}
 use Rattle.cet_book.proofs.Kept.{NoneBorn, others_rely}
-use Rattle.cet_book.proofs.Relies.{Relies}
 use Rattle.cet_isa.specs.declared.threads.Arch.{Arch}
 use Rattle.cet_page.specs.Script.{Played, Completed, Faulted, Wants, held_after}
 use Rattle.cet_page.specs.declared.finishes.Finish.{Finish}
@@ -16,10 +15,11 @@ use Rattle.cet_page.specs.Core.{Core, After, unheld, row_played, changes_of, nex
 use Rattle.cet_page.proofs.WalkRows.{Ends, walk_row}
 use Rattle.std.specs.Prelude.{slice_index, ◌||◌}
 use Rattle.cet_book.specs.Facts.{one}
-use Rattle.cet_own.specs.Stands.{AllTold, paid_draws, paid_births}
+use Rattle.cet_own.specs.Facts.{AllTold, paid_draws, paid_births}
 use Rattle.cet_own.proofs.Told.{all_last, known_told}
 use Rattle.cet_own.proofs.Paid.{counted, came_pays}
-use Rattle.cet_own.proofs.Counters.{CountsBy, no_count, draws_pages, bears_child, bears_nobody, none_born, CountersTell}
+use Rattle.cet_own.proofs.Counters.{none_born, CountersTell}
+use Rattle.cet_own.specs.Claims.{CountsBy, no_count, draws_pages, bears_child, bears_nobody, Stacked, Still}
 use Rattle.cet_words.specs.Change.{Change}
 use Rattle.cet_page.proofs.Walk.{over_play}
 use Rattle.cet_page.specs.Within.{IsCore}
@@ -27,20 +27,20 @@ use Rattle.cet_page.proofs.WithinLaws.{taken_is}
 use Rattle.cet_own.specs.Safe.{NotedReturns}
 use Rattle.cet_own.specs.ToldTokens.{NotedTokens}
 use Rattle.cet_page.specs.Trail.{Visit, visit, row_trail, trail_of}
-use Rattle.cet_own.specs.Past.{held_by as note_by, held_in, claimed_in, draw_word, next_word, drew, is_draw, numbered, is_number}
+use Rattle.cet_own.specs.Past.{below_frame, frame_pushed, held_by as note_by, held_in, claimed_in, draw_word, next_word, drew, is_draw, numbered, is_number}
 use Rattle.cet_own.proofs.ClaimStays.{claim_stays}
 use Rattle.cet_book.proofs.Comes.{changes_come, changes_last, other_apart}
-use Rattle.cet_own.proofs.Still.{Still, still_own, still_kept}
-use Rattle.cet_own.proofs.Frame.{goes, on_came, OnCame}
-use Rattle.cet_own.proofs.Holds.{Holds}
-use Rattle.cet_book.proofs.Held.{Held}
+use Rattle.cet_own.proofs.Still.{still_own, still_kept}
+use Rattle.cet_own.proofs.Switches.{goes_calm, switches}
+use Rattle.cet_own.proofs.Frame.{during_at, goes, on_came, OnCame}
+use Rattle.cet_own.specs.Holds.{Holds}
+use Rattle.cet_book.specs.Relied.{Relies, Held}
 use Rattle.cet_own.proofs.HeldAfter.{changes_held}
-use Rattle.cet_own.proofs.Owed.{State, Owed, own_stack, rules}
+use Rattle.cet_own.specs.Owed.{State, Owed, own_stack, rules}
 use Rattle.cet_own.proofs.ClassLaws.{known}
-use Rattle.cet_own.proofs.Parts.{During, Fails}
-use Rattle.cet_own.proofs.Calls.{entries_of}
-use Rattle.cet_own.proofs.Calls as calls
-use Rattle.cet_own.proofs.Threads.{Left, InRow, CoreStands, came_still, came_stands, after_book}
+use Rattle.cet_own.specs.Threads.{During, Fails, entries_of, Left, InRow, CoreStands}
+use Rattle.cet_own.specs.Threads as calls
+use Rattle.cet_own.proofs.Threads.{came_still, came_stands, after_book}
 
 -- what an access of thread t leads to
 pub record Led (job : JobData) (words : List ℕ) (t : ℕ) (s : State) (core : Core) (a : Access) : Type 0 where
@@ -141,6 +141,14 @@ led_wants job j words s core a own few h still held r w is_core =
     let one_now' = ap one now' in
     let k = came_stands job core holding (vals_by core words a) shown s g.next
     (child_of core.arch changes) (come_to job core words a) note holds_now own_now told j left came is_core in
+    -- where the row goes on, no shadow stack has come by the access
+    let was = during_at (rules job core.arch.number) (During (unheld core.arch)) (calls.Ends job (unheld core.arch)) (λ p. Fails job (unheld core.arch)) [] r.before s
+    (row job (unheld core.arch)) core.vals.accesses core.vals.values a own r.left w in
+    let calm : (a' : Access) (l : ℕ → List Change) → come_to job core words a ≡ Wants a' l → switches changes ≡ false = λ a' l w'.
+    (let on_top = during_at (rules job core.arch.number) (During (unheld core.arch)) (calls.Ends job (unheld core.arch)) (λ p. Fails job (unheld core.arch)) [] s g.next
+    (row job (unheld core.arch)) (core.vals.accesses + 1) (vals_by core words a).values a' l left w' in
+    goes_calm core.arch.number core.arch.ssp (answer words a) core.arch.held (trail_of job core) a changes s.book g.next.book h.sound.book is (g.owed.fits words refl h) held was
+    (subst (λ c. Stacked core.arch.number g.next.book (below_frame c core.arch.ssp)) (ap frame_pushed grown) on_top)) in
     record {
       next = g.next;
       owed = g.owed;
@@ -148,8 +156,8 @@ led_wants job j words s core a own few h still held r w is_core =
       holds = g.owed.keeps words g.next.book refl h still is;
       others = λ y n none. others_rely core.arch.number y changes s.book g.next.book h.sound.book is n none;
       still = came_still job core.arch holding (vals_by core words a) (come_to job core words a) (after words a) core.arch.number g.next.book
-          (subst (Still (after words a) core.arch.number g.next.book) (sym grown)
-          (still_own words core.arch.number s.book g.next.book (trail_of job core) a changes h.size h.restorers (g.owed.restorers words refl h) (g.owed.below words refl h) h.sound.book (own_unborn words refl few counts) is still));
+          (λ a' l w'. subst (Still (after words a) core.arch.number g.next.book) (sym grown)
+          (still_own words core.arch.number s.book g.next.book (trail_of job core) a changes h.size h.restorers (g.owed.restorers words refl h) (g.owed.below words refl h) h.sound.book (own_unborn words refl few counts) is (calm a' l w') still));
       spared = λ y n none past old.
           still_kept words y s.book g.next.book past a
           (changes_come core.arch.number y changes s.book g.next.book h.sound.book is none (other_apart core.arch.number y changes n))

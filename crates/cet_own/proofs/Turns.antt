@@ -7,7 +7,7 @@ use Rattle.std.proofs.lemmas.List.Sums.{sum_by-append}
 use Rattle.std.proofs.lemmas.Bool.{cases_lt}
 use Rattle.std.proofs.lemmas.Bool.Decides.{eqb_tells, nat_tests}
 use Rattle.std.proofs.lemmas.Option.{slice_get_past, slice_get_within}
-use Rattle.cet_words.specs.Layout.{word_count, token_word, kernel_return}
+use Rattle.cet_words.specs.Layout.{word_count, token, token_word, kernel_return}
 use Rattle.cet_words.specs.Access.{answer, after}
 use Rattle.cet_words.specs.Job.{JobData, IsJob}
 use Rattle.cet_words.specs.declared.accesses.Access.{Access}
@@ -21,7 +21,7 @@ use Rattle.cet_words.specs.Change.{Change, Born}
 use Rattle.cet_words.specs.declared.accesses.Access.TheVariants as access
 use Rattle.cet_isa.specs.declared.threads.Arch.{Arch}
 use Rattle.cet_book.proofs.Kept.{NoneBorn}
-use Rattle.cet_book.proofs.Relies.{Relies}
+use Rattle.cet_book.specs.Relied.{Relies}
 use Rattle.cet_book.proofs.Hand.{hand, Made}
 use Rattle.cet_book.proofs.Ways.{born_way}
 use Rattle.cet_page.specs.Core.{Core, unheld, row_played, taken, next_changes, child_core, child_of, born}
@@ -35,22 +35,21 @@ use Rattle.cet_own.specs.Event.{access_changes, thread_changes}
 use Rattle.cet_own.specs.Safe.{AccessReturns, ThreadReturns, KeepsStack, HasStack, IsSafeAt}
 use Rattle.cet_own.specs.ToldTokens.{AccessTokens, ThreadTokens}
 use Rattle.cet_page.specs.Trail.{trail_of, Visit}
-use Rattle.cet_own.specs.Past.{below_frame, frame_pushed, draw_word, next_word, in_force, touches, leaves_word}
-use Rattle.cet_own.proofs.Still.{Still, still_none}
+use Rattle.cet_own.specs.Past.{below_frame, frame_pushed, draw_word, next_word, in_force, touches, frees_token, leaves_word}
+use Rattle.cet_own.proofs.Still.{still_none}
+use Rattle.cet_own.specs.Claims.{Still, Stacked, HasNone, CountsBy, no_count, draws_pages, bears_child, bears_nobody}
 use Rattle.cet_own.proofs.Frame.{during_at}
-use Rattle.cet_own.proofs.Holds.{Holds}
-use Rattle.cet_own.proofs.Standing.{Stacked, HasNone, has_made_kept}
-use Rattle.cet_own.specs.Stands.{HasMade}
-use Rattle.cet_own.proofs.Owed.{State, rules}
-use Rattle.cet_own.proofs.Parts.{During, Fails}
-use Rattle.cet_own.proofs.Calls.{entries_of, Ends}
-use Rattle.cet_own.proofs.Threads.{InRow, Ended, CoreStands, ThreadStands, thread_relies}
+use Rattle.cet_own.specs.Holds.{Holds}
+use Rattle.cet_own.proofs.Standing.{has_made_kept}
+use Rattle.cet_own.specs.Facts.{HasMade, thread_draws, thread_births}
+use Rattle.cet_own.specs.Owed.{State, rules}
+use Rattle.cet_own.specs.Threads.{During, Fails, entries_of, Ends, InRow, Ended, CoreStands, ThreadStands}
+use Rattle.cet_own.proofs.Threads.{thread_relies}
 use Rattle.cet_own.proofs.Turn.{Led, led}
 use Rattle.cet_own.proofs.Newborn.{IsNewborn, newborn}
 use Rattle.cet_own.proofs.ClassLaws.{one_book}
-use Rattle.cet_own.proofs.Counters.{CountsBy, no_count, draws_pages, bears_child, bears_nobody, none_born}
+use Rattle.cet_own.proofs.Counters.{none_born}
 use Rattle.cet_own.proofs.Paid.{Paid, unaltered, counters_tell, sum_moved}
-use Rattle.cet_own.specs.Stands.{thread_draws, thread_births}
 
 -- What is carried from turn to turn: words and book in step, and every thread's claim on the rest of its row.
 pub record Invariant (job : JobData) (m : Machine) (s : State) : Type 0 where
@@ -125,10 +124,12 @@ safe_at job m s st =
 
 -- ---- one turn
 
--- the load of the word below the token of a stack that thread t holds finds the kernel's return address
+-- A load of the word below a supervisor stack's token finds the kernel's return address, and who gives a stack back holds it.
 abbrev pub ReadsBelow : (t : ℕ) → Book → List ℕ → Option Access → Type 0
 ReadsBelow t b words None = Unit {0}
-ReadsBelow t b words (Some a) = (k : ℕ) → k < 8 → stack_of b k ≡ Some t → a ≡ access.Load (token_word k - 1) → answer words a ≡ kernel_return
+ReadsBelow t b words (Some a) =
+    ((k : ℕ) → k < 8 → a ≡ access.Load (token_word k - 1) → answer words a ≡ kernel_return) ×
+    ((k : ℕ) → k < 8 → a ≡ access.CompareExchange (token_word k) (token k + 1) (token k) → stack_of b k ≡ Some t)
 
 -- what a turn of thread t leads to, by whether it is born
 pub record Turned (job : JobData) (m : Machine) (t : ℕ) (s : State) (o : Option Thread) : Type 0 where
@@ -340,7 +341,14 @@ module _ (job : JobData) (j : IsJob job) (m : Machine) (t : ℕ) (s : State) (th
             (stands_after (with_child (slice_set m.threads t moved) (child_of thread.core.arch changes_now)) d r.waits.count p);
         returns = d.returns;
         restores = d.restores;
-        reads = λ k l own e'.
-            let touching : touches a (token_word k - 1) ≡ true = (let same : (token_word k - 1 == token_word k - 1) ≡ true = grind (arith, nat_tests) in ap (λ c. touches c (token_word k - 1)) e' ∙ same) in
-            sym (ap (λ c. leaves_word c (answer m.words a)) e') ∙ d.owed.below m.words refl st.holds k l own touching;
+        reads = (
+          λ k l e'.
+              let touching : touches a (token_word k - 1) ≡ true = (let same : (token_word k - 1 == token_word k - 1) ≡ true = grind (arith, nat_tests) in ap (λ c. touches c (token_word k - 1)) e' ∙ same) in
+              sym (ap (λ c. leaves_word c (answer m.words a)) e') ∙ (d.owed.below m.words refl st.holds).address k l touching,
+          λ k l e'.
+              let word : (token_word k == token_word k) ≡ true = grind (arith, nat_tests) in
+              let expected : (token k + 1 == token k + 1) ≡ true = grind (arith, nat_tests) in
+              let value : (token k == token k) ≡ true = grind (arith, nat_tests) in
+              (d.owed.below m.words refl st.holds).frees k l (ap (λ c. frees_token c k) e' ∙ rw (word, expected, value) refl),
+        );
       }

@@ -1,18 +1,11 @@
 -- The classes of accesses, by what an access can do to the book of shadow stacks, and what each may change there. Source: own.
-use Rattle.std.specs.Prelude.{◌≡◌, ℕ, ◌+◌, ◌-◌, ◌*◌, ◌%◌, ◌^◌, Bool, true, false, not, ◌&&◌, ◌||◌, ◌==◌, nat_lt, nat_le, if◌then◌else◌, List, [], ◌∷◌, Option, Some, is_some, slice_get}
+use Rattle.std.specs.Prelude.{ℕ, ◌+◌, ◌-◌, ◌*◌, ◌%◌, ◌^◌, Bool, true, false, not, ◌&&◌, ◌||◌, ◌==◌, nat_lt, nat_le, if◌then◌else◌, List, [], ◌∷◌, Option, is_some}
 use Rattle.cet_words.specs.Change.{Change, Called, Returned, Raised, Acquired, Released, Claimed, Seeded, Born, Pushed, Popped, Ended, Busied, Freed}
-use Rattle.cet_words.specs.Access.{answer}
-use Rattle.cet_words.specs.Job.{JobData, IsJob}
 use Rattle.cet_words.specs.Layout.{within, shadow_start, first_shadow_page, first_kernel_page, first_shadow_word, first_kernel_word, next_thread_word, draw_shadow_word, thread_limit, token_word}
 use Rattle.cet_words.specs.declared.accesses.Access.{Access}
 use Rattle.cet_words.specs.declared.accesses.Access.TheVariants as access
 use Rattle.cet_isa.specs.declared.threads.Arch.{Arch}
-use Rattle.cet_book.specs.Book.{Book, books_after}
-use Rattle.cet_page.specs.Core.{next_access}
-use Rattle.cet_page.specs.Machine.{Machine, Thread, Starts, run, step}
 use Rattle.cet_page.specs.Tokens.{restore_token}
-use Rattle.cet_own.specs.Event.{turn_changes, book_of}
-use Rattle.cet_own.specs.Stands.{Stands}
 use Rattle.cet_own.specs.declared.access_classes.Class.{Class}
 use Rattle.cet_own.specs.declared.access_classes.Class.TheVariants as class
 
@@ -103,26 +96,3 @@ is_of c change = false
 abbrev pub all_of : Class → List Change → Bool
 all_of c [] = true
 all_of c (x ∷ xs) = is_of c x && all_of c xs
-
--- A turn of thread t of this class: its changes are of the class, the book has each, and the ownership invariant holds of
--- the machine and the book after it.
-pub record Keeps (c : Class) (job : JobData) (m : Machine) (b : Book) (t : ℕ) : Type 0 where
-  pub fits : all_of c (turn_changes job m t) ≡ true
-  pub next : Book
-  pub is : books_after t b (turn_changes job m t) ≡ Some next
-  pub stands : Stands job (step job m t) next
-
--- thread t is in this state, makes this access next, and gets this answer
-pub record IsNext (a : Access) (arch : Arch) (value : ℕ) (job : JobData) (m : Machine) (t : ℕ) : Type 0 where
-  pub thread : Thread
-  pub found : slice_get m.threads t ≡ Some thread
-  pub state : thread.core.arch ≡ arch
-  pub wants : next_access job thread.core ≡ Some a
-  pub answers : answer m.words a ≡ value
-
--- In every run from a start m there is a book, and an access of this class keeps it, wherever a thread in this state makes
--- it next and gets this answer.
-abbrev pub HasClass : Class → Access → Arch → (value : ℕ) → Type 0
-HasClass c a arch value =
-    (job : JobData) (m : Machine) (turns : List ℕ) (t : ℕ) → IsJob job → Starts job m → IsNext a arch value job (run job m turns) t
-    → (b : Book) × (book_of job m turns ≡ Some b) × Keeps c job (run job m turns) b t

@@ -22,6 +22,11 @@ touches (access.FetchOr word value) w = word == w
 touches (access.FetchAnd word value) w = word == w
 touches (access.CompareExchange word expected value) w = word == w
 
+-- the access exchanges the busy token of a supervisor stack for the free one
+abbrev pub frees_token : Access → (stack : ℕ) → Bool
+frees_token (access.CompareExchange word expected value) k = word == token_word k && (expected == token k + 1 && value == token k)
+frees_token a k = false
+
 -- what stands in the word of an access after it, by its answer
 abbrev pub leaves_word : Access → (answer : ℕ) → ℕ
 leaves_word (access.Look page) v = v
@@ -43,8 +48,13 @@ abbrev pub takes_any : List Change → Bool
 takes_any [] = false
 takes_any (c ∷ cs) = is_taking c || takes_any cs
 
--- What the row last read or wrote in a word. Where it got a stack since, nothing is said: the word may be one of that stack,
--- and have been another thread's.
+-- what the row last read or wrote in a word
+abbrev pub left_row : List Visit → (word : ℕ) → Option ℕ
+left_row [] w = None
+left_row (x ∷ past) w = if touches x.access w then Some (leaves_word x.access x.answer) else left_row past w
+
+-- The same, where it got no stack since. Else nothing is said: the word may be the one below the token of that stack, and have been
+-- another thread's.
 abbrev pub left_in : List Visit → (word : ℕ) → Option ℕ
 left_in [] w = None
 left_in (x ∷ past) w =

@@ -67,7 +67,8 @@ abbrev pub IsElsewhere : JobData → Arch → Type 0
 IsElsewhere job arch = AtReturn job arch → ⊥
 
 -- A record of a return. Where it completes it goes right; where it faults, the fault is named, it stands at the return and
--- RIP stays. A return has no record but these, and that of a signal or of a supervisor stack that is busy.
+-- RIP stays. A return has no record but these, that of a signal that comes in its place, which goes to the handler, and those of a
+-- signal that is ignored or kills, or of a supervisor stack that is busy, which leave RIP as it was.
 abbrev pub ReturnsBy : JobData → List Entry → (before after : Arch) → Record → What → Type 0
 ReturnsBy job entries before after r what.Ret = GoesRight job entries after.rip
 ReturnsBy job entries before after r (what.Fault name) = AtReturn job before → IsReturnFault name r.code × (r.rip ≡ before.rip) × (after.rip ≡ before.rip)
@@ -76,18 +77,19 @@ ReturnsBy job entries before after r what.Call = IsElsewhere job before
 ReturnsBy job entries before after r what.Raise = IsElsewhere job before
 ReturnsBy job entries before after r what.Take = IsElsewhere job before
 ReturnsBy job entries before after r what.Save = IsElsewhere job before
-ReturnsBy job entries before after r what.Busy = Unit {0}
+ReturnsBy job entries before after r what.Busy = after.rip ≡ before.rip
 ReturnsBy job entries before after r what.Sys = IsElsewhere job before
 ReturnsBy job entries before after r what.Claim = IsElsewhere job before
 ReturnsBy job entries before after r what.Born = IsElsewhere job before
 ReturnsBy job entries before after r what.Wrote = IsElsewhere job before
 ReturnsBy job entries before after r what.Signal = Unit {0}
-ReturnsBy job entries before after r what.Ignore = Unit {0}
+ReturnsBy job entries before after r what.Ignore = after.rip ≡ before.rip
 ReturnsBy job entries before after r what.SigReturn = IsElsewhere job before
-ReturnsBy job entries before after r what.Kill = Unit {0}
+ReturnsBy job entries before after r what.Kill = after.rip ≡ before.rip
 
+-- and an access without a record leaves RIP as it was
 abbrev pub NotedReturns : JobData → List Entry → Core → After → Option Record → Type 0
-NotedReturns job entries core left None = Unit {0}
+NotedReturns job entries core left None = left.core.arch.rip ≡ core.arch.rip
 NotedReturns job entries core left (Some r) = ReturnsBy job entries core.arch left.core.arch r r.what
 
 abbrev pub AccessReturns : JobData → Machine → Thread → List Entry → Option Access → Type 0

@@ -1,7 +1,8 @@
 //! The classes of accesses, by what an access can do to the book of shadow stacks.
 
 ghost use Rattle.std.specs.Prelude.{◌≡◌, IsTrue};
-ghost use Rattle.cet_own.specs.Class.{HasClass, address_of, class_by, draws_number, draws_pages, exchanges_token, finds_word, is_shadow_word, is_supervisor_token, reads_stack, stores_below, stores_token};
+ghost use Rattle.cet_own.specs.Keeps.{HasClass, HasClassInRuns};
+ghost use Rattle.cet_own.specs.Class.{address_of, class_by, draws_number, draws_pages, exchanges_token, finds_word, is_shadow_word, is_supervisor_token, reads_stack, stores_below, stores_token};
 
 use cet_isa::Arch;
 use cet_page::restore_token;
@@ -143,11 +144,13 @@ fn class_in_table(access: &Access, arch: &Arch, value: u64) -> Class
     }
 }
 
-/// The class of an access, by the state of the thread before it and its answer. In every run the
-/// access changes the book of shadow stacks as its class may, and keeps the ownership invariant.
+/// The class of an access, by the state of the thread before it and its answer. Wherever the ownership
+/// invariant holds, the access changes the book of shadow stacks as its class may, and keeps the
+/// invariant; and so it does in every run.
 pub fn class_of(access: &Access, arch: &Arch, value: u64) -> Class
     ensures class { result ≡ class_by access.now arch.now value }
     ensures laws { HasClass result access.now arch.now value }
+    ensures runs { HasClassInRuns result access.now arch.now value }
 {
     class_in_table(access, arch, value)
 }

@@ -1,14 +1,17 @@
 //! Laws over every run of every job.
 
-ghost use Rattle.std.specs.Prelude.{ℕ, List};
+ghost use Rattle.std.specs.Prelude.{◌≡◌, ℕ, List, Some};
 ghost use Rattle.cet_words.specs.Job.{JobData, IsJob};
-ghost use Rattle.cet_book.specs.Book.{first_book};
+ghost use Rattle.cet_book.specs.Book.{Book, first_book};
 ghost use Rattle.cet_page.specs.Machine.{Machine, Starts, run};
 ghost use Rattle.cet_page.specs.Numbered.{BirthsAreTold, ClosedAreAll, CountsLow, DrawsRight, Named, Numbered};
 ghost use Rattle.cet_own.specs.Along.{Along};
+ghost use Rattle.cet_own.specs.Covered.{AllEnded, LastCovered};
+ghost use Rattle.cet_own.specs.Event.{book_of};
 ghost use Rattle.cet_own.specs.ExitWord.{EndsRight};
-ghost use Rattle.cet_own.specs.Gates.{TurnTells};
+ghost use Rattle.cet_own.specs.Gates.{GatesExactly, RestoresExactly, TurnTells};
 ghost use Rattle.cet_own.specs.Safe.{Safe};
+ghost use Rattle.cet_own.specs.Keeps.{TurnStands};
 ghost use Rattle.cet_own.specs.Stands.{Stands};
 ghost use Rattle.cet_own.specs.Switched.{Legal, Raises, Switched};
 
@@ -24,6 +27,25 @@ pub fn every_run_is_safe()
 /// and the book; and no record tells of a restore token that didn't stand, or of one missed that did.
 pub fn every_run_stands()
     ensures { (job : JobData) (start : Machine) (turns : List ℕ) → IsJob job → Starts job start → Along (Stands job) (TurnTells job) job start first_book turns }
+{}
+
+/// The ownership invariant is inductive: in any machine of which, with a book, it holds, a turn of whatever
+/// thread keeps it, with the book that has the turn's changes.
+pub fn every_turn_stands()
+    ensures { (job : JobData) (m : Machine) (b : Book) (t : ℕ) → IsJob job → Stands job m b → TurnStands job m b t }
+{}
+
+/// In every run of every job, an RSTORSSP whose look has passed takes a shadow stack exactly where the book
+/// has a parked one with its token at the operand, and is otherwise `#CP` with code 4 and the word found.
+pub fn every_restore_is_exact()
+    ensures { (job : JobData) (start : Machine) (turns : List ℕ) → IsJob job → Starts job start → RestoresExactly job start first_book turns }
+{}
+
+/// In every run of every job, the first exchange of an entry into the kernel takes the supervisor stack of
+/// the thread's processor exactly where the book has it free, and otherwise a busy record stands with the
+/// word found; and the way out always finds the kernel's return address below the token, and the token busy.
+pub fn every_gate_is_exact()
+    ensures { (job : JobData) (start : Machine) (turns : List ℕ) → IsJob job → Starts job start → GatesExactly job start first_book turns }
 {}
 
 /// After every run of every job, whatever thread had which turn, the word EXIT is 0, 256 and an exit
@@ -49,6 +71,19 @@ pub fn every_run_switches()
 /// many of its newest entries as the counts add up to.
 pub fn every_run_raises()
     ensures { (job : JobData) (start : Machine) (turns : List ℕ) → IsJob job → Starts job start → Raises job start turns }
+{}
+
+/// After every run of every job the ownership invariant holds of the words and the threads and of that book
+/// to which the run's events lead, one after another.
+pub fn every_last_book_stands()
+    ensures { (job : JobData) (start : Machine) (turns : List ℕ) → IsJob job → Starts job start → (b : Book) → book_of job start turns ≡ Some b → Stands job (run job start turns) b }
+{}
+
+/// What every run leaves in which every thread has ended meets the conditions under which words tell a book:
+/// they are in step with its last book, and the stacks that its records tell of, with the pointers of the
+/// threads that keep theirs, are regions of that book, none twice, with all that are current, parked or left.
+pub fn every_run_is_covered()
+    ensures { (job : JobData) (start : Machine) (turns : List ℕ) → IsJob job → Starts job start → AllEnded (run job start turns).threads → LastCovered job start turns }
 {}
 
 /// After every run of every job the thread at each place of the list has that number, and there are as

@@ -13,9 +13,10 @@ use Rattle.cet_book.specs.declared.regions.StackReport.{StackReport}
 use Rattle.cet_page.specs.Machine.{Machine, Starts, Thread, machine, run}
 use Rattle.cet_own.specs.ExitWord.{IsExitWord}
 use Rattle.cet_own.specs.Told.{kept_pointers, told_spans}
-use Rattle.cet_own.proofs.Covered.{AllEnded, LastCovered, told_numbers}
-use Rattle.cet_own.proofs.CoveredRun.{last_covered}
+use Rattle.cet_own.specs.Covered.{AllEnded, LastCovered, told_numbers}
+use Rattle.cet_own.proofs.CoveredRun.{last_covered, last_stands}
 use Rattle.cet_own.proofs.Run.{exit_run, safe_run, stands_run}
+use Rattle.cet_own.proofs.Switched.{raises_run, switches_run}
 use Rattle.cet_run.specs.Outcome.{process_end, thread_out}
 use Rattle.cet_run.specs.SafeRun.{IsLeft, IsThis, SafeRun, outcome_of}
 use Rattle.cet_run.specs.Schedule.{IsComplete, IsFull, IsRobin}
@@ -83,6 +84,7 @@ module _ (job : JobData) (start : Machine) (turns words : List ℕ) (outs : List
       let covers =
       subst (λ spans. Covers last.book (told_numbers last.book end.threads) spans pointers) (sym same_spans)
       (subst (Covers last.book (told_numbers last.book end.threads) (told_spans end.threads)) (sym left.pointers_left) last.covered.covers) in
+      let stood = last_stands job start turns is left.starts last.book last.last in
       record {
         is_job = is;
         start = start;
@@ -95,6 +97,9 @@ module _ (job : JobData) (start : Machine) (turns words : List ℕ) (outs : List
         is = outcome_read end last.book outs stacks process exit (e ∙ ap (λ l. slice_index l exit_word) left.words_left) left.threads_left (read last.book (told_numbers last.book end.threads) step covers) p;
         safe = safe_run job start turns is left.starts;
         stands = stands_run job start turns is left.starts;
+        last = stood;
+        switched = switches_run job start turns is left.starts;
+        raises = raises_run job start turns is left.starts;
         exit = exit_run job start turns is left.starts;
       }
 
@@ -114,6 +119,9 @@ by_schedule job start turns Schedule outcome h r = record {
   is = r.is;
   safe = r.safe;
   stands = r.stands;
+  last = r.last;
+  switched = r.switched;
+  raises = r.raises;
   exit = r.exit;
 }
 

@@ -2,9 +2,9 @@
 use Rattle.std.proofs.Common.{◌≡◌, ℕ, ◌+◌, ◌*◌, ◌-◌, ◌<◌, ◌≤◌, List, [], ◌∷◌, ◌++◌, length, take, Option, Some, None, arith, refl, ap, sym, ◌∙◌, subst, get_or}
 use Rattle.std.specs.Prelude.{IsSome, IfSome, option_map, slice_get, slice_set, sum_by}
 use Rattle.std.proofs.lemmas.List.Sums.{sum_by-append, sum_by-set}
-use Rattle.std.proofs.lemmas.List.{append-nil, take_more, map-append, map-set, length-append, length-map, length-set}
+use Rattle.std.proofs.lemmas.List.{append-nil, get_or_append_left, take_more, map-append, map-set, length-append, length-map, length-set, set-append_left}
 use Rattle.std.proofs.lemmas.List.Elements.{All-append, All-cons, All-nil}
-use Rattle.std.proofs.lemmas.Option.{get_or_from_slice_get, slice_get-map}
+use Rattle.std.proofs.lemmas.Option.{get_or_from_slice_get, slice_get-map, slice_get_read, slice_get_within}
 use Rattle.cet_words.specs.Access.{answer, after}
 use Rattle.cet_words.specs.declared.accesses.Access.{Access}
 use Rattle.cet_words.specs.Job.{JobData}
@@ -24,7 +24,7 @@ use Rattle.cet_own.specs.Along.{Along}
 use Rattle.cet_own.specs.Gates.{TurnTells}
 use Rattle.cet_own.specs.Stands.{Stands}
 use Rattle.cet_own.proofs.Run.{stands_run}
-use Rattle.cet_run.specs.TracedThreads.{AllTraced, IsSetAt, Stepped, TracedThreadData, core_of, left_among, left_to, thread_of, threads_of, with_traced}
+use Rattle.cet_run.specs.TracedThreads.{AllTraced, AskedAt, BoreAt, IsSetAt, TookAt, TracedThreadData, core_of, left_to, thread_of, threads_of, with_traced}
 use Rattle.cet_run.specs.Turns.{IsGoing, IsStill, IsTurned, NotGoing, Reached, thread_left, whole_thread}
 
 -- ---- one access
@@ -55,15 +55,9 @@ child_lives job core child answer (Wants a changes) e = born_lives core.arch (bi
 child_lives job core child answer (Faulted f) e = cc
 child_lives job core child answer (Completed x left values) e = cc
 
--- the same of what an access of a thread bears
-lives_by : (child : Option CpuData) → ((core : Core) → core_of child ≡ Some core → core.over ≡ None) → IfSome child (λ (cpu : CpuData). cpu.core.over ≡ None)
-lives_by None h = tt
-lives_by (Some cpu) h = h cpu.core refl
-
-pub bears_live : (job : JobData) (old new : TracedThreadData) (answer : ℕ) (child : Option CpuData) → Stepped job old new answer child → IfSome child (λ (cpu : CpuData). cpu.core.over ≡ None)
+pub born_live : (job : JobData) (core : Core) (answer : ℕ) (cpu : CpuData) → core_of (Some cpu) ≡ (taken job core answer).child → cpu.core.over ≡ None
 unfolding taken
-bears_live job old new answer child s =
-    lives_by child (λ core e. child_lives job old.cpu.core core answer (row_played job old.cpu.core.arch old.cpu.core.vals) (sym s.bears ∙ e))
+born_live job core answer cpu e = child_lives job core cpu.core answer (row_played job core.arch core.vals) (sym e)
 
 -- ---- a turn of a thread that isn't live
 
@@ -123,17 +117,22 @@ few job m r =
 
 -- ---- threads with what is kept beside them
 
-pub thread_here : (all_traced : List TracedThreadData) (t : ℕ) (traced : TracedThreadData) → slice_get all_traced t ≡ Some traced → slice_get (threads_of all_traced) t ≡ Some (thread_of traced)
+-- the accesses that are left to these threads, at most
+abbrev left_among : JobData → List TracedThreadData → ℕ
+left_among job all_traced = sum_by (thread_left job) (threads_of all_traced)
+
+thread_here : (all_traced : List TracedThreadData) (t : ℕ) (traced : TracedThreadData) → slice_get all_traced t ≡ Some traced → slice_get (threads_of all_traced) t ≡ Some (thread_of traced)
 thread_here all_traced t traced i = slice_get-map thread_of all_traced t ∙ ap (option_map thread_of) i
 
-pub traced_step : (job : JobData) (words words' : List ℕ) (all_traced : List TracedThreadData) (t : ℕ) (traced traced' : TracedThreadData) (a : Access) (child : Option CpuData) →
-    slice_get all_traced t ≡ Some traced → next_access job traced.cpu.core ≡ Some a → words' ≡ after words a → Stepped job traced traced' (answer words a) child →
+traced_step : (job : JobData) (words words' : List ℕ) (all_traced : List TracedThreadData) (t : ℕ) (traced traced' : TracedThreadData) (a : Access) (child : Option CpuData) →
+    slice_get all_traced t ≡ Some traced → next_access job traced.cpu.core ≡ Some a → words' ≡ after words a →
+    thread_of traced' ≡ thread_after (thread_of traced) (taken job traced.cpu.core (answer words a)) → core_of child ≡ (taken job traced.cpu.core (answer words a)).child →
     machine words' (with_child (threads_of (slice_set all_traced t traced')) (core_of child)) ≡ step job (machine words (threads_of all_traced)) t
-traced_step job words words' all_traced t traced traced' a child i n w s =
+traced_step job words words' all_traced t traced traced' a child i n w e b =
     ap (λ threads. machine words' (with_child threads (core_of child))) (map-set thread_of all_traced t traced')
-    ∙ turn_step job words words' (threads_of all_traced) t (thread_of traced) (thread_of traced') a (core_of child) (thread_here all_traced t traced i) n w s.thread s.bears
+    ∙ turn_step job words words' (threads_of all_traced) t (thread_of traced) (thread_of traced') a (core_of child) (thread_here all_traced t traced i) n w e b
 
-pub traced_falls : (job : JobData) (all_traced : List TracedThreadData) (t value : ℕ) (traced traced' : TracedThreadData) → t < length all_traced → slice_get all_traced t ≡ Some traced →
+traced_falls : (job : JobData) (all_traced : List TracedThreadData) (t value : ℕ) (traced traced' : TracedThreadData) → t < length all_traced → slice_get all_traced t ≡ Some traced →
     IsCpu job traced.cpu → traced.cpu.core.over ≡ None → thread_of traced' ≡ thread_after (thread_of traced) (taken job traced.cpu.core value) →
     left_among job (slice_set all_traced t traced') < left_among job all_traced
 traced_falls job all_traced t value traced traced' l i h o e =
@@ -141,18 +140,19 @@ traced_falls job all_traced t value traced traced' l i h o e =
     subst (λ threads. sum_by (thread_left job) threads < left_among job all_traced) (sym (map-set thread_of all_traced t traced'))
     (turn_falls job (threads_of all_traced) t value (thread_of traced) (thread_of traced') below (thread_here all_traced t traced i) (waiting job traced.cpu.core h.state o) o e)
 
-pub over_here : (all_traced : List TracedThreadData) (t : ℕ) (traced : TracedThreadData) → slice_get all_traced t ≡ Some traced → IsGoing (threads_of all_traced) t → traced.cpu.core.over ≡ None
+over_here : (all_traced : List TracedThreadData) (t : ℕ) (traced : TracedThreadData) → slice_get all_traced t ≡ Some traced → IsGoing (threads_of all_traced) t → traced.cpu.core.over ≡ None
 over_here all_traced t traced i w =
     let e : thread_of traced ≡ w.0 = let h = thread_here all_traced t traced i in cc (h, w.1) in
     ap (λ (x : Thread). x.core.over) e ∙ w.2
 
-pub cpu_here : (job : JobData) (all_traced : List TracedThreadData) (t : ℕ) (traced : TracedThreadData) → AllTraced job all_traced → t < length all_traced → slice_get all_traced t ≡ Some traced → IsCpu job traced.cpu
+cpu_here : (job : JobData) (all_traced : List TracedThreadData) (t : ℕ) (traced : TracedThreadData) → AllTraced job all_traced → t < length all_traced →
+    slice_get all_traced t ≡ Some traced → IsCpu job traced.cpu
 cpu_here job all_traced t traced a l i =
     subst (λ (x : TracedThreadData). IsCpu job x.cpu) (get_or_from_slice_get all_traced t traced traced i) (a t traced l)
 
 -- ---- a child that comes last
 
-pub child_last : (all_traced : List TracedThreadData) (child : Option CpuData) → threads_of (with_traced all_traced child) ≡ with_child (threads_of all_traced) (core_of child)
+child_last : (all_traced : List TracedThreadData) (child : Option CpuData) → threads_of (with_traced all_traced child) ≡ with_child (threads_of all_traced) (core_of child)
 child_last all_traced None = refl
 child_last all_traced (Some cpu) = map-append thread_of all_traced (record { cpu = cpu; trace = [] } ∷ [])
 
@@ -171,7 +171,7 @@ less_by : (a before child whole rest sum room room' : ℕ) → a < before → ch
 less_by a before child whole rest sum room room' l m s r r' = omega arith
 
 -- those that come with a child, and those not yet born, have less left
-pub child_falls : (job : JobData) (before all_traced : List TracedThreadData) (child : Option CpuData) → length before ≡ length all_traced → length (with_traced all_traced child) ≤ 32 →
+child_falls : (job : JobData) (before all_traced : List TracedThreadData) (child : Option CpuData) → length before ≡ length all_traced → length (with_traced all_traced child) ≤ 32 →
     left_among job all_traced < left_among job before → left_to job (with_traced all_traced child) < left_to job before
 child_falls job before all_traced None s few l =
     let a : length (threads_of before) ≡ length (threads_of all_traced) = length-map before thread_of ∙ s ∙ sym (length-map all_traced thread_of) in
@@ -193,7 +193,7 @@ child_falls job before all_traced (Some cpu) s few l =
     ((32 - length (threads_of (all_traced ++ traced ∷ []))) * whole) ((32 - n) * whole) l most sum same less
 
 -- a turn's threads: one is another than before, and a child may come last
-pub turned_is : (before all_traced : List TracedThreadData) (child : Option CpuData) (t : ℕ) → IsSetAt before all_traced t → IsTurned (threads_of before) (threads_of (with_traced all_traced child)) t
+turned_is : (before all_traced : List TracedThreadData) (child : Option CpuData) (t : ℕ) → IsSetAt before all_traced t → IsTurned (threads_of before) (threads_of (with_traced all_traced child)) t
 turned_is before all_traced None t h = record {
   thread = thread_of h.traced;
   more = [];
@@ -219,7 +219,7 @@ set_long : (before all_traced : List TracedThreadData) (t : ℕ) → IsSetAt bef
 set_long before all_traced t h = sym (ap length h.is ∙ length-set before t h.traced)
 
 -- what is left after a whole turn
-pub whole_falls : (job : JobData) (m m' : Machine) (before all_traced : List TracedThreadData) (child : Option CpuData) (t : ℕ) → Reached job m → m' ≡ step job m t →
+whole_falls : (job : JobData) (m m' : Machine) (before all_traced : List TracedThreadData) (child : Option CpuData) (t : ℕ) → Reached job m → m' ≡ step job m t →
     m'.threads ≡ threads_of (with_traced all_traced child) → IsSetAt before all_traced t → left_among job all_traced < left_among job before →
     left_to job (with_traced all_traced child) < left_to job before
 whole_falls job m m' before all_traced child t r e threads h l =
@@ -228,6 +228,77 @@ whole_falls job m m' before all_traced child t r e threads h l =
     let map = length-map (with_traced all_traced child) thread_of in
     let room : length (with_traced all_traced child) ≤ 32 = omega arith in
     child_falls job before all_traced child (set_long before all_traced t h) room l
+
+-- ---- a whole turn
+
+here_with : (all_traced : List TracedThreadData) (child : Option CpuData) (t : ℕ) (traced : TracedThreadData) → slice_get all_traced t ≡ Some traced →
+    slice_get (with_traced all_traced child) t ≡ Some traced
+here_with all_traced None t traced i = i
+here_with all_traced (Some cpu) t traced i =
+    let last : List TracedThreadData = record { cpu = cpu; trace = [] } ∷ [] in
+    let l : t < length all_traced = slice_get_within all_traced t traced i in
+    let n = length-append all_traced last in
+    slice_get_read (all_traced ++ last) (length (all_traced ++ last)) t traced refl (omega arith)
+    (sym (get_or_append_left all_traced last traced t l ∙ get_or_from_slice_get all_traced t traced traced i))
+
+set_with : (all_traced : List TracedThreadData) (child : Option CpuData) (t : ℕ) (traced : TracedThreadData) → t < length all_traced →
+    slice_set (with_traced all_traced child) t traced ≡ with_traced (slice_set all_traced t traced) child
+set_with all_traced None t traced l = refl
+set_with all_traced (Some cpu) t traced l = set-append_left all_traced (record { cpu = cpu; trace = [] } ∷ []) t traced l
+
+-- the thread goes on where another one comes last
+pub going_with : (job : JobData) (old new : List TracedThreadData) (t value : ℕ) → BoreAt job old new t value → IsGoing (threads_of old) t → IsGoing (threads_of new) t
+going_with job old new t value b w =
+    let here : slice_get new t ≡ Some b.traced = ap (λ (l : List TracedThreadData). slice_get l t) b.is ∙ here_with old b.child t b.traced b.here in
+    (thread_of b.traced, thread_here new t b.traced here, over_here old t b.traced b.here w)
+
+pub within_with : (job : JobData) (old new : List TracedThreadData) (t value : ℕ) → BoreAt job old new t value → t < length new
+within_with job old new t value b =
+    slice_get_within new t b.traced (ap (λ (l : List TracedThreadData). slice_get l t) b.is ∙ here_with old b.child t b.traced b.here)
+
+-- what a turn comes to
+pub record TurnIs (job : JobData) (words words' : List ℕ) (old new : List TracedThreadData) (t : ℕ) : Type 0 where
+  pub stepped : machine words' (threads_of new) ≡ step job (machine words (threads_of old)) t
+  pub falls : left_to job new < left_to job old
+  pub turned : IsTurned (threads_of old) (threads_of new) t
+
+-- the same, where the threads are those of before with one set and maybe one more
+turn_by : (job : JobData) (words words' : List ℕ) (old : List TracedThreadData) (t value : ℕ) (child : Option CpuData) (left : TracedThreadData) → Reached job (machine words (threads_of old)) →
+    AllTraced job old → IsGoing (threads_of old) t → (asked : AskedAt job old t words words' value) → thread_of left ≡ thread_after (thread_of asked.traced) (taken job asked.traced.cpu.core value) →
+    core_of child ≡ (taken job asked.traced.cpu.core value).child → TurnIs job words words' old (with_traced (slice_set old t left) child) t
+turn_by job words words' old t value child left r all going asked took bears =
+    let traced = asked.traced in
+    let one = slice_set old t left in
+    let set : IsSetAt old one t = record { traced = left; is = refl } in
+    let l : t < length old = slice_get_within old t traced asked.here in
+    let gave = asked.asked.gave in
+    let took' = subst (λ v. thread_of left ≡ thread_after (thread_of traced) (taken job traced.cpu.core v)) gave took in
+    let bears' = subst (λ v. core_of child ≡ (taken job traced.cpu.core v).child) gave bears in
+    let stepped : machine words' (threads_of (with_traced one child)) ≡ step job (machine words (threads_of old)) t =
+    ap (machine words') (child_last one child)
+    ∙ traced_step job words words' old t traced left asked.asked.access child asked.here asked.asked.next asked.asked.left took' bears' in
+    let falls = traced_falls job old t value traced left l asked.here (cpu_here job old t traced all l asked.here) (over_here old t traced asked.here going) took in
+    record {
+      stepped = stepped;
+      falls = whole_falls job (machine words (threads_of old)) (machine words' (threads_of (with_traced one child))) old one child t r stepped refl set falls;
+      turned = turned_is old one child t set;
+    }
+
+-- the access, the birth, and what the thread makes of the answer
+pub turn_is : (job : JobData) (words words' : List ℕ) (old mid new : List TracedThreadData) (t value : ℕ) → Reached job (machine words (threads_of old)) → AllTraced job old →
+    IsGoing (threads_of old) t → AskedAt job old t words words' value → BoreAt job old mid t value → TookAt job mid new t value → TurnIs job words words' old new t
+turn_is job words words' old mid new t value r all going asked bore took =
+    let traced = asked.traced in
+    let left = took.set.traced in
+    let child = bore.child in
+    let mid_here : slice_get mid t ≡ Some traced = ap (λ (l : List TracedThreadData). slice_get l t) bore.is ∙ here_with old child t traced asked.here in
+    let bearer : bore.traced ≡ traced = cc (bore.here, asked.here) in
+    let taker : took.traced ≡ traced = cc (took.here, mid_here) in
+    let is : new ≡ with_traced (slice_set old t left) child =
+    took.set.is ∙ ap (λ (l : List TracedThreadData). slice_set l t left) bore.is ∙ set_with old child t left (slice_get_within old t traced asked.here) in
+    let took' = subst (λ (x : TracedThreadData). thread_of left ≡ thread_after (thread_of x) (taken job x.cpu.core value)) taker took.took in
+    let bears' = subst (λ (x : TracedThreadData). core_of child ≡ (taken job x.cpu.core value).child) bearer bore.bears in
+    subst (λ (l : List TracedThreadData). TurnIs job words words' old l t) (sym is) (turn_by job words words' old t value child left r all going asked took' bears')
 
 -- one more turn of a list
 pub run_take : (job : JobData) (m : Machine) (xs : List ℕ) (i d : ℕ) → i < length xs → run job m (take (i + 1) xs) ≡ step job (run job m (take i xs)) (get_or xs i d)

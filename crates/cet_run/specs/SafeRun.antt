@@ -10,6 +10,7 @@ use Rattle.cet_own.specs.ExitWord.{EndsRight}
 use Rattle.cet_own.specs.Gates.{TurnTells}
 use Rattle.cet_own.specs.Safe.{Safe}
 use Rattle.cet_own.specs.Stands.{Stands}
+use Rattle.cet_own.specs.Switched.{Raises, Switched}
 use Rattle.cet_own.specs.Told.{kept_pointers}
 use Rattle.cet_run.specs.Outcome.{thread_out, process_end}
 use Rattle.cet_run.specs.Schedule.{IsComplete}
@@ -26,8 +27,8 @@ outcome_of m b = record {
 }
 
 -- A run of the job by this schedule, in which every thread ended, and its outcome. It is a safe one, as every run is, the
--- ownership invariant holds at each of its moments, and its word EXIT is one that a process may leave. Where the schedule may
--- be any, this says of what some schedule led to.
+-- ownership invariant holds at each of its moments, switches of shadow stacks leave both as they were, and its word EXIT is one
+-- that a process may leave. Where the schedule may be any, this says of what some schedule led to.
 pub record SafeRun (job : JobData) (Schedule : Machine → List ℕ → Type 0) (outcome : Outcome) : Type 0 where
   pub is_job : IsJob job
   pub start : Machine
@@ -40,6 +41,11 @@ pub record SafeRun (job : JobData) (Schedule : Machine → List ℕ → Type 0) 
   pub is : outcome ≡ outcome_of (run job start turns) book
   pub safe : Safe job start first_book turns
   pub stands : Along (Stands job) (TurnTells job) job start first_book turns
+  -- at the end it holds with the book that is reported
+  pub last : Stands job (run job start turns) book
+  -- what a switch to another shadow stack and back leaves, and what INCSSP takes off
+  pub switched : Switched job start turns
+  pub raises : Raises job start turns
   pub exit : EndsRight (run job start turns)
 
 -- these turns from this start, and no others

@@ -1,10 +1,10 @@
 //! The guest threads of a run, by number, and which of them are live.
 
-ghost use Rattle.std.specs.Prelude.{◌≡◌, [], ◌∷◌, ◌++◌, ◌<◌, true, false, cond, length, None, OnOk, IfOk, IfSome};
-ghost use Rattle.cet_page.specs.Machine.{machine, step, with_child};
-ghost use Rattle.cet_cpu.specs.Cpu.{IsCpu, CpuData};
+ghost use Rattle.std.specs.Prelude.{◌≡◌, [], ◌∷◌, ◌++◌, ◌<◌, true, false, cond, length, None, OnOk, IfOk};
+ghost use Rattle.cet_page.specs.Machine.{machine, step};
+ghost use Rattle.cet_cpu.specs.Cpu.{IsCpu};
 ghost use Rattle.cet_run.specs.Schedule.{goes_on, live_from};
-ghost use Rattle.cet_run.specs.TracedThreads.{AllTraced, AreGuests, IsSetAt, LiveBefore, core_of, left_among, left_to, threads_of, with_traced};
+ghost use Rattle.cet_run.specs.TracedThreads.{AllTraced, AreGuests, AskedAt, BoreAt, LiveBefore, TookAt, left_to, threads_of};
 ghost use Rattle.cet_run.specs.Turns.{IsGoing, IsStill, IsTurned, Reached};
 
 use crate::traced_threads::TracedThread;
@@ -43,25 +43,31 @@ fn live_numbers(alloc: Global, all_traced: &[TracedThread]) -> Result<Vec<usize>
     Ok(live)
 }
 
-/// A thread makes its next access, and answers the thread that this bears, if any.
-fn step<P: Perform>(
+/// What the words answer to the next access of a thread.
+fn ask<P: Perform>(job: &Job, words: &mut P, all_traced: &[TracedThread], at: usize) -> u64
+    requires cores { AllTraced job.now all_traced.now }
+    requires range { at < length all_traced.now }
+    requires going { IsGoing (threads_of all_traced.now) at }
+    ensures { AskedAt job.now all_traced.now at (P.words words.old) (P.words words.new) result }
+{
+    all_traced[at].ask(job, words)
+}
+
+/// A thread takes the answer to its next access.
+fn take(
     alloc: Global,
     job: &Job,
-    words: &mut P,
     all_traced: &mut Vec<TracedThread>,
     at: usize,
-) -> Result<Option<Cpu>, NoMemory>
+    value: u64,
+) -> Result<(), NoMemory>
     requires cores { AllTraced job.now all_traced.old.items }
     requires range { at < length all_traced.old.items }
     requires going { IsGoing (threads_of all_traced.old.items) at }
-    ensures step { IfOk result (λ child. machine (P.words words.new) (with_child (threads_of all_traced.new.items) (core_of child)) ≡ step job.now (machine (P.words words.old) (threads_of all_traced.old.items)) at) }
-    ensures set { OnOk result (IsSetAt all_traced.old.items all_traced.new.items at) }
+    ensures took { OnOk result (TookAt job.now all_traced.old.items all_traced.new.items at value) }
     ensures cores { OnOk result (AllTraced job.now all_traced.new.items) }
-    ensures born { IfOk result (λ child. IfSome child (IsCpu job.now)) }
-    ensures lives { IfOk result (λ child. IfSome child (λ (cpu : CpuData). cpu.core.over ≡ None)) }
-    ensures falls { IfOk result (λ _. left_among job.now all_traced.new.items < left_among job.now all_traced.old.items) }
 {
-    all_traced[at].step(alloc, job, words)
+    all_traced[at].take(alloc, job, value)
 }
 
 /// Keeps the numbers of the live threads, after the turn of one of them.
@@ -122,15 +128,19 @@ impl Guests {
         Ok(())
     }
 
-    /// The thread that an access bore, if any, is born.
-    fn bear_child(&mut self, alloc: Global, job: &Job, child: Option<Cpu>) -> Result<(), NoMemory>
-        requires born { IfSome child (IsCpu job.now) }
-        requires lives { IfSome child (λ (cpu : CpuData). cpu.core.over ≡ None) }
+    /// The thread that the next access of this one bears by this answer, if any, is born.
+    fn bear_by(&mut self, alloc: Global, job: &Job, at: usize, value: u64) -> Result<(), NoMemory>
         requires guests { AreGuests job.now self.old.all.items self.old.live.items }
-        ensures all { OnOk result (self.new.all.items ≡ with_traced self.old.all.items child) }
+        requires range { at < length self.old.all.items }
+        requires going { IsGoing (threads_of self.old.all.items) at }
+        ensures bore { OnOk result (BoreAt job.now self.old.all.items self.new.all.items at value) }
         ensures guests { OnOk result (AreGuests job.now self.new.all.items self.new.live.items) }
     {
-        match child {
+        let parent = &self.all[at];
+        if !parent.bears(job, value) {
+            return Ok(());
+        }
+        match parent.child(job, value) {
             Some(cpu) => self.bear(alloc, job, cpu),
             None => Ok(()),
         }
@@ -153,8 +163,9 @@ impl Guests {
         ensures falls { OnOk result (left_to job.now self.new.all.items < left_to job.now self.old.all.items) }
         ensures turned { OnOk result (IsTurned (threads_of self.old.all.items) (threads_of self.new.all.items) at) }
     {
-        let child = step(alloc, job, words, &mut self.all, at)?;
-        keep_live(alloc, &mut self.live, &self.all, at)?;
-        self.bear_child(alloc, job, child)
+        let value = ask(job, words, &self.all, at);
+        self.bear_by(alloc, job, at, value)?;
+        take(alloc, job, &mut self.all, at, value)?;
+        keep_live(alloc, &mut self.live, &self.all, at)
     }
 }

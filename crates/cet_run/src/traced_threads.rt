@@ -1,11 +1,10 @@
 //! A thread with its records.
 
-ghost use Rattle.std.specs.Prelude.{◌≡◌, [], Some, None, OnOk, IfOk, IfSome};
-ghost use Rattle.cet_words.specs.Access.{answer, after};
-ghost use Rattle.cet_words.specs.declared.accesses.Access.{Access};
-ghost use Rattle.cet_page.specs.Core.{next_access};
+ghost use Rattle.std.specs.Prelude.{◌≡◌, [], false, None, OnOk, IfSome};
+ghost use Rattle.cet_page.specs.Core.{taken};
+ghost use Rattle.cet_page.specs.Machine.{thread_after};
 ghost use Rattle.cet_cpu.specs.Cpu.{IsCpu};
-ghost use Rattle.cet_run.specs.TracedThreads.{Stepped, thread_of};
+ghost use Rattle.cet_run.specs.TracedThreads.{Asked, core_of, thread_of};
 ghost use Rattle.cet_run.specs.Outcome.{thread_out};
 
 use crate::outcomes::{Records, ThreadOut};
@@ -71,28 +70,47 @@ impl TracedThread {
         ThreadOut { records, end }
     }
 
-    /// The thread makes its next access on the words, and answers the thread that this bears, if any.
-    pub fn step<P: Perform>(
-        &mut self,
-        alloc: Global,
-        job: &Job,
-        words: &mut P,
-    ) -> Result<Option<Cpu>, NoMemory>
-        requires state { IsCpu job.now self.old.cpu }
-        requires going { self.old.cpu.core.over ≡ None }
-        ensures step { (a : Access) × (next_access job.now self.old.cpu.core ≡ Some a) × (P.words words.new ≡ after (P.words words.old) a)
-            × IfOk result (λ child. Stepped job.now self.old self.new (answer (P.words words.old) a) child) }
-        ensures state { OnOk result (IsCpu job.now self.new.cpu) }
-        ensures born { IfOk result (λ child. IfSome child (IsCpu job.now)) }
+    /// What the words answer to the thread's next access.
+    pub fn ask<P: Perform>(&self, job: &Job, words: &mut P) -> u64
+        requires state { IsCpu job.now self.now.cpu }
+        requires going { self.now.cpu.core.over ≡ None }
+        ensures { Asked job.now self.now (P.words words.old) (P.words words.new) result }
     {
         let Some(access) = self.cpu.next(job) else {
             unreachable!()
         };
-        let value = words.perform(access);
-        let taken = self.cpu.take(job, value);
-        if let Some(noted) = taken.noted {
+        words.perform(access)
+    }
+
+    /// Whether a thread is born where the next access has this answer.
+    pub fn bears(&self, job: &Job, value: u64) -> bool
+        requires state { IsCpu job.now self.now.cpu }
+        requires going { self.now.cpu.core.over ≡ None }
+        ensures { result ≡ false → (taken job.now self.now.cpu.core value).child ≡ None }
+    {
+        self.cpu.bears(job, value)
+    }
+
+    /// The thread that is born where the next access has this answer, if any.
+    pub fn child(&self, job: &Job, value: u64) -> Option<Cpu>
+        requires state { IsCpu job.now self.now.cpu }
+        requires going { self.now.cpu.core.over ≡ None }
+        ensures child { core_of result ≡ (taken job.now self.now.cpu.core value).child }
+        ensures born { IfSome result (IsCpu job.now) }
+    {
+        self.cpu.child(job, value)
+    }
+
+    /// The thread takes the answer to its next access, and keeps the record that this completes, if any.
+    pub fn take(&mut self, alloc: Global, job: &Job, value: u64) -> Result<(), NoMemory>
+        requires state { IsCpu job.now self.old.cpu }
+        requires going { self.old.cpu.core.over ≡ None }
+        ensures took { OnOk result (thread_of self.new ≡ thread_after (thread_of self.old) (taken job.now self.old.cpu.core value)) }
+        ensures state { OnOk result (IsCpu job.now self.new.cpu) }
+    {
+        if let Some(noted) = self.cpu.accept(job, value) {
             self.records.push(alloc, noted)?;
         }
-        Ok(taken.child)
+        Ok(())
     }
 }

@@ -19,16 +19,19 @@ use Rattle.cet_elf.specs.Rules.{breach}
 use Rattle.cet_elf.specs.Written.{written}
 use Rattle.cet_own.specs.Event.{book_of}
 use Rattle.cet_page.specs.Machine.{Machine, Starts, machine, run}
-use Rattle.cet_top.specs.Answer.{Answers, Assembles, Faults, Refuses, Reports, Runs, Turns, by_plan, job_of, status_of}
+use Rattle.cet_top.specs.Answer.{Answers, Faults, Measured, Measures, Refuses, Reports, Runs, Turns, by_plan, job_of, source_of, status_of, with_runtime}
 use Rattle.cet_top.specs.Listing.{Instruction, IsCut, IsFirst, IsListing, Lists, ListsIf, Lone, Piece, piece_bytes, piece_lines}
-use Rattle.cet_top.specs.Report.{report_of}
+use Rattle.cet_ctx.specs.Bench.{bench}
+use Rattle.cet_trace.specs.Report.{report_of}
+use Rattle.cet_trace.specs.Summary.{summary_of}
 use Rattle.cet_run.specs.SafeRun.{SafeRun, outcome_of}
 use Rattle.cet_run.specs.Schedule.{ByRobin}
 use Rattle.cet_run.specs.declared.outcomes.Outcome.{Outcome}
-use Rattle.cet_top.specs.declared.styles.Style.TheVariants as style
+use Rattle.cet_base.specs.declared.styles.Style.{Style}
 use Rattle.cet_top.specs.declared.status.Status.{Status}
 use Rattle.cet_top.specs.declared.status.Status.TheVariants as status
 use Rattle.cet_cli.specs.Settings.{SettingsData}
+use Rattle.cet_cli.specs.Words.{default_settings}
 use Rattle.cet_cli.specs.declared.options.Plan.{Plan}
 use Rattle.cet_cli.specs.declared.options.Plan.TheVariants.{Mix, Schedule}
 use Rattle.cet_cli.specs.declared.words.Command.{Command}
@@ -150,11 +153,11 @@ run_same job Turned o p one a b =
     let book : a.book ≡ b.book = cc in
     a.is ∙ ap (λ m. outcome_of (run job m a.turns) a.book) start ∙ ap (λ t. outcome_of (run job b.start t) a.book) turns ∙ ap (outcome_of (run job b.start b.turns)) book ∙ sym b.is
 
-reported_same : (job : JobData) (Turned : Machine → List ℕ → Type 0) (s t : Status) (x y : List ℕ) → OneList Turned → Reports job Turned style.Full s x → Reports job Turned style.Full t y → One s t x y
-reported_same job Turned s t x y one a b =
+reported_same : (job : JobData) (Turned : Machine → List ℕ → Type 0) (kind : Style) (s t : Status) (x y : List ℕ) → OneList Turned → Reports job Turned kind s x → Reports job Turned kind t y → One s t x y
+reported_same job Turned kind s t x y one a b =
     let same = run_same job Turned a.outcome b.outcome one a.ran b.ran in (
       a.told.ends ∙ ap (λ (o : Outcome). status_of o.process) same ∙ sym b.told.ends,
-      a.told.reports ∙ ap (λ (o : Outcome). report_of o style.Full) same ∙ sym b.told.reports,
+      a.told.reports ∙ ap (λ (o : Outcome). report_of o kind) same ∙ sym b.told.reports,
     )
 
 planned_same : (job : JobData) (plan : Plan) → OneList (by_plan plan job)
@@ -162,10 +165,25 @@ planned_same job (Schedule given) m xs ys a b = full_same job m given xs ys a b
 planned_same job (Mix number) m xs ys a b = mix_same job m number xs ys a b
 
 runs_same : (settings : SettingsData) (by : Turns) (bytes : List ℕ) (s t : Status) (x y : List ℕ) → OneList (by (job_of settings bytes))
-    → Refuses bytes s x ⊎ Runs by style.Full settings bytes s x → Refuses bytes t y ⊎ Runs by style.Full settings bytes t y → One s t x y
+    → Refuses bytes s x ⊎ Runs by settings bytes s x → Refuses bytes t y ⊎ Runs by settings bytes t y → One s t x y
 runs_same settings by bytes s t x y one a b = elim a [
   | inl r ↦ elim b [ inl q ↦ refused_same bytes s t x y r q | inr q ↦ absurd (not_both bytes s x r q.accepted) ]
-  | inr r ↦ elim b [ inl q ↦ absurd (not_both bytes t y q r.accepted) | inr q ↦ reported_same (job_of settings bytes) (by (job_of settings bytes)) s t x y one r.reported q.reported ]
+  | inr r ↦ elim b [ inl q ↦ absurd (not_both bytes t y q r.accepted) | inr q ↦ reported_same (job_of settings bytes) (by (job_of settings bytes)) settings.style s t x y one r.reported q.reported ]
+]
+
+-- ---- the bench
+
+measured_same : (n : ℕ) (job : JobData) (s t : Status) (x y : List ℕ) → Measured n job s x → Measured n job t y → One s t x y
+measured_same n job s t x y a b =
+    let same = run_same job (ByRobin job) a.outcome b.outcome (λ m xs ys r q. robin_same job m None xs ys r q) a.ran b.ran in (
+      a.ends ∙ ap (λ (o : Outcome). status_of o.process) same ∙ sym b.ends,
+      a.told ∙ ap (λ (o : Outcome). summary_of n o) same ∙ sym b.told,
+    )
+
+measures_same : (n : ℕ) (bytes : List ℕ) (s t : Status) (x y : List ℕ) → Refuses bytes s x ⊎ Measures n bytes s x → Refuses bytes t y ⊎ Measures n bytes t y → One s t x y
+measures_same n bytes s t x y a b = elim a [
+  | inl r ↦ elim b [ inl q ↦ refused_same bytes s t x y r q | inr q ↦ absurd (not_both bytes s x r q.accepted) ]
+  | inr r ↦ elim b [ inl q ↦ absurd (not_both bytes t y q r.accepted) | inr q ↦ measured_same n (job_of default_settings bytes) s t x y r.measured q.measured ]
 ]
 
 -- ---- programs
@@ -195,8 +213,8 @@ fault_same bytes s t x y a b =
     let rules : a.rule ≡ b.rule = ap rule_in both in
     (a.refused ∙ ap (λ n. status.AsmRefused n a.rule) lines ∙ ap (status.AsmRefused b.line) rules ∙ sym b.refused, a.nothing ∙ sym b.nothing)
 
-not_assembled : (bytes : List ℕ) (s t : Status) (x y : List ℕ) → Faults bytes s x → Assembles bytes t y → ⊥
-not_assembled bytes s t x y a b = (let never = sym b.assembled.sound ∙ a.broken in cc)
+not_sound : (text : List ℕ) (s : Status) (x : List ℕ) → Faults text s x → (p : Program) → IsProgram text p → ⊥
+not_sound text s x a p b = (let never = sym b.sound ∙ a.broken in cc)
 
 -- ---- every command
 
@@ -211,10 +229,18 @@ answers_same command.Check bytes s t x y a b = elim a [
   | inl r ↦ elim b [ inl q ↦ refused_same bytes s t x y r q | inr q ↦ absurd (not_both bytes s x r q.accepted) ]
   | inr r ↦ elim b [ inl q ↦ absurd (not_both bytes t y q r.accepted) | inr q ↦ (r.done ∙ sym q.done, r.told ∙ sym q.told) ]
 ]
-answers_same command.Asm bytes s t x y a b = elim a [
-  | inl r ↦ elim b [ inl q ↦ fault_same bytes s t x y r q | inr q ↦ absurd (not_assembled bytes s t x y r q) ]
+answers_same (command.Bench n) bytes s t x y a b = elim a [
+  | inl r ↦ elim b [ inl q ↦ fault_same (with_runtime (bench n)) s t x y r q | inr q ↦ absurd (not_sound (with_runtime (bench n)) s x r q.program q.assembled) ]
   | inr r ↦ elim b [
-    | inl q ↦ absurd (not_assembled bytes t s y x q r)
-    | inr q ↦ (r.done ∙ sym q.done, r.file ∙ ap written (program_same bytes r.program q.program r.assembled q.assembled) ∙ sym q.file)
+    | inl q ↦ absurd (not_sound (with_runtime (bench n)) t y q r.program r.assembled)
+    | inr q ↦ measures_same n (written q.program) s t x y
+        (subst (λ (p : Program). Refuses (written p) s x ⊎ Measures n (written p) s x) (program_same (with_runtime (bench n)) r.program q.program r.assembled q.assembled) r.ran) q.ran
+  ]
+]
+answers_same (command.Asm with) bytes s t x y a b = elim a [
+  | inl r ↦ elim b [ inl q ↦ fault_same (source_of with bytes) s t x y r q | inr q ↦ absurd (not_sound (source_of with bytes) s x r q.program q.assembled) ]
+  | inr r ↦ elim b [
+    | inl q ↦ absurd (not_sound (source_of with bytes) t y q r.program r.assembled)
+    | inr q ↦ (r.done ∙ sym q.done, r.file ∙ ap written (program_same (source_of with bytes) r.program q.program r.assembled q.assembled) ∙ sym q.file)
   ]
 ]

@@ -1,5 +1,5 @@
 -- The reads of a source, one after another.
-use Rattle.std.proofs.Common.{ℕ, ◌+◌, ◌<◌, ◌≤◌, ◌≡◌, false, true, nat_lt, List, [], ◌++◌, length, take, Option, Some, None, Ok, Err, refl, sym, ◌∙◌, ap, subst, arith}
+use Rattle.std.proofs.Common.{ℕ, ◌+◌, ◌<◌, ◌≤◌, ◌≡◌, Bool, false, true, nat_lt, List, [], ◌++◌, length, take, Option, Some, None, Ok, Err, refl, sym, ◌∙◌, ap, subst, arith}
 use Rattle.std.specs.Prelude.{IfSome}
 use Rattle.std.proofs.Math.Bool.{and-false}
 use Rattle.std.proofs.lemmas.Bool.{lt-ltb, ne_eqb}
@@ -8,6 +8,7 @@ use Rattle.std.specs.Io.KnownBytes.{Consumes, IsAtEnd}
 use Rattle.cet_top.proofs.Known.{Consumes-more, rose_later, rose_more, rose_none}
 use Rattle.cet_io.specs.Stream.{CountsFaults, Rose, RoseBy, Tally, TakesUpTo, added, counted, is_end, raised, tallied}
 use Rattle.cet_top.specs.Reading.{SourceState, TakesAll, CountsBy, TalliesBy, NoneFailed, ReadToEnd, ReadUntilFault, ReadTooMuch, ReadSome}
+use Rattle.cet_top.specs.Serves.{Takes, TakesSome}
 
 -- reads gave these bytes so far; none failed or found the end
 pub record Reading (src src' : SourceState) (bytes : List ℕ) : Type 0 where
@@ -132,7 +133,7 @@ taken_all (Some p) None xs all = absurd all
 taken_all (Some p) (Some q) xs all = sym all.0 ∙ sym (append-nil xs) ∙ ap (λ (l : List ℕ). xs ++ l) (sym all.1)
 
 -- all that was read is some of it
-pub all_is_some : (src src' : SourceState) (bytes : List ℕ) → ReadToEnd src src' bytes → ReadSome src src'
+all_is_some : (src src' : SourceState) (bytes : List ℕ) → ReadToEnd src src' bytes → ReadSome src src'
 all_is_some src src' bytes r = record {
   bytes = bytes;
   taken = taken_all src.left src'.left bytes r.all;
@@ -141,3 +142,8 @@ all_is_some src src' bytes r = record {
   reads = r.reads;
   calm = r.calm;
 }
+
+-- all that was taken is some of it, too
+pub taken_is_some : (reads : Bool) (src src' : SourceState) (bytes : List ℕ) → Takes reads src src' bytes → TakesSome reads src src'
+taken_is_some true src src' bytes r = all_is_some src src' bytes r
+taken_is_some false src src' bytes r = r.0

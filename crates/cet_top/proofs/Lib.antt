@@ -1,4 +1,3 @@
-mod Appended
 mod Listed
 mod Known
 mod InputReads

@@ -3,7 +3,7 @@ use Rattle.std.proofs.Common.{◌≡◌, ℕ, ◌<◌, ◌≤◌, arith, Bool, t
 use Rattle.std.specs.Prelude.{IfSome}
 use Rattle.std.specs.Io.KnownBytes.{Appends, Consumes}
 use Rattle.cet_top.specs.Answer.{Answers, reads, status_of}
-use Rattle.cet_top.specs.Serves.{Answering, Answered, Completes, CountsTooMuch, Cut, GaveTooMuch, IsAnswered, LostTooMuch, Serves, SinkState, Takes, Wrote}
+use Rattle.cet_top.specs.Serves.{Answering, Answered, Completes, CountsTooMuch, Cut, GaveTooMuch, IsAnswered, LostTooMuch, Serves, SinkState, Takes, TakesSome, Wrote}
 use Rattle.cet_io.specs.Stream.{AppendsSome, Rose, RoseBy, Tally}
 use Rattle.cet_top.specs.Reading.{ReadSome, ReadToEnd, ReadTooMuch, ReadUntilFault, SourceState, TakesAll, TalliesBy}
 use Rattle.cet_cli.specs.Words.{Means}
@@ -34,9 +34,16 @@ no_usage command.Dis bytes output n a = elim a [
   | inl r ↦ (let e = r.refused in cc)
   | inr r ↦ (let e = r.done in cc)
 ]
-no_usage command.Asm bytes output n a = elim a [
+no_usage (command.Asm with) bytes output n a = elim a [
   | inl r ↦ (let e = r.refused in cc)
   | inr r ↦ (let e = r.done in cc)
+]
+no_usage (command.Bench m) bytes output n a = elim a [
+  | inl r ↦ (let e = r.refused in cc)
+  | inr b ↦ elim b.ran [
+    | inl r ↦ (let e = r.refused in cc)
+    | inr r ↦ run_no_usage r.measured.outcome.process n r.measured.ends
+  ]
 ]
 no_usage command.Check bytes output n a = elim a [
   | inl r ↦ (let e = r.refused in cc)
@@ -68,18 +75,25 @@ answer_is_answered command.Dis bytes output s a = elim a [
   | inl r ↦ subst IsAnswered (sym r.refused) tt
   | inr r ↦ subst IsAnswered (sym r.done) tt
 ]
-answer_is_answered command.Asm bytes output s a = elim a [
+answer_is_answered (command.Asm with) bytes output s a = elim a [
   | inl r ↦ subst IsAnswered (sym r.refused) tt
   | inr r ↦ subst IsAnswered (sym r.done) tt
+]
+answer_is_answered (command.Bench m) bytes output s a = elim a [
+  | inl r ↦ subst IsAnswered (sym r.refused) tt
+  | inr b ↦ elim b.ran [
+    | inl r ↦ subst IsAnswered (sym r.refused) tt
+    | inr r ↦ subst IsAnswered (sym r.measured.ends) (run_answered r.measured.outcome.process)
+  ]
 ]
 answer_is_answered command.Check bytes output s a = elim a [
   | inl r ↦ subst IsAnswered (sym r.refused) tt
   | inr r ↦ subst IsAnswered (sym r.done) tt
 ]
 
--- each way in which a command that reads ends, with its cause
-module _ (Answer : Answering) (src src' : SourceState) (sink : SinkState) where
-  pub serves_no_memory : ReadSome src src' → src.faults ≤ src'.faults → Serves true Answer src src' sink sink status.NoMemory
+-- each way in which a command ends, with its cause
+module _ (reads : Bool) (Answer : Answering) (src src' : SourceState) (sink : SinkState) where
+  pub serves_no_memory : TakesSome reads src src' → src.faults ≤ src'.faults → Serves reads Answer src src' sink sink status.NoMemory
   serves_no_memory some later = record {
     answered = λ a. absurd a;
     write_fault = λ e. absurd (let no : ⊥ = cc in no);
@@ -90,30 +104,30 @@ module _ (Answer : Answering) (src src' : SourceState) (sink : SinkState) where
     sink_later = omega arith;
   }
 
-  pub serves_read_fault : ReadUntilFault src src' → src.faults ≤ src'.faults → Serves true Answer src src' sink sink status.ReadFault
+  pub serves_read_fault : (reads ≡ true) × ReadUntilFault src src' → src.faults ≤ src'.faults → Serves reads Answer src src' sink sink status.ReadFault
   serves_read_fault fault later = record {
     answered = λ a. absurd a;
     write_fault = λ e. absurd (let no : ⊥ = cc in no);
-    read_fault = λ e. (refl, fault, refl);
+    read_fault = λ e. (fault.0, fault.1, refl);
     too_long = λ e. absurd (let no : ⊥ = cc in no);
     no_memory = λ e. absurd (let no : ⊥ = cc in no);
     src_later = later;
     sink_later = omega arith;
   }
 
-  pub serves_too_long : ReadTooMuch src src' → src.faults ≤ src'.faults → Serves true Answer src src' sink sink status.TooLong
+  pub serves_too_long : (reads ≡ true) × ReadTooMuch src src' → src.faults ≤ src'.faults → Serves reads Answer src src' sink sink status.TooLong
   serves_too_long much later = record {
     answered = λ a. absurd a;
     write_fault = λ e. absurd (let no : ⊥ = cc in no);
     read_fault = λ e. absurd (let no : ⊥ = cc in no);
-    too_long = λ e. (refl, much, refl);
+    too_long = λ e. (much.0, much.1, refl);
     no_memory = λ e. absurd (let no : ⊥ = cc in no);
     src_later = later;
     sink_later = omega arith;
   }
 
-module _ (Answer : Answering) (src src' : SourceState) (sink sink' : SinkState) (bytes output : List ℕ) (s : Status) where
-  pub serves_written : IsAnswered s → ReadToEnd src src' bytes → Answer bytes s output → Wrote sink sink' output → src.faults ≤ src'.faults → sink.faults ≤ sink'.faults → Serves true Answer src src' sink sink' s
+module _ (reads : Bool) (Answer : Answering) (src src' : SourceState) (sink sink' : SinkState) (bytes output : List ℕ) (s : Status) where
+  pub serves_written : IsAnswered s → Takes reads src src' bytes → Answer bytes s output → Wrote sink sink' output → src.faults ≤ src'.faults → sink.faults ≤ sink'.faults → Serves reads Answer src src' sink sink' s
   serves_written is whole answer wrote src_later sink_later = record {
     answered = λ a. record { output = output; read = record { bytes = bytes; whole = whole; answer = answer }; written = wrote };
     write_fault = λ e. absurd (subst IsAnswered e is);
@@ -124,8 +138,8 @@ module _ (Answer : Answering) (src src' : SourceState) (sink sink' : SinkState) 
     sink_later = sink_later;
   }
 
-  pub serves_cut : ReadToEnd src src' bytes → Answer bytes s output → 0 < length output → AppendsSome sink.written sink'.written output →
-      Rose sink.faults sink'.faults → src.faults ≤ src'.faults → sink.faults ≤ sink'.faults → Serves true Answer src src' sink sink' status.WriteFault
+  pub serves_cut : Takes reads src src' bytes → Answer bytes s output → 0 < length output → AppendsSome sink.written sink'.written output →
+      Rose sink.faults sink'.faults → src.faults ≤ src'.faults → sink.faults ≤ sink'.faults → Serves reads Answer src src' sink sink' status.WriteFault
   serves_cut whole answer some part cause src_later sink_later = record {
     answered = λ a. absurd a;
     write_fault = λ e. record { status = s; output = output; read = record { bytes = bytes; whole = whole; answer = answer }; some = some; written = part; cause = cause };
@@ -135,17 +149,6 @@ module _ (Answer : Answering) (src src' : SourceState) (sink sink' : SinkState) 
     src_later = src_later;
     sink_later = sink_later;
   }
-
--- each command reads
-pub reads_all : (c : Command) → reads c ≡ true
-reads_all (command.Run settings) = refl
-reads_all (command.Replay settings plan) = refl
-reads_all command.Dis = refl
-reads_all command.Asm = refl
-reads_all command.Check = refl
-
-pub serves_all : (c : Command) (src src' : SourceState) (sink sink' : SinkState) (s : Status) → Serves true (Answers c) src src' sink sink' s → Serves (reads c) (Answers c) src src' sink sink' s
-serves_all c src src' sink sink' s h = subst (λ b. Serves b (Answers c) src src' sink sink' s) (sym (reads_all c)) h
 
 -- output that was appended by writes that didn't fail, where without any the sink wasn't used
 pub wrote_by : (sink sink' : SinkState) (output : List ℕ) → Appends sink.written sink'.written output → sink'.faults ≡ sink.faults → (length output ≡ 0 → sink' ≡ sink) → Wrote sink sink' output
@@ -267,10 +270,11 @@ untouched src = record {
   calm = still_faults src.tally src.faults;
 }
 
+-- nothing was taken
+takes_none : (reads : Bool) (src : SourceState) → TakesSome reads src src
+takes_none true src = untouched src
+takes_none false src = refl
+
 -- nothing was read or written
 pub none_read : (c : Command) (src : SourceState) (sink : SinkState) → Serves (reads c) (Answers c) src src sink sink status.NoMemory
-none_read (command.Run settings) src sink = serves_no_memory (Answers (command.Run settings)) src src sink (untouched src) (omega arith)
-none_read (command.Replay settings plan) src sink = serves_no_memory (Answers (command.Replay settings plan)) src src sink (untouched src) (omega arith)
-none_read command.Dis src sink = serves_no_memory (Answers command.Dis) src src sink (untouched src) (omega arith)
-none_read command.Asm src sink = serves_no_memory (Answers command.Asm) src src sink (untouched src) (omega arith)
-none_read command.Check src sink = serves_no_memory (Answers command.Check) src src sink (untouched src) (omega arith)
+none_read c src sink = serves_no_memory (reads c) (Answers c) src src sink (takes_none (reads c) src) (omega arith)

@@ -1,29 +1,32 @@
 -- What a command answers: its status and its output, by the words and the bytes of the source. Source: own.
-use Rattle.std.specs.Prelude.{◌≡◌, ℕ, ◌⊎◌, Bool, true, List, [], ◌∷◌, ◌++◌, codes}
+use Rattle.std.specs.Prelude.{◌≡◌, ℕ, ◌⊎◌, Bool, true, false, List, [], ◌∷◌, ◌++◌, codes}
 use Rattle.cet_words.specs.Job.{ImageData, JobData}
 use Rattle.cet_asm.specs.Program.{IsProgram, IsFirstFault}
 use Rattle.cet_asm.specs.declared.program.Program.{Program}
+use Rattle.cet_ctx.specs.Bench.{bench}
+use Rattle.cet_ctx.specs.Runtime.{runtime}
 use Rattle.cet_elf.specs.Accepts.{Accepts, FirstBroken, image_of}
 use Rattle.cet_elf.specs.Written.{written}
 use Rattle.cet_page.specs.Machine.{Machine}
 use Rattle.cet_top.specs.Listing.{IsListing}
-use Rattle.cet_top.specs.Report.{report_of}
+use Rattle.cet_trace.specs.Report.{report_of}
+use Rattle.cet_trace.specs.Summary.{summary_of}
 use Rattle.cet_run.specs.SafeRun.{SafeRun}
 use Rattle.cet_run.specs.Schedule.{ByRobin, IsFull, IsMix}
 use Rattle.cet_cli.specs.Settings.{SettingsData}
+use Rattle.cet_cli.specs.Words.{default_settings}
 use Rattle.cet_run.specs.declared.outcomes.Outcome.{Outcome}
 use Rattle.cet_run.specs.declared.outcomes.ProcessEnd.{ProcessEnd}
 use Rattle.cet_run.specs.declared.outcomes.ProcessEnd.TheVariants as process
-use Rattle.cet_top.specs.declared.styles.Style.{Style}
-use Rattle.cet_top.specs.declared.styles.Style.TheVariants as style
+use Rattle.cet_base.specs.declared.styles.Style.{Style}
 use Rattle.cet_top.specs.declared.status.Status.{Status}
 use Rattle.cet_top.specs.declared.status.Status.TheVariants as status
 use Rattle.cet_cli.specs.declared.options.Plan.{Plan}
 use Rattle.cet_cli.specs.declared.options.Plan.TheVariants.{Mix, Schedule}
 use Rattle.cet_cli.specs.declared.words.Command.{Command}
-use Rattle.cet_cli.specs.declared.words.Command.TheVariants.{Run, Replay, Dis, Asm, Check}
-use Rattle.cet_top.specs.declared.commands.Course.{Course}
-use Rattle.cet_top.specs.declared.commands.Course.TheVariants as course
+use Rattle.cet_cli.specs.declared.words.Command.TheVariants.{Run, Replay, Dis, Asm, Check, Bench}
+use Rattle.cet_top.specs.declared.runs.Course.{Course}
+use Rattle.cet_top.specs.declared.runs.Course.TheVariants as course
 
 -- the job of an image by these settings
 abbrev pub job_with : SettingsData → ImageData → JobData
@@ -70,10 +73,10 @@ abbrev pub by_course : Course → Turns
 by_course course.Robin job start turns = ByRobin job start turns
 by_course (course.Planned plan) job start turns = by_plan plan.now job start turns
 
--- a file that is accepted runs by these settings with these turns, and is reported in this style
-pub record Runs (by : Turns) (style : Style) (settings : SettingsData) (bytes : List ℕ) (s : Status) (output : List ℕ) : Type 0 where
+-- a file that is accepted runs by these settings with these turns, and is reported in their style
+pub record Runs (by : Turns) (settings : SettingsData) (bytes : List ℕ) (s : Status) (output : List ℕ) : Type 0 where
   pub accepted : Accepts bytes
-  pub reported : Reports (job_of settings bytes) (by (job_of settings bytes)) style s output
+  pub reported : Reports (job_of settings bytes) (by (job_of settings bytes)) settings.style s output
 
 -- a file that is accepted is listed
 pub record Disassembles (bytes : List ℕ) (s : Status) (output : List ℕ) : Type 0 where
@@ -102,17 +105,48 @@ pub record Assembles (bytes : List ℕ) (s : Status) (output : List ℕ) : Type 
   pub done : s ≡ status.Done
   pub file : output ≡ written program
 
--- each command reads the source
+-- ---- the runtime
+
+-- the text, a newline, and the runtime
+abbrev pub with_runtime : (text : List ℕ) → List ℕ
+with_runtime text = text ++ 10 ∷ runtime
+
+-- the text that is assembled: the given one, with the runtime behind it or without
+abbrev pub source_of : (with : Bool) → (text : List ℕ) → List ℕ
+source_of true text = with_runtime text
+source_of false text = text
+
+-- the status of a run of the job, the live threads in turn, and the line that tells of it
+pub record Measured (n : ℕ) (job : JobData) (s : Status) (output : List ℕ) : Type 0 where
+  pub outcome : Outcome
+  pub ran : SafeRun job (ByRobin job) outcome
+  pub ends : s ≡ status_of outcome.process
+  pub told : output ≡ summary_of n outcome
+
+-- a file that is accepted runs by the default settings
+pub record Measures (n : ℕ) (bytes : List ℕ) (s : Status) (output : List ℕ) : Type 0 where
+  pub accepted : Accepts bytes
+  pub measured : Measured n (job_of default_settings bytes) s output
+
+-- The program of a text that breaks no rule is run as the file of any program is: where the loader refuses it that is told.
+pub record Benches (n : ℕ) (text : List ℕ) (s : Status) (output : List ℕ) : Type 0 where
+  pub program : Program
+  pub assembled : IsProgram text program
+  pub ran : Refuses (written program) s output ⊎ Measures n (written program) s output
+
+-- each command but the bench reads the source
 abbrev pub reads : Command → Bool
 reads (Run settings) = true
 reads (Replay settings plan) = true
 reads Dis = true
-reads Asm = true
+reads (Asm with) = true
 reads Check = true
+reads (Bench n) = false
 
 abbrev pub Answers : Command → (bytes : List ℕ) → Status → (output : List ℕ) → Type 0
-Answers (Run settings) bytes s output = Refuses bytes s output ⊎ Runs ByRobin style.Full settings bytes s output
-Answers (Replay settings plan) bytes s output = Refuses bytes s output ⊎ Runs (by_plan plan) style.Full settings bytes s output
+Answers (Run settings) bytes s output = Refuses bytes s output ⊎ Runs ByRobin settings bytes s output
+Answers (Replay settings plan) bytes s output = Refuses bytes s output ⊎ Runs (by_plan plan) settings bytes s output
 Answers Dis bytes s output = Refuses bytes s output ⊎ Disassembles bytes s output
-Answers Asm bytes s output = Faults bytes s output ⊎ Assembles bytes s output
+Answers (Asm with) bytes s output = Faults (source_of with bytes) s output ⊎ Assembles (source_of with bytes) s output
 Answers Check bytes s output = Refuses bytes s output ⊎ Checks bytes s output
+Answers (Bench n) bytes s output = Faults (with_runtime (bench n)) s output ⊎ Benches n (with_runtime (bench n)) s output

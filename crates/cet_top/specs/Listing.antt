@@ -7,7 +7,7 @@ use Rattle.cet_isa.specs.declared.instructions.Instr.{Instr}
 use Rattle.cet_isa.specs.Spells.{Spells, Begins}
 use Rattle.cet_base.specs.Digits.{hex2, hex16}
 use Rattle.cet_encode.specs.Text.{text_of}
-use Rattle.cet_top.specs.Line.{line}
+use Rattle.cet_trace.specs.Line.{line}
 
 -- what a line shows: an instruction in one of its spellings, or a byte with which no instruction begins
 pub data Piece : Type 0 where

@@ -1,14 +1,16 @@
 //! What the program `cetvm` does, over a source of bytes and a sink of bytes.
 #![tactic(auto)]
 
+mod answers;
+mod assembling;
 mod commands;
 mod laws;
-mod lines;
 mod listing;
 #[cfg(test)]
 mod program_tests;
 mod programs;
-mod reports;
+mod runs;
+mod serving;
 mod status;
 #[cfg(test)]
 mod tests;

@@ -4,7 +4,7 @@ ghost use Rattle.std.specs.Prelude.{◌≡◌, false, ◌+◌, ◌^◌, ◌<◌,
 ghost use Rattle.std.specs.List.{flat_map};
 ghost use Rattle.cet_words.specs.Job.{IsSegment};
 ghost use Rattle.cet_base.specs.Digits.{hex2, hex16};
-ghost use Rattle.cet_top.specs.Line.{line, spaced};
+ghost use Rattle.cet_trace.specs.Line.{line, spaced};
 ghost use Rattle.cet_top.specs.Listing.{Instruction, IsFirst, IsListing, Lists, ListsIf, Lone, Piece, piece_bytes, piece_line, piece_text, segment_code};
 
 use cet_base::{hex2, hex16};
@@ -35,7 +35,7 @@ fn put_front(alloc: Global, out: &mut Bytes, addr: u64, bytes: &[u8]) -> Result<
 }
 
 /// Appends the line of an instruction.
-#[tactic(auto, unfolding(crate::specs::Line::line))]
+#[tactic(auto, unfolding(cet_trace::specs::Line::line))]
 fn put_instruction(
     alloc: Global,
     out: &mut Bytes,
@@ -59,7 +59,7 @@ fn put_byte(alloc: Global, out: &mut Bytes, byte: u8) -> Result<(), NoMemory>
 }
 
 /// Appends the line of such a byte.
-#[tactic(auto, unfolding(crate::specs::Line::line))]
+#[tactic(auto, unfolding(cet_trace::specs::Line::line))]
 fn put_lone(alloc: Global, out: &mut Bytes, addr: u64, byte: u8) -> Result<(), NoMemory>
     ensures { OnOk result (out.new ≡ out.old ++ piece_line addr (Lone byte)) }
 {

@@ -8,15 +8,15 @@ ghost use Rattle.cet_top.specs.Serves.{Completes, GaveTooMuch, IsUntouched, Serv
 ghost use Rattle.cet_cli.specs.Words.{IsCommand, Means};
 ghost use Rattle.cet_cli.specs.declared.words.Command.{Command};
 
-use crate::commands::serve;
+use crate::serving::serve;
 use crate::status::Status;
 use cet_cli::{CliFault, read_words};
 use cet_io::{Sink, Source};
 use std::alloc::Global;
 
-/// Carries out the command that the words are, on the bytes of a source, and writes its output to a
-/// sink. `run` runs the image that the source gives, the live threads in turn by their numbers and up
-/// to the limit of the words, and reports.
+/// Carries out the command that the words are, on the bytes of a source, and writes its output to a sink. `run` runs the image
+/// that the source gives, up to the limit of the words, the live threads in turn by their numbers, and reports in the style of
+/// the words. `replay` does so with the turns of a given schedule, or of a number. `bench` reads nothing.
 pub fn plain<S: Source, K: Sink>(
     alloc: Global,
     words: &[String],

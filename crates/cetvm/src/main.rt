@@ -1,13 +1,14 @@
 //! Runs x86-64 images whose returns are guarded by shadow stacks, and reports what they did.
 #![tactic(auto)]
 
+use cet_cli::help_text;
 use cet_io::{StdSink, StdSource};
 use cet_top::{Status, plain};
 use std::alloc::Global;
-use std::env;
 use std::env::Env;
 use std::io::ErrorKind;
 use std::process::ExitCode;
+use std::{env, io};
 
 /// The words behind the program's name. A word that isn't UTF-8 makes the first one faulty.
 fn command_words<R: Env + AllocGlobal>(rt: &R) -> Result<Vec<String>, Status> {
@@ -32,11 +33,20 @@ fn run(rt: &HostRuntime) -> Status {
     plain(rt.alloc(), &words, &mut source, &mut sink)
 }
 
+/// Prints the line of a status on standard error, and the help behind that of a faulty word. Nothing is printed for `Done`.
+fn tell(rt: &HostRuntime, status: Status) -> io::Result<()> {
+    if status != Status::Done {
+        eprintln!(rt; "{status}")?;
+    }
+    if let Status::Usage(_) = status {
+        eprint!(rt; "{}", help_text())?;
+    }
+    Ok(())
+}
+
 fn main(rt: HostRuntime) -> ExitCode {
     let status = run(&rt);
-    if status != Status::Done {
-        // Nothing is left to do where standard error fails.
-        let _ = eprintln!(rt; "{status}");
-    }
+    // Nothing is left to do where standard error fails.
+    let _ = tell(&rt, status);
     ExitCode::from(status.code())
 }

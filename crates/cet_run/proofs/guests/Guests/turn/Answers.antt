@@ -1,22 +1,32 @@
-use Rattle.std.proofs.Common.{◌≡◌, refl, sym, ap, subst, ◌∙◌}
+use Rattle.std.proofs.Common.{List, subst}
 use Rattle.std.proofs.lemmas.Result.{on_ok_weaker}
-use Rattle.cet_page.specs.Machine.{machine, step}
-use Rattle.cet_run.specs.TracedThreads.{TracedThreadData, left_to, threads_of, with_traced}
-use Rattle.cet_run.specs.Turns.{IsTurned}
-use Rattle.cet_run.proofs.Steps.{child_last, turned_is, whole_falls}
+use Rattle.cet_run.specs.TracedThreads.{AskedAt, TracedThreadData}
+use Rattle.cet_run.proofs.Steps.{TurnIs, going_with, turn_is, within_with}
 use Rattle.cet_run.proofs.guests.Guests.turn.Goals as goal
-use Rattle.std.proofs.Common.{List, ◌<◌}
+
+-- the thread is there and goes on, where another one came last
+pub take-requires-clause-range : goal.take-requires-clause-range
+take-requires-clause-range g c = within_with c.args.job.now c.args.self.now.all.items c.bear_by.new.self.all.items c.args.at c.ask-value.result c.in_ok-bear_by.ensures.bore
+
+pub take-requires-clause-going : goal.take-requires-clause-going
+take-requires-clause-going g c =
+    going_with c.args.job.now c.args.self.now.all.items c.bear_by.new.self.all.items c.args.at c.ask-value.result c.in_ok-bear_by.ensures.bore c.requires.going
+
+turn : (g : _) (c : goal.After-keep_live g) →
+    TurnIs c.args.job.now (g.P.Perform.words c.args.words.now) (g.P.Perform.words c.ask-value.new.words) c.args.self.now.all.items c.take.new.all_traced.items c.args.at
+turn g c =
+    let words = g.P.Perform.words c.args.words.now in
+    let words' = g.P.Perform.words c.ask-value.new.words in
+    let old = c.args.self.now.all.items in
+    let asked = subst (λ (l : List TracedThreadData). AskedAt c.args.job.now l c.args.at words words' c.ask-value.result) c.deref.ensures.value c.ask-value.ensures in
+    turn_is c.args.job.now words words' old c.bear_by.new.self.all.items c.take.new.all_traced.items c.args.at c.ask-value.result c.requires.reached c.requires.guests.cores
+    c.requires.going asked c.in_ok-bear_by.ensures.bore c.in_ok-take.ensures.took
+
+pub returns-clause-step : goal.returns-clause-step
+returns-clause-step g c = let t = turn g c in on_ok_weaker c.keep_live.result (λ _. t.stepped) c.keep_live.ensures
 
 pub returns-clause-falls : goal.returns-clause-falls
-returns-clause-falls g c =
-    on_ok_weaker c.bear_child.result (λ all.
-    let m = machine (g.P.Perform.words c.args.words.now) (threads_of c.args.self.now.all.items) in
-    let m' = machine (g.P.Perform.words c.step.new.words) (threads_of (with_traced c.step.new.all_traced.items c.in_ok-child.child)) in
-    let stepped : m' ≡ step c.args.job.now m c.args.at = ap (machine (g.P.Perform.words c.step.new.words)) (child_last c.step.new.all_traced.items c.in_ok-child.child) ∙ c.in_ok-child.ensures.step in
-    subst (λ (l : List TracedThreadData). left_to c.args.job.now l < left_to c.args.job.now c.args.self.now.all.items) (sym all)
-    (whole_falls c.args.job.now m m' c.args.self.now.all.items c.step.new.all_traced.items c.in_ok-child.child c.args.at c.requires.reached stepped refl c.in_ok-child.ensures.set c.in_ok-child.ensures.falls)) c.bear_child.ensures.all
+returns-clause-falls g c = let t = turn g c in on_ok_weaker c.keep_live.result (λ _. t.falls) c.keep_live.ensures
 
 pub returns-clause-turned : goal.returns-clause-turned
-returns-clause-turned g c =
-    on_ok_weaker c.bear_child.result (λ all. subst (λ (l : List TracedThreadData). IsTurned (threads_of c.args.self.now.all.items) (threads_of l) c.args.at) (sym all)
-    (turned_is c.args.self.now.all.items c.step.new.all_traced.items c.in_ok-child.child c.args.at c.in_ok-child.ensures.set)) c.bear_child.ensures.all
+returns-clause-turned g c = let t = turn g c in on_ok_weaker c.keep_live.result (λ _. t.turned) c.keep_live.ensures

@@ -1,4 +1,0 @@
-use Rattle.cet_top.proofs.commands.refused.Goals as goal
-
-pub returns : goal.returns
-returns c = (let nothing = c.new.ensures in cc)

@@ -1,7 +1,0 @@
-use Rattle.std.proofs.Common.{◌≡◌, ◌++◌, take}
-use Rattle.std.specs.List.{flat_map}
-use Rattle.cet_top.specs.Report.{entry_text}
-use Rattle.cet_top.proofs.reports.put_entries.Given as goal
-
-abbrev pub invariant-loop-word : goal.invariant-loop-word
-invariant-loop-word l = l.out ≡ l.initial.out ++ flat_map entry_text (take l.word-index l.words)

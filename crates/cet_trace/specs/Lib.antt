@@ -1,0 +1,3 @@
+pub mod Line
+pub mod Report
+pub mod Summary
