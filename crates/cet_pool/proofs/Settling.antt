@@ -18,9 +18,15 @@ use Rattle.cet_shared.specs.Held.{Held, IsOf, Place, Standing, first_of, first_v
 use Rattle.cet_pool.specs.declared.lives.Live.{Live}
 use Rattle.cet_pool.specs.declared.workers.Bin.{Bin}
 use Rattle.cet_pool.specs.Going.{Goes, IsLive, IsOver, IsReady, own}
-use Rattle.cet_pool.specs.Rounds.{AllOk, Answer, AnswersBin, Collected, HasEnded, IsGoing, Parted, Settled, Turned, outs_of, spread}
+use Rattle.cet_pool.specs.Rounds.{AllOk, Answer, Collected, HasEnded, IsGoing, Parted, Settled, Turned, outs_of, spread}
 use Rattle.cet_pool.proofs.Goings.{goes_as, goes_beside, goes_less, goes_none, goes_then}
 use Rattle.cet_pool.proofs.Dealing.{all_apart}
+
+-- ---- what a worker answers for its bin
+
+abbrev AnswersBin : Place → Bin → Answer → Type 0
+AnswersBin place b (Ok v) = Turned place b.lives.items v.items
+AnswersBin place b (Err e) = Unit {0}
 
 -- ---- a thread has ended, or goes on
 

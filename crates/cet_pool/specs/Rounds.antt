@@ -48,11 +48,6 @@ AllOk [] = Unit {0}
 AllOk (Ok v ∷ rs) = AllOk rs
 AllOk (Err e ∷ rs) = ⊥
 
--- what a worker answers for its bin
-abbrev pub AnswersBin : Place → Bin → Answer → Type 0
-AnswersBin place b (Ok v) = Turned place b.lives.items v.items
-AnswersBin place b (Err e) = Unit {0}
-
 -- ---- passes are laid aside
 
 -- its thread hasn't ended
