@@ -143,6 +143,9 @@ module _ (job : JobData) (place : Place) (done : Gathered) (words : List ℕ) (s
       is = s.is;
       safe = s.safe;
       stands = s.stands;
+      last = s.last;
+      switched = s.switched;
+      raises = s.raises;
       exit = s.exit;
     }
 
