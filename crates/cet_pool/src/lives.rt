@@ -1,0 +1,124 @@
+//! A pass with the records of its thread, and the accesses that it makes.
+
+ghost use Rattle.std.specs.Prelude.{◌≡◌, None, OnOk, IfOk, IfSome};
+ghost use Rattle.cet_cpu.specs.Cpu.{IsCpu};
+ghost use Rattle.cet_page.specs.Machine.{traced};
+ghost use Rattle.cet_page.specs.Within.{IsCore};
+ghost use Rattle.cet_pool.specs.Going.{Accessed, IsLive, IsReady, Went, own};
+
+use cet_cpu::{Cpu, Taken};
+use cet_isa::{End, Record};
+use cet_run::Records;
+use cet_shared::{Pass, Shared};
+use cet_words::{Job, NoMemory};
+use std::alloc::Global;
+
+/// A pass, and the records of its own thread.
+#[derive(Drop)]
+pub struct Live {
+    pub pass: Pass,
+    pub records: Records,
+}
+
+impl Live {
+    /// The number of its thread.
+    pub fn number(&self) -> u8
+        ensures { result ≡ (own self.now).core.arch.number }
+    {
+        self.pass.cpu().arch().number
+    }
+
+    /// The shadow-stack pointer of its thread.
+    pub fn ssp(&self) -> u64
+        ensures { result ≡ (own self.now).core.arch.ssp }
+    {
+        self.pass.cpu().arch().ssp
+    }
+
+    /// How its thread ended, or none where it hasn't.
+    pub fn end(&self) -> Option<End>
+        ensures end { result ≡ (own self.now).core.over }
+        ensures state { IsCore self.now.pass.view.job (own self.now).core }
+    {
+        self.pass.cpu().end()
+    }
+}
+
+/// Appends a record, if there is one.
+fn note(alloc: Global, records: &mut Records, noted: Option<Record>) -> Result<(), NoMemory>
+    ensures { OnOk result (records.new ≡ traced records.old noted) }
+{
+    match noted {
+        Some(record) => records.push(alloc, record),
+        None => Ok(()),
+    }
+}
+
+/// The next access, with its record. A child that it bore is handed on.
+fn access(
+    alloc: Global,
+    job: &Job,
+    shared: &Shared,
+    live: &mut Live,
+) -> Result<Option<Cpu>, NoMemory>
+    requires job { shared.now.job ≡ job.now }
+    requires ready { IsReady shared.now live.old }
+    ensures step { IfOk result (Accessed shared.now live.old live.new) }
+    ensures born { IfOk result (λ child. IfSome child (IsCpu job.now)) }
+{
+    let Taken {
+        noted,
+        child,
+        end: _,
+    } = shared.perform(job, &mut live.pass);
+    note(alloc, &mut live.records, noted)?;
+    Ok(child)
+}
+
+/// The next access. A child that it bore gets a pass.
+fn step(
+    alloc: Global,
+    job: &Job,
+    shared: &Shared,
+    live: &mut Live,
+    born: &mut Vec<Live>,
+) -> Result<(), NoMemory>
+    requires job { shared.now.job ≡ job.now }
+    requires ready { IsReady shared.now live.old }
+    ensures { OnOk result (Went shared.now 1 live.old live.new born.old.items born.new.items) }
+{
+    if let Some(child) = access(alloc, job, shared, live)? {
+        let pass = shared.split_child(&mut live.pass, child);
+        born.push(Live {
+            pass,
+            records: Records::new(alloc),
+        })?;
+    }
+    Ok(())
+}
+
+/// The accesses of a turn, at most.
+const TURN: u32 = 64;
+
+/// A turn: up to 64 accesses, and no more once the thread has ended.
+#[tactic(auto, using(crate::proofs::Steps::went_next))]
+pub fn turn(
+    alloc: Global,
+    job: &Job,
+    shared: &Shared,
+    live: &mut Live,
+    born: &mut Vec<Live>,
+) -> Result<(), NoMemory>
+    requires job { shared.now.job ≡ job.now }
+    requires ready { IsReady shared.now live.old }
+    ensures { OnOk result (Went shared.now 1 live.old live.new born.old.items born.new.items) }
+{
+    step(alloc, job, shared, live, born)?;
+    for _ in 1..TURN {
+        if live.end().is_some() {
+            break;
+        }
+        step(alloc, job, shared, live, born)?;
+    }
+    Ok(())
+}

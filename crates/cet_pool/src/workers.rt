@@ -1,0 +1,70 @@
+//! The turns of workers, each in a thread of its own.
+
+ghost use Rattle.std.specs.Prelude.{◌≡◌, ℕ, ◌<◌, All, IfOk, vec_len, slice_index_or};
+ghost use Rattle.cet_pool.specs.Going.{IsReady};
+ghost use Rattle.cet_pool.specs.Rounds.{IsReadyBin, Turned};
+
+use crate::lives::{Live, turn};
+use cet_shared::{Shared, Turnstile};
+use cet_words::{Job, NoMemory};
+use std::alloc::Global;
+use std::thread;
+use std::thread::Threads;
+
+/// The passes that a worker has in a round.
+#[derive(Drop)]
+pub struct Bin {
+    pub worker: u32,
+    pub lives: Vec<Live>,
+}
+
+/// Each pass of a worker has its turn.
+fn turns<G: Turnstile>(
+    alloc: Global,
+    job: &Job,
+    gate: &G,
+    shared: &Shared,
+    bin: Bin,
+) -> Result<Vec<Live>, NoMemory>
+    requires job { shared.now.job ≡ job.now }
+    requires ready { IsReadyBin shared.now bin }
+    ensures { IfOk result (λ out. Turned shared.now bin.lives.items out.items) }
+{
+    let Bin {
+        worker,
+        lives: mut waiting,
+    } = bin;
+    let mut had = Vec::new(alloc);
+    while let Some(mut live) = waiting.pop() {
+        gate.pass(worker, live.number());
+        turn(alloc, job, shared, &mut live, &mut had)?;
+        had.push(live)?;
+    }
+    Ok(had)
+}
+
+/// The turns of all workers, which are joined.
+pub fn all_turns<R: Threads + Sync, G: Turnstile + Sync>(
+    rt: &R,
+    alloc: Global,
+    job: &Job,
+    gate: &G,
+    shared: &Shared,
+    bins: Vec<Bin>,
+) -> Result<Vec<Result<Vec<Live>, NoMemory>>, NoMemory>
+    requires job { shared.now.job ≡ job.now }
+    requires ready { All (IsReadyBin shared.now) bins.items }
+    ensures len { IfOk result (λ v. vec_len v ≡ vec_len bins) }
+    ensures each { IfOk result (λ v. (i : ℕ) (b : _) (r : _) → i < vec_len bins →
+        IfOk (slice_index_or v.items i r) (λ out. Turned shared.now (slice_index_or bins.items i b).lives.items out.items)) }
+{
+    let answers = thread::map_vec(
+        rt,
+        bins,
+        &|bin: Bin| -> Result<Vec<Live>, NoMemory>
+            requires { All (IsReady shared.now) bin.lives.items × (shared.now.job ≡ job.now) }
+            ensures { IfOk result (λ out. Turned shared.entry.now bin.lives.items out.items) }
+        { turns(alloc, job, gate, shared, bin) },
+    )?;
+    Ok(answers)
+}
