@@ -62,8 +62,11 @@ def main(words):
         found = labels(source, read_listing(sys.stdin.read()))
     except (OSError, UnicodeDecodeError, Wrong) as error:
         sys.exit(f"labels: {error}")
-    for address, name in found:
-        print(f"{address:016x} t {name}")
+    try:
+        with open(1, "wb", closefd=False) as file:
+            file.write("".join(f"{address:016x} t {name}\n" for address, name in found).encode())
+    except OSError as error:
+        sys.exit(f"labels: {error.strerror}")
 
 
 if __name__ == "__main__":
