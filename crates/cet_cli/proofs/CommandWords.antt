@@ -1,6 +1,6 @@
 -- The words that are commands, and the first faulty word of others, as their reader finds them.
 use Rattle.std.proofs.Common.{ℕ, ◌+◌, ◌<◌, ◌≤◌, ◌≡◌, true, false, List, [], ◌∷◌, ◌++◌, length, take, drop, get_or, Option, Some, None, refl, sym, ap, ◌∙◌, inl, inr, subst, arith, lit<}
-use Rattle.std.specs.Prelude.{is_some, map, option_and_then, option_map, slice_get, nat_lt, unwrap_or}
+use Rattle.std.specs.Prelude.{fold, is_some, map, option_and_then, option_map, slice_get, nat_lt, unwrap_or}
 use Rattle.std.proofs.lemmas.List.{take_all, take_at, take_more, drop_more, take-append-drop, length-append, length-take-le}
 use Rattle.std.proofs.lemmas.Bool.Decides.{Decides-ltb}
 use Rattle.std.proofs.lemmas.Option.{slice_get_within, slice_get-get_or, slice_get-map, get_or_from_slice_get}
@@ -10,9 +10,10 @@ use Rattle.cet_cli.specs.Grammar.{AreValues, CommandRow, FaultyWord, Given, IsAm
 use Rattle.cet_cli.specs.Reader.{Reader, find_command, forget, given_by, may_end, start, step}
 use Rattle.cet_cli.proofs.ReaderSteps.{steps}
 use Rattle.cet_cli.specs.Values.{Value, number_within}
-use Rattle.cet_cli.specs.Words.{HasSwaps, IsCommand, Means, most_swaps, command_of, commands, defaults, choices_of, with_any, with_given}
+use Rattle.cet_cli.specs.Words.{HasNumber, IsCommand, Means, most_swaps, most_workers, command_of, commands, defaults, choices_of, with_any, with_given, with_option, with_workers}
 use Rattle.cet_cli.specs.declared.options.Choices.{Choices}
 use Rattle.cet_cli.specs.declared.options.OptionName.{OptionName}
+use Rattle.cet_cli.specs.declared.options.OptionName.TheVariants as option
 use Rattle.cet_cli.specs.declared.words.Command.{Command}
 use Rattle.cet_cli.specs.declared.words.CommandName.{CommandName}
 use Rattle.cet_cli.proofs.Faulty.{faulty_same_lists}
@@ -165,27 +166,55 @@ same_command row (inr (inr (inr (inr (inl e))))) operands options all choices v 
 same_command row (inr (inr (inr (inr (inr (inl e)))))) [] options all choices v w =
     absurd (subst (λ (r : Row). AreValues r.operands []) e v)
 same_command row (inr (inr (inr (inr (inr (inl e)))))) (word ∷ words) options all choices v w = rw (e, w) refl
-same_command row (inr (inr (inr (inr (inr (inr h)))))) operands options all choices v w = absurd h
+same_command row (inr (inr (inr (inr (inr (inr (inl e))))))) operands options all choices v w = rw (e) refl
+same_command row (inr (inr (inr (inr (inr (inr (inr h))))))) operands options all choices v w = absurd h
 
 within : (low high : ℕ) (text : List ℕ) (o : Option ℕ) → number_within low high text ≡ o → is_some o ≡ true → (low ≤ unwrap_or o 0) × (unwrap_or o 0 ≤ high)
 within low high text None e h = cc
 within low high text (Some n) e h = bounds low high text n e
 
-swaps_within : (row : Row) → IsAmong row commands → (operands : List (List ℕ)) (choices : Choices) → AreValues row.operands operands → HasSwaps (command_of row.name operands choices)
-swaps_within row (inl e) operands choices v = rw (e) tt
-swaps_within row (inr (inl e)) operands choices v = rw (e) tt
-swaps_within row (inr (inr (inl e))) operands choices v = rw (e) tt
-swaps_within row (inr (inr (inr (inl e)))) operands choices v = rw (e) tt
-swaps_within row (inr (inr (inr (inr (inl e))))) operands choices v = rw (e) tt
-swaps_within row (inr (inr (inr (inr (inr (inl e)))))) [] choices v = absurd (subst (λ (r : Row). AreValues r.operands []) e v)
-swaps_within row (inr (inr (inr (inr (inr (inl e)))))) (word ∷ words) choices v =
+-- ---- a threaded run has a number of workers that it may have
+
+abbrev HasWorkers : Choices → Type 0
+HasWorkers choices = (1 ≤ choices.workers) × (choices.workers ≤ most_workers)
+
+workers_by : (o : Option ℕ) (text : List ℕ) (workers : ℕ) → number_within 1 most_workers text ≡ o → (1 ≤ workers) × (workers ≤ most_workers) → (1 ≤ unwrap_or o workers) × (unwrap_or o workers ≤ most_workers)
+workers_by None text workers e h = h
+workers_by (Some n) text workers e h = bounds 1 most_workers text n e
+
+workers_option : (choices : Choices) (name : OptionName) (value : List ℕ) → HasWorkers choices → HasWorkers (with_option choices name value)
+workers_option choices option.Limit value h = h
+workers_option choices option.Procs value h = h
+workers_option choices option.Signals value h = h
+workers_option choices option.Trace value h = h
+workers_option choices option.Runtime value h = h
+workers_option choices option.Schedule value h = h
+workers_option choices option.Mix value h = h
+workers_option choices option.Workers value h = workers_by (number_within 1 most_workers value) value choices.workers refl h
+
+workers_fold : (given : List (Given OptionName)) (choices : Choices) → HasWorkers choices → HasWorkers (fold with_given choices given)
+workers_fold [] choices h = h
+workers_fold (g ∷ gs) choices h = workers_fold gs (with_given choices g) (workers_option choices g.option.name g.value h)
+
+workers_set : (given : List (Given OptionName)) → HasWorkers (choices_of given)
+workers_set given = workers_fold given defaults (omega arith, omega arith)
+
+number_within_row : (row : Row) → IsAmong row commands → (operands : List (List ℕ)) (choices : Choices) → AreValues row.operands operands → HasWorkers choices → HasNumber (command_of row.name operands choices)
+number_within_row row (inl e) operands choices v h = rw (e) tt
+number_within_row row (inr (inl e)) operands choices v h = rw (e) tt
+number_within_row row (inr (inr (inl e))) operands choices v h = rw (e) tt
+number_within_row row (inr (inr (inr (inl e)))) operands choices v h = rw (e) tt
+number_within_row row (inr (inr (inr (inr (inl e))))) operands choices v h = rw (e) tt
+number_within_row row (inr (inr (inr (inr (inr (inl e)))))) [] choices v h = absurd (subst (λ (r : Row). AreValues r.operands []) e v)
+number_within_row row (inr (inr (inr (inr (inr (inl e)))))) (word ∷ words) choices v h =
     let fit : is_some (number_within 1 most_swaps word) ≡ true = (subst (λ (r : Row). AreValues r.operands (word ∷ words)) e v).0 in
     rw (e) (within 1 most_swaps word (number_within 1 most_swaps word) refl fit)
-swaps_within row (inr (inr (inr (inr (inr (inr h)))))) operands choices v = absurd h
+number_within_row row (inr (inr (inr (inr (inr (inr (inl e))))))) operands choices v h = rw (e) h
+number_within_row row (inr (inr (inr (inr (inr (inr (inr no))))))) operands choices v h = absurd no
 
--- a bench that words mean has a number of swaps that it may have
-pub means_swaps : (words : List (List ℕ)) (c : Command) → Means words c → HasSwaps c
-means_swaps words c m = subst HasSwaps (sym m.is) (swaps_within m.row m.among m.operands (choices_of m.given) m.line.values)
+-- the number of a command that words mean is one that it may have
+pub means_number : (words : List (List ℕ)) (c : Command) → Means words c → HasNumber c
+means_number words c m = subst HasNumber (sym m.is) (number_within_row m.row m.among m.operands (choices_of m.given) m.line.values (workers_set m.given))
 
 -- a command is what its line means
 pub row_means : (row : Row) (all : List (List ℕ)) (choices : Choices) (c : Command) → IsAmong row commands → IsCommand (row.word ∷ all)

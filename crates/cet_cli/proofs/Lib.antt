@@ -9,6 +9,7 @@ mod FaultyLines
 mod StopLaws
 mod Kept
 pub mod CommandWords
+pub mod CallWords
 mod EveryOption
 mod ItemLists
 mod SignalLaws

@@ -7,7 +7,7 @@ abbrev pub help_lines : List (List ℕ)
 help_lines =
     codes "cetvm asm [--runtime]" ∷ codes "cetvm dis" ∷ codes "cetvm check" ∷ codes "cetvm run [common]"
     ∷ codes "cetvm replay [common] --schedule ITEMS or --mix NUMBER" ∷ codes "cetvm bench NUMBER"
-    ∷ codes "common: --limit NUMBER --procs NUMBER --trace full or last --signals ITEMS" ∷ []
+    ∷ codes "cetvm smp [common] [--workers NUMBER]" ∷ codes "common: --limit NUMBER --procs NUMBER --trace full or last --signals ITEMS" ∷ []
 
 -- the lines, each ended by a newline
 abbrev pub help : List ℕ

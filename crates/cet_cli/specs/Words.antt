@@ -1,5 +1,5 @@
 -- The words that are commands, and what they mean. Source: own.
-use Rattle.std.specs.Prelude.{ℕ, ◌-◌, ◌^◌, ◌≡◌, ◌≤◌, true, false, List, [], ◌∷◌, ◌++◌, fold, codes, Option, Some, None, if◌then◌else◌, option_map, unwrap_or}
+use Rattle.std.specs.Prelude.{ℕ, ◌-◌, ◌^◌, ◌≡◌, ◌≤◌, Bool, true, false, List, [], ◌∷◌, ◌++◌, fold, codes, Option, Some, None, if◌then◌else◌, option_map, unwrap_or}
 use Rattle.std.specs.Str.{bytes_eq}
 use Rattle.cet_base.specs.declared.styles.Style.{Style}
 use Rattle.cet_base.specs.declared.styles.Style.TheVariants as style
@@ -40,6 +40,13 @@ schedule = record { name = option.Schedule; word = codes "--schedule"; value = S
 abbrev pub mix : OptionRow OptionName
 mix = record { name = option.Mix; word = codes "--mix"; value = Some (Number 0 18446744073709551615); part = 3 }
 
+-- the most workers of a threaded run
+abbrev pub most_workers : ℕ
+most_workers = 16
+
+abbrev pub workers : OptionRow OptionName
+workers = record { name = option.Workers; word = codes "--workers"; value = Some (Number 1 most_workers); part = 5 }
+
 -- which turns a run has: one of them is given
 abbrev pub plans : List (OptionRow OptionName)
 plans = schedule ∷ mix ∷ []
@@ -63,10 +70,16 @@ most_swaps = 1000
 abbrev pub bench : CommandRow CommandName OptionName
 bench = record { name = name.Bench; word = codes "bench"; operands = Number 1 most_swaps ∷ []; options = []; needs = [] }
 
+abbrev pub smp_word : List ℕ
+smp_word = codes "smp"
+
+abbrev pub smp : CommandRow CommandName OptionName
+smp = plain_row name.Smp smp_word (common ++ workers ∷ [])
+
 abbrev pub commands : List (CommandRow CommandName OptionName)
 commands =
     plain_row name.Run (codes "run") common ∷ replay ∷ plain_row name.Dis (codes "dis") []
-    ∷ plain_row name.Asm (codes "asm") (runtime ∷ []) ∷ plain_row name.Check (codes "check") [] ∷ bench ∷ []
+    ∷ plain_row name.Asm (codes "asm") (runtime ∷ []) ∷ plain_row name.Check (codes "check") [] ∷ bench ∷ smp ∷ []
 
 -- ---- what they set
 
@@ -76,7 +89,7 @@ default_settings = record { limit = most_records; procs = 4; signals = []; style
 
 -- what is set where no option is given
 abbrev pub defaults : Choices
-defaults = record { settings = default_settings; plan = plan.Schedule []; runtime = false }
+defaults = record { settings = default_settings; plan = plan.Schedule []; runtime = false; workers = 4 }
 
 abbrev pub with_limit : SettingsData → (value : List ℕ) → SettingsData
 with_limit s value = record s { limit = unwrap_or (number_within 1 most_records value) s.limit }
@@ -100,6 +113,9 @@ with_schedule p value = unwrap_or (option_map (λ turns. plan.Schedule turns) (s
 abbrev pub with_mix : Plan → (value : List ℕ) → Plan
 with_mix p value = unwrap_or (option_map (λ number. plan.Mix number) (number_within 0 (2 ^ 64 - 1) value)) p
 
+abbrev pub with_workers : (workers : ℕ) → (value : List ℕ) → ℕ
+with_workers workers value = unwrap_or (number_within 1 most_workers value) workers
+
 -- an option sets what it is for to what its value means
 abbrev pub with_option : Choices → OptionName → (value : List ℕ) → Choices
 with_option c option.Limit value = record c { settings = with_limit c.settings value }
@@ -109,6 +125,7 @@ with_option c option.Trace value = record c { settings = with_style c.settings v
 with_option c option.Runtime value = record c { runtime = true }
 with_option c option.Schedule value = record c { plan = with_schedule c.plan value }
 with_option c option.Mix value = record c { plan = with_mix c.plan value }
+with_option c option.Workers value = record c { workers = with_workers c.workers value }
 
 abbrev pub with_given : Choices → Given OptionName → Choices
 with_given c g = with_option c g.option.name g.value
@@ -135,6 +152,7 @@ command_of name.Dis operands choices = command.Dis
 command_of name.Asm operands choices = command.Asm choices.runtime
 command_of name.Check operands choices = command.Check
 command_of name.Bench operands choices = command.Bench (swaps_of operands)
+command_of name.Smp operands choices = command.Smp choices.settings choices.workers
 
 -- the words, each as its bytes, are this command
 pub record Means (words : List (List ℕ)) (command : Command) : Type 0 where
@@ -149,11 +167,43 @@ pub record Means (words : List (List ℕ)) (command : Command) : Type 0 where
 abbrev pub IsCommand : List (List ℕ) → Type 0
 IsCommand words = (command : Command) × Means words command
 
--- a bench has a number of swaps that it may have
-abbrev pub HasSwaps : Command → Type 0
-HasSwaps (command.Bench n) = (1 ≤ n) × (n ≤ most_swaps)
-HasSwaps (command.Run _) = Unit {0}
-HasSwaps (command.Replay _ _) = Unit {0}
-HasSwaps command.Dis = Unit {0}
-HasSwaps (command.Asm _) = Unit {0}
-HasSwaps command.Check = Unit {0}
+-- a bench has a number of swaps that it may have, and a threaded run a number of workers
+abbrev pub HasNumber : Command → Type 0
+HasNumber (command.Bench n) = (1 ≤ n) × (n ≤ most_swaps)
+HasNumber (command.Smp _ workers) = (1 ≤ workers) × (workers ≤ most_workers)
+HasNumber (command.Run _) = Unit {0}
+HasNumber (command.Replay _ _) = Unit {0}
+HasNumber command.Dis = Unit {0}
+HasNumber (command.Asm _) = Unit {0}
+HasNumber command.Check = Unit {0}
+
+-- ---- the two calls that serve commands: `smp` serves threaded runs, and `plain` all others
+
+abbrev pub is_threaded : Command → Bool
+is_threaded (command.Smp _ _) = true
+is_threaded (command.Run _) = false
+is_threaded (command.Replay _ _) = false
+is_threaded command.Dis = false
+is_threaded (command.Asm _) = false
+is_threaded command.Check = false
+is_threaded (command.Bench _) = false
+
+-- the first word is `smp`
+abbrev pub begins_smp : List (List ℕ) → Bool
+begins_smp [] = false
+begins_smp (word ∷ words) = bytes_eq word smp_word
+
+-- the words are this command, and it is no threaded run
+pub record MeansPlain (words : List (List ℕ)) (command : Command) : Type 0 where
+  pub means : Means words command
+  pub plain : is_threaded command ≡ false
+
+abbrev pub IsPlain : List (List ℕ) → Type 0
+IsPlain words = (command : Command) × MeansPlain words command
+
+-- the words are a threaded run with these settings and so many workers
+abbrev pub MeansSmp : List (List ℕ) → SettingsData → (workers : ℕ) → Type 0
+MeansSmp words settings workers = Means words (command.Smp settings workers)
+
+abbrev pub IsSmp : List (List ℕ) → Type 0
+IsSmp words = (settings : SettingsData) × (workers : ℕ) × MeansSmp words settings workers

@@ -5,7 +5,7 @@ ghost use Rattle.cet_cli.specs.Reader.{find_command, find_option};
 ghost use Rattle.cet_cli.specs.Table.{command_view, option_view};
 ghost use Rattle.cet_cli.specs.Words.{commands};
 
-use crate::limits::{MOST_PROCS, MOST_RECORDS, MOST_SWAPS};
+use crate::limits::{MOST_PROCS, MOST_RECORDS, MOST_SWAPS, MOST_WORKERS};
 use crate::options::OptionName;
 use crate::values::Value;
 use crate::words::CommandName;
@@ -101,16 +101,28 @@ const RUNTIME: OptionRow = OptionRow {
     part: 0,
 };
 
+const WORKERS: OptionRow = OptionRow {
+    name: OptionName::Workers,
+    word: "--workers",
+    value: Some(Value::Number {
+        low: 1,
+        high: MOST_WORKERS as u64,
+    }),
+    part: 5,
+};
+
 const RUN_OPTIONS: [OptionRow; 4] = [LIMIT, PROCS, SIGNALS, TRACE];
 
 const REPLAY_OPTIONS: [OptionRow; 6] = [LIMIT, PROCS, SIGNALS, TRACE, SCHEDULE, MIX];
+
+const SMP_OPTIONS: [OptionRow; 5] = [LIMIT, PROCS, SIGNALS, TRACE, WORKERS];
 
 const SWAPS: Value = Value::Number {
     low: 1,
     high: MOST_SWAPS as u64,
 };
 
-const COMMANDS: [CommandRow; 6] = [
+const COMMANDS: [CommandRow; 7] = [
     CommandRow {
         name: CommandName::Run,
         word: "run",
@@ -151,6 +163,13 @@ const COMMANDS: [CommandRow; 6] = [
         word: "bench",
         operands: &[SWAPS],
         options: &[],
+        needs: &[],
+    },
+    CommandRow {
+        name: CommandName::Smp,
+        word: "smp",
+        operands: &[],
+        options: &SMP_OPTIONS,
         needs: &[],
     },
 ];

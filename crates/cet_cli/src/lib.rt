@@ -1,6 +1,7 @@
 //! The words of a command: which lists of words are one, what they mean, and the first faulty word of others.
 #![tactic(auto)]
 
+mod calls;
 mod grammar;
 mod help;
 mod laws;
@@ -15,6 +16,7 @@ mod turns;
 mod values;
 mod words;
 
+pub use calls::{is_smp, read_plain, read_smp};
 pub use help::help_text;
 pub use laws::tables_are_read;
 pub use options::{Plan, Settings};

@@ -9,6 +9,9 @@ pub(crate) const MOST_PROCS: u8 = 8;
 /// The most swaps of the bench.
 pub(crate) const MOST_SWAPS: u32 = 1_000;
 
+/// The most workers of a threaded run.
+pub(crate) const MOST_WORKERS: u32 = 16;
+
 /// The highest number of a thread.
 pub(crate) const LAST_THREAD: u64 = 31;
 

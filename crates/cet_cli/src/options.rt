@@ -4,10 +4,10 @@ ghost use Rattle.std.specs.Prelude.{◌≡◌, option_map, IfOk};
 ghost use Rattle.cet_cli.specs.Settings.{most_records};
 ghost use Rattle.cet_cli.specs.Table.{given_view};
 ghost use Rattle.cet_cli.specs.Values.{number_within};
-ghost use Rattle.cet_cli.specs.Words.{default_settings, defaults, style_of, with_any, with_limit, with_mix, with_option, with_procs, with_schedule, with_signals, with_style};
+ghost use Rattle.cet_cli.specs.Words.{default_settings, defaults, style_of, with_any, with_limit, with_mix, with_option, with_procs, with_schedule, with_signals, with_style, with_workers};
 
 use crate::grammar::Given;
-use crate::limits::{MOST_PROCS, MOST_RECORDS};
+use crate::limits::{MOST_PROCS, MOST_RECORDS, MOST_WORKERS};
 use crate::signals::signals_of;
 use crate::turns::{Turns, turns_of};
 use crate::values::number_within;
@@ -18,6 +18,9 @@ use std::marker::Model;
 
 /// The number of processors where no option says another.
 const PROCS: u8 = 4;
+
+/// The number of workers where no option says another.
+const WORKERS: u32 = 4;
 
 /// An option, by its name.
 #[derive(Clone, Copy, Debug)]
@@ -36,6 +39,8 @@ pub(crate) enum OptionName {
     Schedule,
     /// `--mix`: a number of 64 bits.
     Mix,
+    /// `--workers`: the number of workers, 1 to 16.
+    Workers,
 }
 
 /// The settings of a run.
@@ -76,6 +81,7 @@ pub(crate) struct Choices {
     pub settings: Settings,
     pub plan: Plan,
     pub runtime: bool,
+    pub workers: u32,
 }
 
 /// The limit that a text is.
@@ -92,6 +98,16 @@ fn procs_of(text: &str) -> Option<u8>
 {
     let procs = number_within(text, 1, MOST_PROCS.into())?;
     Some(procs as u8)
+}
+
+/// With the number of workers that a text is.
+fn with_workers(workers: u32, value: &str) -> u32
+    ensures { result ≡ with_workers workers value.now }
+{
+    match number_within(value, 1, MOST_WORKERS.into()) {
+        Some(number) => number as u32,
+        None => workers,
+    }
 }
 
 /// The style that a text names.
@@ -203,6 +219,7 @@ impl Choices {
             settings: Settings::defaults(alloc),
             plan: Plan::Schedule(Turns::new(alloc)),
             runtime: false,
+            workers: WORKERS,
         }
     }
 
@@ -211,23 +228,26 @@ impl Choices {
         ensures { IfOk result (λ choices. choices ≡ with_option self option value.now) }
     {
         let Choices {
-            settings,
-            plan,
-            runtime,
+            mut settings,
+            mut plan,
+            mut runtime,
+            mut workers,
         } = self;
-        let (settings, plan, runtime) = match option {
-            OptionName::Limit => (settings.with_limit(value), plan, runtime),
-            OptionName::Procs => (settings.with_procs(value), plan, runtime),
-            OptionName::Signals => (settings.with_signals(alloc, value)?, plan, runtime),
-            OptionName::Trace => (settings.with_style(value), plan, runtime),
-            OptionName::Runtime => (settings, plan, true),
-            OptionName::Schedule => (settings, plan.with_schedule(alloc, value)?, runtime),
-            OptionName::Mix => (settings, plan.with_mix(value), runtime),
-        };
+        match option {
+            OptionName::Limit => settings = settings.with_limit(value),
+            OptionName::Procs => settings = settings.with_procs(value),
+            OptionName::Signals => settings = settings.with_signals(alloc, value)?,
+            OptionName::Trace => settings = settings.with_style(value),
+            OptionName::Runtime => runtime = true,
+            OptionName::Schedule => plan = plan.with_schedule(alloc, value)?,
+            OptionName::Mix => plan = plan.with_mix(value),
+            OptionName::Workers => workers = with_workers(workers, value),
+        }
         Ok(Choices {
             settings,
             plan,
             runtime,
+            workers,
         })
     }
 

@@ -4,7 +4,7 @@ ghost use Rattle.std.specs.Prelude.{◌≡◌, ℕ, List, [], ◌∷◌, map, st
 ghost use Rattle.cet_cli.specs.Faults.{HasCause};
 ghost use Rattle.cet_cli.specs.Grammar.{FaultyWord, Given, IsAmong, IsLine};
 ghost use Rattle.cet_cli.specs.Table.{command_view};
-ghost use Rattle.cet_cli.specs.Words.{HasSwaps, IsCommand, Means, choices_of, command_of, commands, swaps_of};
+ghost use Rattle.cet_cli.specs.Words.{HasNumber, IsCommand, Means, choices_of, command_of, commands, swaps_of};
 ghost use Rattle.cet_cli.specs.declared.options.OptionName.{OptionName};
 
 use crate::grammar::{CommandRow, find_command};
@@ -30,6 +30,8 @@ pub enum Command {
     Check,
     /// `bench`: runs a program that swaps contexts so many times, 1 to 1,000, and tells how many records that made.
     Bench(u32),
+    /// `smp`: runs the image that the source gives on so many workers, 1 to 16, and reports.
+    Smp(Settings, u32),
 }
 
 /// Why words are read as no command.
@@ -51,6 +53,7 @@ pub(crate) enum CommandName {
     Asm,
     Check,
     Bench,
+    Smp,
 }
 
 /// The number of swaps that a text is.
@@ -88,6 +91,7 @@ impl CommandName {
             },
             CommandName::Check => Command::Check,
             CommandName::Bench => Command::Bench(swaps_of(words)),
+            CommandName::Smp => Command::Smp(choices.settings, choices.workers),
         }
     }
 }
@@ -138,7 +142,7 @@ fn choices_of(alloc: Global, row: CommandRow, words: &[String]) -> Result<Choice
 fn read_line(alloc: Global, row: CommandRow, words: &[String]) -> Result<Command, CliFault>
     requires { IsAmong (command_view row) commands }
     ensures { MatchResult result (Means (row.word.now ∷ map string_bytes words.now))
-        (HasCause (row.word.now ∷ map string_bytes words.now)) }
+        (HasCause IsCommand (row.word.now ∷ map string_bytes words.now)) }
 {
     if let Err(number) = check_line(row, words) {
         return Err(CliFault::Usage(number));
@@ -150,10 +154,10 @@ fn read_line(alloc: Global, row: CommandRow, words: &[String]) -> Result<Command
 }
 
 /// Reads the words of a command. A faulty word is found without memory.
-#[tactic(auto, using(crate::proofs::CommandWords::means_swaps))]
+#[tactic(auto, using(crate::proofs::CommandWords::means_number))]
 pub fn read_words(alloc: Global, words: &[String]) -> Result<Command, CliFault>
-    ensures means { MatchResult result (Means (map string_bytes words.now)) (HasCause (map string_bytes words.now)) }
-    ensures swaps { IfOk result HasSwaps }
+    ensures means { MatchResult result (Means (map string_bytes words.now)) (HasCause IsCommand (map string_bytes words.now)) }
+    ensures number { IfOk result HasNumber }
 {
     let Some((first, rest)) = words.split_first() else {
         return Err(CliFault::Usage(1));

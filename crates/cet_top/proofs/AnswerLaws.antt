@@ -31,7 +31,7 @@ use Rattle.cet_base.specs.declared.styles.Style.{Style}
 use Rattle.cet_top.specs.declared.status.Status.{Status}
 use Rattle.cet_top.specs.declared.status.Status.TheVariants as status
 use Rattle.cet_cli.specs.Settings.{SettingsData}
-use Rattle.cet_cli.specs.Words.{default_settings}
+use Rattle.cet_cli.specs.Words.{default_settings, is_threaded}
 use Rattle.cet_cli.specs.declared.options.Plan.{Plan}
 use Rattle.cet_cli.specs.declared.options.Plan.TheVariants.{Mix, Schedule}
 use Rattle.cet_cli.specs.declared.words.Command.{Command}
@@ -218,18 +218,18 @@ not_sound text s x a p b = (let never = sym b.sound ∙ a.broken in cc)
 
 -- ---- every command
 
-pub answers_same : (c : Command) (bytes : List ℕ) (s t : Status) (x y : List ℕ) → Answers c bytes s x → Answers c bytes t y → One s t x y
-answers_same (command.Run settings) bytes s t x y a b = runs_same settings ByRobin bytes s t x y (λ m xs ys r q. robin_same (job_of settings bytes) m None xs ys r q) a b
-answers_same (command.Replay settings plan) bytes s t x y a b = runs_same settings (by_plan plan) bytes s t x y (planned_same (job_of settings bytes) plan) a b
-answers_same command.Dis bytes s t x y a b = elim a [
+pub answers_same : (c : Command) → is_threaded c ≡ false → (bytes : List ℕ) (s t : Status) (x y : List ℕ) → Answers c bytes s x → Answers c bytes t y → One s t x y
+answers_same (command.Run settings) plain bytes s t x y a b = runs_same settings ByRobin bytes s t x y (λ m xs ys r q. robin_same (job_of settings bytes) m None xs ys r q) a b
+answers_same (command.Replay settings plan) plain bytes s t x y a b = runs_same settings (by_plan plan) bytes s t x y (planned_same (job_of settings bytes) plan) a b
+answers_same command.Dis plain bytes s t x y a b = elim a [
   | inl r ↦ elim b [ inl q ↦ refused_same bytes s t x y r q | inr q ↦ absurd (not_both bytes s x r q.accepted) ]
   | inr r ↦ elim b [ inl q ↦ absurd (not_both bytes t y q r.accepted) | inr q ↦ (r.done ∙ sym q.done, listing_same (image_of bytes).segments x y r.listed q.listed) ]
 ]
-answers_same command.Check bytes s t x y a b = elim a [
+answers_same command.Check plain bytes s t x y a b = elim a [
   | inl r ↦ elim b [ inl q ↦ refused_same bytes s t x y r q | inr q ↦ absurd (not_both bytes s x r q.accepted) ]
   | inr r ↦ elim b [ inl q ↦ absurd (not_both bytes t y q r.accepted) | inr q ↦ (r.done ∙ sym q.done, r.told ∙ sym q.told) ]
 ]
-answers_same (command.Bench n) bytes s t x y a b = elim a [
+answers_same (command.Bench n) plain bytes s t x y a b = elim a [
   | inl r ↦ elim b [ inl q ↦ fault_same (with_runtime (bench n)) s t x y r q | inr q ↦ absurd (not_sound (with_runtime (bench n)) s x r q.program q.assembled) ]
   | inr r ↦ elim b [
     | inl q ↦ absurd (not_sound (with_runtime (bench n)) t y q r.program r.assembled)
@@ -237,10 +237,11 @@ answers_same (command.Bench n) bytes s t x y a b = elim a [
         (subst (λ (p : Program). Refuses (written p) s x ⊎ Measures n (written p) s x) (program_same (with_runtime (bench n)) r.program q.program r.assembled q.assembled) r.ran) q.ran
   ]
 ]
-answers_same (command.Asm with) bytes s t x y a b = elim a [
+answers_same (command.Asm with) plain bytes s t x y a b = elim a [
   | inl r ↦ elim b [ inl q ↦ fault_same (source_of with bytes) s t x y r q | inr q ↦ absurd (not_sound (source_of with bytes) s x r q.program q.assembled) ]
   | inr r ↦ elim b [
     | inl q ↦ absurd (not_sound (source_of with bytes) t y q r.program r.assembled)
     | inr q ↦ (r.done ∙ sym q.done, r.file ∙ ap written (program_same (source_of with bytes) r.program q.program r.assembled q.assembled) ∙ sym q.file)
   ]
 ]
+answers_same (command.Smp settings workers) plain bytes s t x y a b = cc

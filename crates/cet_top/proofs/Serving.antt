@@ -1,12 +1,14 @@
 -- What follows of a command that was served.
 use Rattle.std.proofs.Common.{◌≡◌, ℕ, ◌<◌, ◌≤◌, arith, Bool, true, false, List, [], ◌∷◌, length, Option, Some, None, refl, sym, ap, subst, inl, inr, ◌⊎◌}
-use Rattle.std.specs.Prelude.{IfSome}
+use Rattle.std.specs.Prelude.{IfSome, is_some}
 use Rattle.std.specs.Io.KnownBytes.{Appends, Consumes}
-use Rattle.cet_top.specs.Answer.{Answers, reads, status_of}
+use Rattle.cet_top.specs.Answer.{Answers, AnswersThreaded, Refuses, Runs, Turns, has_run, reads, status_of}
 use Rattle.cet_top.specs.Serves.{Answering, Answered, Completes, CountsTooMuch, Cut, GaveTooMuch, IsAnswered, LostTooMuch, Serves, SinkState, Takes, TakesSome, Wrote}
 use Rattle.cet_io.specs.Stream.{AppendsSome, Rose, RoseBy, Tally}
 use Rattle.cet_top.specs.Reading.{ReadSome, ReadToEnd, ReadTooMuch, ReadUntilFault, SourceState, TakesAll, TalliesBy}
-use Rattle.cet_cli.specs.Words.{Means}
+use Rattle.cet_cli.specs.Settings.{SettingsData}
+use Rattle.cet_cli.specs.Words.{Means, MeansPlain, MeansSmp}
+use Rattle.cet_run.specs.declared.outcomes.Outcome.{Outcome}
 use Rattle.cet_run.specs.declared.outcomes.ProcessEnd.{ProcessEnd}
 use Rattle.cet_run.specs.declared.outcomes.ProcessEnd.TheVariants as process
 use Rattle.cet_top.specs.declared.status.Status.{Status}
@@ -21,17 +23,24 @@ run_no_usage (process.Exit s) n e = cc
 run_no_usage (process.Killed s) n e = cc
 run_no_usage (process.Limit t) n e = cc
 
+refused_no_usage : (bytes output : List ℕ) (n : ℕ) → Refuses bytes (status.Usage n) output → ⊥
+refused_no_usage bytes output n r = (let e = r.refused in cc)
+
+runs_no_usage : (by : Turns) (settings : SettingsData) (bytes output : List ℕ) (n : ℕ) → Runs by settings bytes (status.Usage n) output → ⊥
+runs_no_usage by settings bytes output n r = run_no_usage r.reported.outcome.process n r.reported.told.ends
+
+either_no_usage : (by : Turns) (settings : SettingsData) (bytes output : List ℕ) (n : ℕ) → Refuses bytes (status.Usage n) output ⊎ Runs by settings bytes (status.Usage n) output → ⊥
+either_no_usage by settings bytes output n a = elim a [
+  | inl r ↦ refused_no_usage bytes output n r
+  | inr r ↦ runs_no_usage by settings bytes output n r
+]
+
 no_usage : (c : Command) (bytes output : List ℕ) (n : ℕ) → Answers c bytes (status.Usage n) output → ⊥
-no_usage (command.Run settings) bytes output n a = elim a [
-  | inl r ↦ (let e = r.refused in cc)
-  | inr r ↦ run_no_usage r.reported.outcome.process n r.reported.told.ends
-]
-no_usage (command.Replay settings plan) bytes output n a = elim a [
-  | inl r ↦ (let e = r.refused in cc)
-  | inr r ↦ run_no_usage r.reported.outcome.process n r.reported.told.ends
-]
+no_usage (command.Run settings) bytes output n a = either_no_usage _ settings bytes output n a
+no_usage (command.Replay settings plan) bytes output n a = either_no_usage _ settings bytes output n a
+no_usage (command.Smp settings workers) bytes output n a = either_no_usage _ settings bytes output n a
 no_usage command.Dis bytes output n a = elim a [
-  | inl r ↦ (let e = r.refused in cc)
+  | inl r ↦ refused_no_usage bytes output n r
   | inr r ↦ (let e = r.done in cc)
 ]
 no_usage (command.Asm with) bytes output n a = elim a [
@@ -41,20 +50,33 @@ no_usage (command.Asm with) bytes output n a = elim a [
 no_usage (command.Bench m) bytes output n a = elim a [
   | inl r ↦ (let e = r.refused in cc)
   | inr b ↦ elim b.ran [
-    | inl r ↦ (let e = r.refused in cc)
+    | inl r ↦ refused_no_usage bytes output n r
     | inr r ↦ run_no_usage r.measured.outcome.process n r.measured.ends
   ]
 ]
 no_usage command.Check bytes output n a = elim a [
-  | inl r ↦ (let e = r.refused in cc)
+  | inl r ↦ refused_no_usage bytes output n r
   | inr r ↦ (let e = r.done in cc)
 ]
 
+threaded_no_usage : (settings : SettingsData) (ran : Option Outcome) (bytes output : List ℕ) (n : ℕ) → AnswersThreaded settings ran bytes (status.Usage n) output → ⊥
+threaded_no_usage settings None bytes output n a = refused_no_usage bytes output n a
+threaded_no_usage settings (Some outcome) bytes output n (runs, same) = runs_no_usage _ settings bytes output n runs
+
+-- what never answers a faulty word isn't served as one
+module _ (reads : Bool) (Answer : Answering) (none : (bytes output : List ℕ) (n : ℕ) → Answer bytes (status.Usage n) output → ⊥) where
+  usage_never : (src src' : SourceState) (sink sink' : SinkState) (s : Status) (n : ℕ) → Serves reads Answer src src' sink sink' s → s ≡ status.Usage n → ⊥
+  usage_never src src' sink sink' s n h e =
+      let g : Serves reads Answer src src' sink sink' (status.Usage n) = subst (Serves reads Answer src src' sink sink') e h in
+      let a = g.answered tt in
+      none a.read.bytes a.output n a.read.answer
+
 pub served_no_usage : (c : Command) (src src' : SourceState) (sink sink' : SinkState) (s : Status) (n : ℕ) → Serves (reads c) (Answers c) src src' sink sink' s → s ≡ status.Usage n → ⊥
-served_no_usage c src src' sink sink' s n h e =
-    let g : Serves (reads c) (Answers c) src src' sink sink' (status.Usage n) = subst (Serves (reads c) (Answers c) src src' sink sink') e h in
-    let a = g.answered tt in
-    no_usage c a.read.bytes a.output n a.read.answer
+served_no_usage c src src' sink sink' s n h e = usage_never (reads c) (Answers c) (no_usage c) src src' sink sink' s n h e
+
+pub threads_no_usage : (settings : SettingsData) (ran : Option Outcome) (src src' : SourceState) (sink sink' : SinkState) (s : Status) (n : ℕ) → Serves true (AnswersThreaded settings ran) src src' sink sink' s
+    → s ≡ status.Usage n → ⊥
+threads_no_usage settings ran src src' sink sink' s n h e = usage_never true (AnswersThreaded settings ran) (threaded_no_usage settings ran) src src' sink sink' s n h e
 
 -- an answer is none of the failures
 run_answered : (end : ProcessEnd) → IsAnswered (status_of end)
@@ -62,17 +84,24 @@ run_answered (process.Exit s) = tt
 run_answered (process.Killed s) = tt
 run_answered (process.Limit t) = tt
 
+refused_answered : (bytes output : List ℕ) (s : Status) → Refuses bytes s output → IsAnswered s
+refused_answered bytes output s r = subst IsAnswered (sym r.refused) tt
+
+runs_answered : (by : Turns) (settings : SettingsData) (bytes output : List ℕ) (s : Status) → Runs by settings bytes s output → IsAnswered s
+runs_answered by settings bytes output s r = subst IsAnswered (sym r.reported.told.ends) (run_answered r.reported.outcome.process)
+
+either_answered : (by : Turns) (settings : SettingsData) (bytes output : List ℕ) (s : Status) → Refuses bytes s output ⊎ Runs by settings bytes s output → IsAnswered s
+either_answered by settings bytes output s a = elim a [
+  | inl r ↦ refused_answered bytes output s r
+  | inr r ↦ runs_answered by settings bytes output s r
+]
+
 pub answer_is_answered : (c : Command) (bytes output : List ℕ) (s : Status) → Answers c bytes s output → IsAnswered s
-answer_is_answered (command.Run settings) bytes output s a = elim a [
-  | inl r ↦ subst IsAnswered (sym r.refused) tt
-  | inr r ↦ subst IsAnswered (sym r.reported.told.ends) (run_answered r.reported.outcome.process)
-]
-answer_is_answered (command.Replay settings plan) bytes output s a = elim a [
-  | inl r ↦ subst IsAnswered (sym r.refused) tt
-  | inr r ↦ subst IsAnswered (sym r.reported.told.ends) (run_answered r.reported.outcome.process)
-]
+answer_is_answered (command.Run settings) bytes output s a = either_answered _ settings bytes output s a
+answer_is_answered (command.Replay settings plan) bytes output s a = either_answered _ settings bytes output s a
+answer_is_answered (command.Smp settings workers) bytes output s a = either_answered _ settings bytes output s a
 answer_is_answered command.Dis bytes output s a = elim a [
-  | inl r ↦ subst IsAnswered (sym r.refused) tt
+  | inl r ↦ refused_answered bytes output s r
   | inr r ↦ subst IsAnswered (sym r.done) tt
 ]
 answer_is_answered (command.Asm with) bytes output s a = elim a [
@@ -82,14 +111,34 @@ answer_is_answered (command.Asm with) bytes output s a = elim a [
 answer_is_answered (command.Bench m) bytes output s a = elim a [
   | inl r ↦ subst IsAnswered (sym r.refused) tt
   | inr b ↦ elim b.ran [
-    | inl r ↦ subst IsAnswered (sym r.refused) tt
+    | inl r ↦ refused_answered bytes output s r
     | inr r ↦ subst IsAnswered (sym r.measured.ends) (run_answered r.measured.outcome.process)
   ]
 ]
 answer_is_answered command.Check bytes output s a = elim a [
-  | inl r ↦ subst IsAnswered (sym r.refused) tt
+  | inl r ↦ refused_answered bytes output s r
   | inr r ↦ subst IsAnswered (sym r.done) tt
 ]
+
+pub threaded_is_answered : (settings : SettingsData) (ran : Option Outcome) (bytes output : List ℕ) (s : Status) → AnswersThreaded settings ran bytes s output → IsAnswered s
+threaded_is_answered settings None bytes output s a = refused_answered bytes output s a
+threaded_is_answered settings (Some outcome) bytes output s (runs, same) = runs_answered _ settings bytes output s runs
+
+-- ---- a threaded run's report is written exactly where there was a run
+
+run_has : (end : ProcessEnd) → true ≡ has_run (status_of end)
+run_has (process.Exit s) = refl
+run_has (process.Killed s) = refl
+run_has (process.Limit t) = refl
+
+pub written_has : (settings : SettingsData) (ran : Option Outcome) (bytes output : List ℕ) (s : Status) → AnswersThreaded settings ran bytes s output → is_some ran ≡ has_run s
+written_has settings None bytes output s r = ap has_run (sym r.refused)
+written_has settings (Some outcome) bytes output s (runs, same) = run_has runs.reported.outcome.process ∙ ap has_run (sym runs.reported.told.ends)
+
+-- a refusal has nothing to write
+pub cut_has : (settings : SettingsData) (ran : Option Outcome) (bytes output : List ℕ) (s : Status) → AnswersThreaded settings ran bytes s output → 0 < length output → is_some ran ≡ true
+cut_has settings None bytes output s r some = absurd (let none : length output ≡ 0 = ap (λ (l : List ℕ). length l) r.nothing in omega arith)
+cut_has settings (Some outcome) bytes output s a some = refl
 
 -- each way in which a command ends, with its cause
 module _ (reads : Bool) (Answer : Answering) (src src' : SourceState) (sink : SinkState) where
@@ -239,9 +288,23 @@ served_too_long reads Answer src src' sink sink' s h g = elim (ways reads Answer
 ]
 
 -- the same of a command by other words for it
-pub means_serves : (words : List (List ℕ)) (c d : Command) (src src' : SourceState) (sink sink' : SinkState) (s : Status) → Means words c → Means words d →
+pub means_serves : (words : List (List ℕ)) (c d : Command) (src src' : SourceState) (sink sink' : SinkState) (s : Status) → MeansPlain words c → MeansPlain words d →
     Serves (reads c) (Answers c) src src' sink sink' s → Serves (reads d) (Answers d) src src' sink sink' s
-means_serves words c d src src' sink sink' s m n h = subst (λ (x : Command). Serves (reads x) (Answers x) src src' sink sink' s) (means_same words c d m n) h
+means_serves words c d src src' sink sink' s m n h = subst (λ (x : Command). Serves (reads x) (Answers x) src src' sink sink' s) (means_same words c d m.means n.means) h
+
+settings_in : SettingsData → Command → SettingsData
+settings_in other (command.Smp settings workers) = settings
+settings_in other (command.Run settings) = other
+settings_in other (command.Replay settings plan) = other
+settings_in other command.Dis = other
+settings_in other (command.Asm with) = other
+settings_in other command.Check = other
+settings_in other (command.Bench n) = other
+
+pub means_threads : (words : List (List ℕ)) (a b : SettingsData) (n m : ℕ) (ran : Option Outcome) (src src' : SourceState) (sink sink' : SinkState) (s : Status) → MeansSmp words a n → MeansSmp words b m →
+    Serves true (AnswersThreaded a ran) src src' sink sink' s → Serves true (AnswersThreaded b ran) src src' sink sink' s
+means_threads words a b n m ran src src' sink sink' s one other h =
+    subst (λ (x : SettingsData). Serves true (AnswersThreaded x ran) src src' sink sink' s) (ap (settings_in a) (means_same words (command.Smp a n) (command.Smp b m) one other)) h
 
 -- ---- no memory for the words
 
@@ -276,5 +339,8 @@ takes_none true src = untouched src
 takes_none false src = refl
 
 -- nothing was read or written
+pub none_served : (reads : Bool) (Answer : Answering) (src : SourceState) (sink : SinkState) → Serves reads Answer src src sink sink status.NoMemory
+none_served reads Answer src sink = serves_no_memory reads Answer src src sink (takes_none reads src) (omega arith)
+
 pub none_read : (c : Command) (src : SourceState) (sink : SinkState) → Serves (reads c) (Answers c) src src sink sink status.NoMemory
-none_read c src sink = serves_no_memory (reads c) (Answers c) src src sink (takes_none (reads c) src) (omega arith)
+none_read c src sink = none_served (reads c) (Answers c) src sink

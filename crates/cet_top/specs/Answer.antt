@@ -1,5 +1,5 @@
 -- What a command answers: its status and its output, by the words and the bytes of the source. Source: own.
-use Rattle.std.specs.Prelude.{◌≡◌, ℕ, ◌⊎◌, Bool, true, false, List, [], ◌∷◌, ◌++◌, codes}
+use Rattle.std.specs.Prelude.{◌≡◌, ℕ, ◌⊎◌, Bool, true, false, List, [], ◌∷◌, ◌++◌, codes, Option, Some, None}
 use Rattle.cet_words.specs.Job.{ImageData, JobData}
 use Rattle.cet_asm.specs.Program.{IsProgram, IsFirstFault}
 use Rattle.cet_asm.specs.declared.program.Program.{Program}
@@ -24,7 +24,7 @@ use Rattle.cet_top.specs.declared.status.Status.TheVariants as status
 use Rattle.cet_cli.specs.declared.options.Plan.{Plan}
 use Rattle.cet_cli.specs.declared.options.Plan.TheVariants.{Mix, Schedule}
 use Rattle.cet_cli.specs.declared.words.Command.{Command}
-use Rattle.cet_cli.specs.declared.words.Command.TheVariants.{Run, Replay, Dis, Asm, Check, Bench}
+use Rattle.cet_cli.specs.declared.words.Command.TheVariants.{Run, Replay, Dis, Asm, Check, Bench, Smp}
 use Rattle.cet_top.specs.declared.runs.Course.{Course}
 use Rattle.cet_top.specs.declared.runs.Course.TheVariants as course
 
@@ -72,6 +72,10 @@ by_plan (Mix number) job start turns = IsMix job start number turns
 abbrev pub by_course : Course → Turns
 by_course course.Robin job start turns = ByRobin job start turns
 by_course (course.Planned plan) job start turns = by_plan plan.now job start turns
+
+-- any turns
+abbrev pub by_any : Turns
+by_any job start turns = Unit {0}
 
 -- a file that is accepted runs by these settings with these turns, and is reported in their style
 pub record Runs (by : Turns) (settings : SettingsData) (bytes : List ℕ) (s : Status) (output : List ℕ) : Type 0 where
@@ -142,6 +146,7 @@ reads Dis = true
 reads (Asm with) = true
 reads Check = true
 reads (Bench n) = false
+reads (Smp settings workers) = true
 
 abbrev pub Answers : Command → (bytes : List ℕ) → Status → (output : List ℕ) → Type 0
 Answers (Run settings) bytes s output = Refuses bytes s output ⊎ Runs ByRobin settings bytes s output
@@ -150,3 +155,25 @@ Answers Dis bytes s output = Refuses bytes s output ⊎ Disassembles bytes s out
 Answers (Asm with) bytes s output = Faults (source_of with bytes) s output ⊎ Assembles (source_of with bytes) s output
 Answers Check bytes s output = Refuses bytes s output ⊎ Checks bytes s output
 Answers (Bench n) bytes s output = Faults (with_runtime (bench n)) s output ⊎ Benches n (with_runtime (bench n)) s output
+Answers (Smp settings workers) bytes s output = Refuses bytes s output ⊎ Runs by_any settings bytes s output
+
+-- ---- threaded runs
+
+-- What a threaded run is answered with, beside the outcome that is handed out: the file is refused, and there is none; or it ran, by
+-- some turns, and that is the outcome of this very run.
+abbrev pub AnswersThreaded : SettingsData → Option Outcome → (bytes : List ℕ) → Status → (output : List ℕ) → Type 0
+AnswersThreaded settings None bytes s output = Refuses bytes s output
+AnswersThreaded settings (Some outcome) bytes s output = (runs : Runs by_any settings bytes s output) × (runs.reported.outcome ≡ outcome)
+
+-- a report was written, wholly or up to a write that failed
+abbrev pub has_run : Status → Bool
+has_run status.Done = true
+has_run (status.Usage word) = false
+has_run status.ReadFault = false
+has_run status.WriteFault = true
+has_run (status.Refused rule offset) = false
+has_run (status.AsmRefused line rule) = false
+has_run status.TooLong = false
+has_run (status.Killed signal) = true
+has_run (status.Limit thread) = true
+has_run status.NoMemory = false

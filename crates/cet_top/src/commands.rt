@@ -1,7 +1,7 @@
 //! What the commands answer to the bytes of the source.
 
-ghost use Rattle.std.specs.Prelude.{◌≡◌, ◌≤◌, ◌∷◌, ◌++◌, [], codes, length, IfOk};
-ghost use Rattle.cet_cli.specs.Words.{HasSwaps};
+ghost use Rattle.std.specs.Prelude.{◌≡◌, ◌≤◌, ◌∷◌, ◌++◌, [], codes, false, length, IfOk};
+ghost use Rattle.cet_cli.specs.Words.{HasNumber, is_threaded};
 ghost use Rattle.cet_top.specs.Answer.{Answers};
 ghost use Rattle.cet_top.specs.Listing.{IsListing};
 ghost use Rattle.cet_top.specs.Reading.{most_input};
@@ -61,10 +61,11 @@ fn check_bytes(alloc: Global, bytes: &[u8]) -> Result<Answer, NoMemory>
     }
 }
 
-/// What a command answers to the bytes of the source.
+/// What a command that is no threaded run answers to the bytes of the source.
 pub(crate) fn answer_to(alloc: Global, command: &Command, bytes: &[u8]) -> Result<Answer, NoMemory>
     requires short { length bytes.now ≤ most_input }
-    requires swaps { HasSwaps command.now }
+    requires number { HasNumber command.now }
+    requires plain { is_threaded command.now ≡ false }
     ensures { IfOk result (λ answer. Answers command.now bytes.now answer.status answer.output) }
 {
     match command {
@@ -74,5 +75,6 @@ pub(crate) fn answer_to(alloc: Global, command: &Command, bytes: &[u8]) -> Resul
         Command::Asm { runtime } => assemble_bytes(alloc, *runtime, bytes),
         Command::Check => check_bytes(alloc, bytes),
         Command::Bench(n) => bench(alloc, *n),
+        Command::Smp(_, _) => unreachable!(),
     }
 }

@@ -14,8 +14,9 @@ mod serve;
 mod status;
 #[cfg(test)]
 mod tests;
+mod threads;
 mod transfers;
 
 pub use laws::answers_are_one;
-pub use programs::plain;
+pub use programs::{plain, smp};
 pub use status::Status;

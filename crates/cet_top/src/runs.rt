@@ -24,7 +24,7 @@ pub(crate) enum Course<'a> {
 }
 
 /// The status of a run whose process ended so.
-fn status_of(end: ProcessEnd) -> Status
+pub(crate) fn status_of(end: ProcessEnd) -> Status
     ensures { result ≡ status_of end }
 {
     match end {
@@ -54,6 +54,20 @@ fn run_course(alloc: Global, job: &Job, course: Course) -> Result<Outcome, NoMem
     }
 }
 
+/// The job of an image by these settings.
+pub(crate) fn job_with<'a>(settings: &'a Settings, image: &'a Image) -> Job<'a>
+    ensures { result ≡ job_with settings.now image.now }
+{
+    // The image's invariant holds of it from here on.
+    let _entry = image.entry;
+    Job {
+        image,
+        procs: settings.procs,
+        limit: settings.limit,
+        signals: settings.signals.as_slice(),
+    }
+}
+
 /// The outcome of a run of an image by the settings.
 fn run_image(
     alloc: Global,
@@ -63,14 +77,7 @@ fn run_image(
 ) -> Result<Outcome, NoMemory>
     ensures { let job = job_with settings.now image.now in IfOk result (SafeRun job (by_course course.entry job)) }
 {
-    // The image's invariant holds of it from here on.
-    let _entry = image.entry;
-    let job = Job {
-        image,
-        procs: settings.procs,
-        limit: settings.limit,
-        signals: settings.signals.as_slice(),
-    };
+    let job = job_with(settings, image);
     run_course(alloc, &job, course)
 }
 

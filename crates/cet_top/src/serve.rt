@@ -1,18 +1,22 @@
 //! How a command is served, between a source and a sink.
 
-ghost use Rattle.std.specs.Prelude.{◌≡◌, ◌≤◌, true, IfOk, IsErrOf};
-ghost use Rattle.cet_cli.specs.Words.{HasSwaps};
-ghost use Rattle.cet_top.specs.Answer.{Answers, reads};
+ghost use Rattle.std.specs.Prelude.{◌≡◌, ◌≤◌, false, true, is_some, IfOk, IsErrOf};
+ghost use Rattle.cet_cli.specs.Words.{HasNumber, is_threaded, most_workers};
+ghost use Rattle.cet_top.specs.Answer.{Answers, AnswersThreaded, has_run, reads};
 ghost use Rattle.cet_top.specs.Reading.{ReadTooMuch, ReadUntilFault, source_state};
 ghost use Rattle.cet_top.specs.Serves.{Serves, Takes, TakesSome, sink_state};
 
 use crate::commands::answer_to;
 use crate::status::Status;
+use crate::threads::{Threaded, run_threads};
 use crate::transfers::{Unread, read_all, write_all};
-use cet_cli::Command;
+use cet_cli::{Command, Settings};
 use cet_io::{Sink, Source};
+use cet_pool::Ran;
+use cet_shared::Turnstile;
 use cet_words::Bytes;
 use std::alloc::Global;
+use std::thread::Threads;
 
 /// Whether a command reads the source.
 fn reads(command: &Command) -> bool
@@ -23,7 +27,8 @@ fn reads(command: &Command) -> bool
         | Command::Replay(_, _)
         | Command::Dis
         | Command::Asm { .. }
-        | Command::Check => true,
+        | Command::Check
+        | Command::Smp(_, _) => true,
         Command::Bench(_) => false,
     }
 }
@@ -51,14 +56,15 @@ fn read_for<S: Source>(alloc: Global, command: &Command, src: &mut S) -> Result<
     Ok(bytes)
 }
 
-/// Serves a command: takes what it reads, and writes what it answers to that.
+/// Serves a command that is no threaded run: takes what it reads, and writes what it answers to that.
 pub(crate) fn serve<S: Source, K: Sink>(
     alloc: Global,
     command: &Command,
     src: &mut S,
     sink: &mut K,
 ) -> Status
-    requires swaps { HasSwaps command.now }
+    requires number { HasNumber command.now }
+    requires plain { is_threaded command.now ≡ false }
     ensures { Serves (reads command.now) (Answers command.now)
         (source_state (S.left src.old) (S.faults src.old) (S.tally src.old))
         (source_state (S.left src.new) (S.faults src.new) (S.tally src.new))
@@ -77,5 +83,40 @@ pub(crate) fn serve<S: Source, K: Sink>(
     match write_all(sink, answer.output.as_slice()) {
         Ok(()) => answer.status,
         Err(_) => Status::WriteFault,
+    }
+}
+
+/// Serves a threaded run: reads the image, and writes the report of its run on so many workers.
+pub(crate) fn serve_threads<R: Threads + Sync, S: Source, K: Sink, G: Turnstile + Sync>(
+    rt: &R,
+    alloc: Global,
+    settings: &Settings,
+    workers: u32,
+    src: &mut S,
+    sink: &mut K,
+    gate: &G,
+) -> (Status, Option<Ran>)
+    requires { (1 ≤ workers) × (workers ≤ most_workers) }
+    ensures serves { Serves true (AnswersThreaded settings.now result.1)
+        (source_state (S.left src.old) (S.faults src.old) (S.tally src.old))
+        (source_state (S.left src.new) (S.faults src.new) (S.tally src.new))
+        (sink_state (K.written sink.old) (K.faults sink.old))
+        (sink_state (K.written sink.new) (K.faults sink.new)) result.0 }
+    ensures ran { is_some result.1 ≡ has_run result.0 }
+{
+    let bytes = match read_all(alloc, src) {
+        Ok(bytes) => bytes,
+        Err(Unread::NoMemory) => return (Status::NoMemory, None),
+        Err(Unread::Failed) => return (Status::ReadFault, None),
+        Err(Unread::TooLong) => return (Status::TooLong, None),
+    };
+    let Ok(Threaded { answer, ran }) =
+        run_threads(rt, alloc, settings, workers, gate, bytes.as_slice())
+    else {
+        return (Status::NoMemory, None);
+    };
+    match write_all(sink, answer.output.as_slice()) {
+        Ok(()) => (answer.status, ran),
+        Err(_) => (Status::WriteFault, ran),
     }
 }

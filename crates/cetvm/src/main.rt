@@ -1,9 +1,10 @@
 //! Runs x86-64 images whose returns are guarded by shadow stacks, and reports what they did.
 #![tactic(auto)]
 
-use cet_cli::help_text;
+use cet_cli::{help_text, is_smp};
 use cet_io::{StdSink, StdSource};
-use cet_top::{Status, plain};
+use cet_shared::Open;
+use cet_top::{Status, plain, smp};
 use std::alloc::Global;
 use std::env::Env;
 use std::io::ErrorKind;
@@ -30,6 +31,10 @@ fn run(rt: &HostRuntime) -> Status {
     };
     let mut source = StdSource::new(rt.stdin());
     let mut sink = StdSink::new(rt.stdout());
+    if is_smp(&words) {
+        let (status, _run) = smp(rt, rt.alloc(), &words, &mut source, &mut sink, &Open);
+        return status;
+    }
     plain(rt.alloc(), &words, &mut source, &mut sink)
 }
 

@@ -1,7 +1,7 @@
 use Rattle.std.proofs.Common.{ℕ, ◌≡◌, ◌∙◌, ap, inr, subst, sym}
 use Rattle.cet_cli.specs.Faults.{HasCause}
 use Rattle.cet_cli.specs.Grammar.{FaultyWord}
-use Rattle.cet_cli.specs.Words.{IsCommand}
+use Rattle.cet_cli.specs.Words.{IsPlain}
 use Rattle.cet_top.specs.declared.status.Status.TheVariants as status
 use Rattle.cet_cli.proofs.Faulty.{faulty_same}
 use Rattle.cet_top.proofs.Serving.{means_serves, none_read, served_completes, served_no_usage, served_too_long}
@@ -33,10 +33,10 @@ returns-in-Ok-clause-too_long g c = λ much. served_too_long _ _ _ _ _ _ c.serve
 
 pub returns-in-Err-Usage-clause-usage : goal.returns-in-Err-Usage-clause-usage
 returns-in-Err-Usage-clause-usage g c =
-    let faulty : FaultyWord IsCommand _ c.in-Err-Usage.number = subst (HasCause _) c.in-Err-Usage.field-0-is (c.in-Err-Usage.ensures {u = tt}).means in
+    let faulty : FaultyWord IsPlain _ c.in-Err-Usage.number = subst (HasCause IsPlain _) c.in-Err-Usage.field-0-is (c.in-Err-Usage.ensures {u = tt}).means in
     λ n. (
-      λ e. subst (FaultyWord IsCommand _) (sym c.in-Err-Usage.number-is ∙ usage_same _ n e) faulty,
-      λ f. ap status.Usage (c.in-Err-Usage.number-is ∙ faulty_same IsCommand _ c.in-Err-Usage.number n faulty f),
+      λ e. subst (FaultyWord IsPlain _) (sym c.in-Err-Usage.number-is ∙ usage_same _ n e) faulty,
+      λ f. ap status.Usage (c.in-Err-Usage.number-is ∙ faulty_same IsPlain _ c.in-Err-Usage.number n faulty f),
     )
 
 pub returns-in-Err-NoMemory-clause-serves : goal.returns-in-Err-NoMemory-clause-serves
