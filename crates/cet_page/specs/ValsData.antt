@@ -7,8 +7,7 @@ pub record ValsData : Type 0 where
   pub accesses : ℕ
   pub values : List ℕ
 
--- The most values that a row may keep. The rows that keep most keep 7: EXIT, PEND, and up to five looks, loads and
--- exchanges. Calls of the kernel that read a signal's frame, 29 in all, are to come.
+-- The most values that a row may keep. The row that keeps most is that of rt_sigreturn, which reads a signal's frame: it keeps 29.
 abbrev pub most_values : ℕ
 most_values = 32
 

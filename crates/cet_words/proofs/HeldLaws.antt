@@ -17,6 +17,10 @@ pub get_or-tabulate : (n : ℕ) (f : ℕ → ℕ) (i : ℕ) → i < n → get_or
 unfolding tabulate
 get_or-tabulate n f i h = get_or-map-range_with_len f 0 n i i 0 h (omega arith)
 
+-- all words are there
+pub all_held : (image stack shadow kernel : List ℕ) → length (held_words image stack shadow kernel) ≡ word_count
+all_held image stack shadow kernel = length-tabulate word_count (held_word image stack shadow kernel)
+
 -- where one value of the function changes, one element of the list does
 pub tabulate_set : (n : ℕ) (f g : ℕ → ℕ) (i v : ℕ) → i < n → ((w : ℕ) → g w ≡ (if w == i then v else f w)) → tabulate n g ≡ set (tabulate n f) i v
 tabulate_set n f g i v h e =

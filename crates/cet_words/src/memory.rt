@@ -1,6 +1,6 @@
 //! The words of a machine in memory.
 
-ghost use Rattle.std.specs.Prelude.{◌≡◌, ◌-◌, ◌<◌, ◌≤◌, ℕ, List, [], IfOk, slice_index, slice_set};
+ghost use Rattle.std.specs.Prelude.{◌≡◌, ◌-◌, ◌<◌, ◌≤◌, ℕ, List, [], IfOk, length, slice_index, slice_set};
 ghost use Rattle.std.specs.Vec.{vec_capacity};
 ghost use Rattle.cet_words.specs.Layout.{first_stack_word, first_shadow_word, first_kernel_word, word_count};
 ghost use Rattle.cet_words.specs.Held.{held_words};
@@ -65,6 +65,16 @@ impl Plain {
             shadow: room(alloc, FIRST_KERNEL_WORD - FIRST_SHADOW_WORD)?,
             kernel,
         })
+    }
+
+    /// The number of its words, which is that of the machine's.
+    #[tactic(auto, using(crate::proofs::HeldLaws::all_held))]
+    pub fn count(&self) -> u32
+        ensures all { result ≡ word_count }
+        ensures here { length self.now ≡ word_count }
+    {
+        let _image = &self.image;
+        WORD_COUNT
     }
 
     /// The word of a number.
