@@ -1,14 +1,18 @@
 -- The words that each of the two calls serves.
 use Rattle.std.proofs.Common.{ℕ, ◌+◌, ◌<◌, ◌≤◌, ◌≡◌, Bool, true, false, List, [], ◌∷◌, ◌++◌, length, take, refl, sym, ap, ◌∙◌, inl, inr, subst, arith}
-use Rattle.std.specs.Prelude.{codes}
+use Rattle.std.specs.Prelude.{codes, IfOk, MatchResult, Result}
 use Rattle.std.specs.Str.{bytes_eq}
+use Rattle.std.proofs.lemmas.Result.{MatchResult-weaker}
+use Rattle.cet_cli.specs.Faults.{HasCause}
 use Rattle.cet_cli.specs.Grammar.{Begins, FaultyWord, IsAmong, IsLine}
-use Rattle.cet_cli.specs.Words.{IsCommand, IsPlain, IsSmp, Means, MeansPlain, begins_smp, choices_of, command_of, commands, is_threaded, smp_word}
+use Rattle.cet_cli.specs.Words.{HasNumber, IsCommand, IsPlain, IsSmp, Means, MeansPlain, begins_smp, choices_of, command_of, commands, is_threaded, smp_word}
 use Rattle.cet_cli.specs.Settings.{SettingsData}
 use Rattle.cet_cli.specs.declared.options.Choices.{Choices}
 use Rattle.cet_cli.specs.declared.words.Command.{Command}
 use Rattle.cet_cli.specs.declared.words.Command.TheVariants as command
-use Rattle.cet_cli.proofs.CommandWords.{Row, faulty_none}
+use Rattle.cet_cli.specs.declared.words.CliFault.{CliFault}
+use Rattle.cet_cli.specs.declared.words.CliFault.TheVariants.{NoMemory, Usage}
+use Rattle.cet_cli.proofs.CommandWords.{Row, means_number}
 use Rattle.cet_cli.proofs.Faulty.{faulty_here}
 
 -- ---- a row's word tells whether its command is a threaded run
@@ -139,3 +143,25 @@ faulty_plain (word ∷ words) number e f = faulty_front IsPlain false to_plain o
 pub faulty_smp : (words : List (List ℕ)) (number : ℕ) → begins_smp words ≡ true → FaultyWord IsCommand words number → FaultyWord IsSmp words number
 faulty_smp [] number e f = cc
 faulty_smp (word ∷ words) number e f = faulty_front IsSmp true to_smp of_smp smp_begins word words number e f
+
+-- ---- what is read
+
+abbrev Read : Type 0
+Read = Result Command CliFault
+
+plain_cause : (words : List (List ℕ)) (fault : CliFault) → begins_smp words ≡ false → HasCause IsCommand words fault → HasCause IsPlain words fault
+plain_cause words (Usage number) e f = faulty_plain words number e f
+plain_cause words NoMemory e is = to_plain words e is
+
+pub smp_fault : (words : List (List ℕ)) (fault : CliFault) → begins_smp words ≡ true → HasCause IsCommand words fault → HasCause IsSmp words fault
+smp_fault words (Usage number) e f = faulty_smp words number e f
+smp_fault words NoMemory e is = to_smp words e is
+
+pub plain_read : (words : List (List ℕ)) (r : Read) → begins_smp words ≡ false → MatchResult r (Means words) (HasCause IsCommand words) → MatchResult r (MeansPlain words) (HasCause IsPlain words)
+plain_read words r e h = MatchResult-weaker r h
+    (λ c m. record { means = m; plain = means_threaded words c m ∙ e })
+    (λ fault f. plain_cause words fault e f)
+
+-- the number of what is read is one that it may have
+pub number_read : (words : List (List ℕ)) (r : Read) → MatchResult r (Means words) (HasCause IsCommand words) → IfOk r HasNumber
+number_read words r h = MatchResult-weaker r h (λ c m. means_number words c m) (λ fault f. tt)

@@ -154,7 +154,6 @@ fn read_line(alloc: Global, row: CommandRow, words: &[String]) -> Result<Command
 }
 
 /// Reads the words of a command. A faulty word is found without memory.
-#[tactic(auto, using(crate::proofs::CommandWords::means_number))]
 pub fn read_words(alloc: Global, words: &[String]) -> Result<Command, CliFault>
     ensures means { MatchResult result (Means (map string_bytes words.now)) (HasCause IsCommand (map string_bytes words.now)) }
     ensures number { IfOk result HasNumber }

@@ -1,7 +1,6 @@
 //! The outcome of a run on a table of words.
 
-ghost use Rattle.std.specs.Prelude.{◌≡◌, IfOk, length};
-ghost use Rattle.cet_words.specs.Layout.{word_count};
+ghost use Rattle.std.specs.Prelude.{◌≡◌, IfOk};
 ghost use Rattle.cet_run.specs.SafeRun.{SafeRun};
 ghost use Rattle.cet_pool.specs.Gathering.{IsGathered, LeadsTo};
 
@@ -46,7 +45,6 @@ pub fn finish(
 ) -> Result<Ran, NoMemory>
     requires job { shared.job ≡ job.now }
     requires done { IsGathered shared done }
-    requires room { length into ≡ word_count }
     // One schedule leads to exactly the threads that were gathered, and the outcome is that of its run.
     ensures run { IfOk result (SafeRun job.now (LeadsTo job.now done.last.view)) }
     ensures threads { IfOk result (λ ran. ran.threads ≡ done.threads) }

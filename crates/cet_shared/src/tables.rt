@@ -1,6 +1,6 @@
 //! The table of words that guest threads share.
 
-ghost use Rattle.std.specs.Prelude.{◌≡◌, ℕ, ◌+◌, ◌<◌, ◌≤◌, [], ◌∷◌, length, None, Some, IfOk, IfSome};
+ghost use Rattle.std.specs.Prelude.{◌≡◌, ℕ, ◌+◌, ◌<◌, ◌≤◌, [], ◌∷◌, None, Some, IfOk, IfSome, slice_set};
 ghost use Rattle.std.specs.Mem.Slots.{slots_items, slots_len, IsFull};
 ghost use Rattle.cet_words.specs.Access.{InRange};
 ghost use Rattle.cet_words.specs.Layout.{word_count};
@@ -18,7 +18,7 @@ use crate::rules::{Audit, Bring, Child, Ended, Explains, Key, OneAccess, View};
 use crate::starts::{key_of, start_words};
 use atomic_table::{Closed, Seat, Table};
 use cet_cpu::{Cpu, Taken, first};
-use cet_words::{Access, FIRST_ENTRY_WORD, Job, NoMemory, Perform, Plain, WORD_COUNT};
+use cet_words::{Access, FIRST_ENTRY_WORD, Job, NoMemory, Perform, Plain};
 use std::alloc::Global;
 use std::marker::Model;
 
@@ -115,7 +115,6 @@ impl Shared {
     pub fn close(self, last: Pass, into: &mut Plain)
         requires pass { IsOf self last }
         requires all { AreAll last.view.threads }
-        requires room { length into.old ≡ word_count }
         ensures { IsRun self.job into.new last.view }
     {
         let Shared { table } = self;
@@ -176,14 +175,24 @@ fn part(shared: &Words, seat: &mut Seat<(), View>, child: &Cpu) -> Seat<(), View
     shared.split_seat::<Child>(seat)
 }
 
-/// Stores the words of a closed table, each by its number.
+/// Has a word of `into` be this one. Where it is so already nothing is stored, so pages that nobody has stored to still cost nothing.
+fn put_word(into: &mut Plain, word: u32, value: u64)
+    requires { word < word_count }
+    ensures { into.new ≡ slice_set into.old word value }
+{
+    if into.perform(Access::Load(word)) != value {
+        into.perform(Access::Store(word, value));
+    }
+}
+
+/// Has `into` have the words of a closed table, each by its number.
 fn copy_words(closed: &Closed<(), Global>, into: &mut Plain)
     requires count { slots_len closed.now.words ≡ word_count }
     requires full { IsFull closed.now.words }
-    requires room { length into.old ≡ word_count }
     ensures { into.new ≡ slots_items closed.now.words }
 {
-    for word in 0..WORD_COUNT {
-        into.perform(Access::Store(word, closed.word(word as usize)));
+    let count = into.count();
+    for word in 0..count {
+        put_word(into, word, closed.word(word as usize));
     }
 }

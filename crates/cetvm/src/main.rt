@@ -9,6 +9,7 @@ use std::alloc::Global;
 use std::env::Env;
 use std::io::ErrorKind;
 use std::process::ExitCode;
+use std::thread::Threads;
 use std::{env, io};
 
 /// The words behind the program's name. A word that isn't UTF-8 makes the first one faulty.
@@ -23,8 +24,8 @@ fn command_words<R: Env + AllocGlobal>(rt: &R) -> Result<Vec<String>, Status> {
         .map_err(|_error| Status::NoMemory)
 }
 
-/// Runs the command on standard input and output.
-fn run(rt: &HostRuntime) -> Status {
+/// Runs the command on standard input and output. `threads` is the leave to start threads.
+fn run<R: Threads + Sync>(rt: &HostRuntime, threads: &R) -> Status {
     let words = match command_words(rt) {
         Ok(words) => words,
         Err(status) => return status,
@@ -32,7 +33,7 @@ fn run(rt: &HostRuntime) -> Status {
     let mut source = StdSource::new(rt.stdin());
     let mut sink = StdSink::new(rt.stdout());
     if is_smp(&words) {
-        let (status, _run) = smp(rt, rt.alloc(), &words, &mut source, &mut sink, &Open);
+        let (status, _ran) = smp(threads, rt.alloc(), &words, &mut source, &mut sink, &Open);
         return status;
     }
     plain(rt.alloc(), &words, &mut source, &mut sink)
@@ -50,7 +51,7 @@ fn tell(rt: &HostRuntime, status: Status) -> io::Result<()> {
 }
 
 fn main(rt: HostRuntime) -> ExitCode {
-    let status = run(&rt);
+    let status = run(&rt, &rt);
     // Nothing is left to do where standard error fails.
     let _ = tell(&rt, status);
     ExitCode::from(status.code())

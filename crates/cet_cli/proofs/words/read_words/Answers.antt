@@ -1,6 +1,7 @@
 use Rattle.std.proofs.lemmas.List.{nil_from_length}
 use Rattle.cet_cli.specs.Table.{command_view}
 use Rattle.cet_cli.proofs.CommandWords.{faulty_first, faulty_none, found_row}
+use Rattle.cet_cli.proofs.CallWords.{number_read}
 use Rattle.cet_cli.proofs.words.read_words.Goals as goal
 
 pub returns-in_default-clause-means : goal.returns-in_default-clause-means
@@ -16,3 +17,6 @@ pub returns-clause-means : goal.returns-clause-means
 returns-clause-means c =
     let found = found_row c.as_str.result.now (command_view c.in-Some-find_command.row) c.in-Some-find_command.ensures in
     rw (c.in-Some.ensures.cases.0, ← c.as_str.ensures.value, ← found.1) c.read_line.ensures
+
+pub returns-clause-number : goal.returns-clause-number
+returns-clause-number c = number_read _ c.read_line.result c.read_line.ensures

@@ -8,7 +8,7 @@ pub loop-word-preserved : goal.loop-word-preserved
 loop-word-preserved c =
     let l = c.loop-word in
     let words = slots_items c.args.closed.now.words in
-    record { stored = subst (Stored (l.word + 1) words) (sym c.perform.ensures.words) (stored_more l.word c.word.result words l.into (omega arith) l.invariant.stored c.word.ensures) }
+    record { stored = subst (Stored (l.word + 1) words) (sym c.put_word.ensures) (stored_more l.word c.word.result words l.into (omega arith) l.invariant.stored c.word.ensures) }
 
 pub returns : goal.returns
 returns c =
