@@ -1,5 +1,5 @@
 -- Hexadecimal digits, two at a time.
-use Rattle.std.proofs.Common.{◌≡◌, ℕ, zero, suc, ◌+◌, ◌-◌, ◌*◌, ◌/◌, ◌%◌, ◌^◌, ◌<◌, ◌≤◌, true, eqb, false, List, [], ◌∷◌, ◌++◌, drop, get_or, append_assoc, refl, ap, sym, ◌∙◌, arith}
+use Rattle.std.proofs.Common.{◌≡◌, ℕ, zero, suc, ◌+◌, ◌-◌, ◌*◌, ◌/◌, ◌%◌, ◌^◌, ◌<◌, ◌≤◌, true, eqb, false, List, ◌∷◌, ◌++◌, drop, get_or, append_assoc, refl, ap, sym, ◌∙◌, arith}
 use Rattle.std.specs.Fmt.{digit_glyph}
 use Rattle.std.proofs.lemmas.Bool.{agree_below_at, eqb-true}
 use Rattle.std.proofs.Math.Nat.{div-div-eq-div-mul, pow-succ'}

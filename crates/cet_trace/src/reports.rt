@@ -51,7 +51,8 @@ fn record_name(what: What) -> &'static str
     }
 }
 
-/// Appends a record of the thread of this number. Its line is written from its end.
+/// Appends a record of the thread of this number. Its line is written from its end, and appended in one
+/// piece.
 #[tactic(auto, unfolding(crate::specs::Report::record_text))]
 fn put_record(alloc: Global, out: &mut Bytes, number: u64, noted: Record) -> Result<(), NoMemory>
     ensures { OnOk result (out.new ≡ out.old ++ record_text number noted) }

@@ -1,4 +1,4 @@
-use Rattle.std.proofs.Common.{◌≡◌, ◌-◌, ◌*◌, ◌++◌, drop, refl, ap, sym, ◌∙◌, arith}
+use Rattle.std.proofs.Common.{◌≡◌, ◌-◌, ◌*◌, ◌++◌, drop, refl, ap, ◌∙◌, arith}
 use Rattle.cet_base.specs.Digits.{hex_digits, hex16}
 use Rattle.cet_trace.proofs.Pairs.{pair_written}
 use Rattle.cet_trace.proofs.digits.write_hex.Goals as goal

@@ -11,4 +11,6 @@ returns c =
     let byte = c.args.byte in
     let low = hex_digit_at byte 0 in
     let next : at + 1 + 1 ≡ at + 2 = omega arith in
-    rw (high_of byte (omega arith), low_of byte (omega arith), drop-set (set buf (at + 1) low) at (hex_digit_at byte 1) (omega (arith, length-set buf (at + 1) low)), drop-set buf (at + 1) low (omega arith), next)
+    let first = drop-set (set buf (at + 1) low) at (hex_digit_at byte 1) (omega (arith, length-set buf (at + 1) low)) in
+    let second = drop-set buf (at + 1) low (omega arith) in
+    rw (high_of byte (omega arith), low_of byte (omega arith), first, second, next)

@@ -1,4 +1,4 @@
-use Rattle.std.proofs.Common.{◌≡◌, ◌-◌, [], ◌∷◌, drop, take, refl, sym, ◌∙◌, arith, take_all, length-drop}
+use Rattle.std.proofs.Common.{◌-◌, drop, sym, ◌∙◌, arith, take_all, length-drop}
 use Rattle.std.specs.Fmt.{decimal}
 use Rattle.std.proofs.lemmas.Fmt.{length-decimal-le}
 use Rattle.cet_base.specs.Digits.{hex16}
