@@ -99,7 +99,9 @@ class Runs:
         valgrind = ["valgrind", "--smc-check=all", "--tool=callgrind", f"--callgrind-out-file={os.devnull}"]
         with open(program if tool.reads else os.devnull) as source, open(self.output, "w") as sink:
             ran = subprocess.run([*valgrind, *self.words(tool, program)], stdin=source,
-                                 stdout=subprocess.DEVNULL if tool.logs else sink, stderr=subprocess.PIPE, check=True)
+                                 stdout=subprocess.DEVNULL if tool.logs else sink, stderr=subprocess.PIPE)
+        if ran.returncode:
+            raise Passed(f"under valgrind it ended with the status {ran.returncode}")
         return int(re.search(rb"Collected : (\d+)", ran.stderr)[1])
 
 
@@ -232,17 +234,15 @@ def further(runs, path, rounds):
     print(flush=True)
 
 
-def instructions(runs, path, tools, programs):
-    """Prints the host instructions of a step, those of the kernel left out, and then those of instructions.py."""
-    if not shutil.which("valgrind"):
-        print("passed over: instructions: there is no valgrind")
-        return
+def instructions(runs, tools, programs):
+    """Prints the host instructions of a step, those of the kernel left out."""
     for tool, (few, many), _ in tools:
         if tool.counted:
-            short, long = (runs.count(tool, program) for program in programs)
-            print(f"{tool.name}: {(long - short) / (many - few):,.0f} host instructions a step", flush=True)
-    if os.access(path, os.X_OK):
-        subprocess.run([sys.executable, HERE / "instructions.py", path], check=True)
+            try:
+                short, long = (runs.count(tool, program) for program in programs)
+                print(f"{tool.name}: {(long - short) / (many - few):,.0f} host instructions a step", flush=True)
+            except Passed as reason:
+                print(f"passed over: {tool.name}: {reason}", flush=True)
 
 
 def machine(runs, rounds):
@@ -254,6 +254,24 @@ def machine(runs, rounds):
           f"output to a file on {disk[-1]}; the least of {rounds} rounds", flush=True)
 
 
+def measure(runs, path, rounds, parts):
+    machine(runs, rounds)
+    programs = [runs.linked(turns) for turns in (FEW, MANY)]
+    tools = ready(runs, path, programs)
+    print(flush=True)
+    if "peers" in parts:
+        compare(runs, tools, programs, rounds)
+    runs_cetvm = any(tool.reads for tool, _, _ in tools)
+    if "cetvm" in parts and runs_cetvm:
+        further(runs, path, rounds)
+    if "instructions" in parts and not shutil.which("valgrind"):
+        print("passed over: instructions: there is no valgrind")
+    elif "instructions" in parts:
+        instructions(runs, tools, programs)
+        if runs_cetvm:
+            subprocess.run([sys.executable, HERE / "instructions.py", path], check=True)
+
+
 def main():
     asked = argparse.ArgumentParser(description="Compares cetvm with other tools that tell each instruction.")
     asked.add_argument("--cetvm", default=TOP / "crates/cetvm/out/cetvm", help="the program, by itself that of `rt ci`")
@@ -262,21 +280,16 @@ def main():
     asked.add_argument("--parts", default=",".join(PARTS), help="which parts, by themselves " + ",".join(PARTS))
     words = asked.parse_args()
     path, parts = Path(words.cetvm).resolve(), words.parts.split(",")
+    if not set(parts) <= set(PARTS):
+        asked.error(f"the parts are {', '.join(PARTS)}")
     for word in ("as", "ld", "cc"):
         if not shutil.which(word):
             sys.exit(f"peers: there is no {word}")
     with tempfile.TemporaryDirectory(dir=words.work) as folder:
-        runs = Runs(folder)
-        machine(runs, words.rounds)
-        programs = [runs.linked(turns) for turns in (FEW, MANY)]
-        tools = ready(runs, path, programs)
-        print(flush=True)
-        if "peers" in parts:
-            compare(runs, tools, programs, words.rounds)
-        if "cetvm" in parts and os.access(path, os.X_OK):
-            further(runs, path, words.rounds)
-        if "instructions" in parts:
-            instructions(runs, path, tools, programs)
+        try:
+            measure(Runs(folder), path, words.rounds, parts)
+        except Passed as reason:
+            sys.exit(f"peers: {reason}")
 
 
 if __name__ == "__main__":
