@@ -10,6 +10,7 @@ _cetvm_options() {
         asm) options="--runtime" ;;
         run) options="--limit --procs --trace --signals" ;;
         replay) options="--schedule --mix --limit --procs --trace --signals" ;;
+        smp) options="--workers --limit --procs --trace --signals" ;;
     esac
     for option in $options; do
         case $option in
@@ -24,6 +25,7 @@ _cetvm_values() {
     case $1 in
         --limit) printf '%s\n' 1 10 100 1000 10000 100000 ;;
         --procs) printf '%s\n' 1 2 3 4 5 6 7 8 ;;
+        --workers) printf '%s\n' 1 2 4 8 16 ;;
         --trace) printf '%s\n' full last ;;
         --mix) printf '%s\n' 0 1 2 3 ;;
         --schedule) printf '%s\n' '0' '0*1' '0*1,1*1' ;;
@@ -40,7 +42,7 @@ _cetvm_has_value() {
 _cetvm_candidates() {
     local before=${*: -1}
     if (($# == 0)); then
-        printf '%s\n' asm dis check run replay bench
+        printf '%s\n' asm dis check run replay bench smp
     elif [[ $1 == bench ]]; then
         (($# == 1)) && printf '%s\n' 1 10 100 1000
     elif (($# > 1)) && [[ $before == "=" ]]; then

@@ -22,8 +22,9 @@ while IFS='|' read -r words wanted; do
         failed=1
     fi
 done << 'ROWS'
-cetvm ""                                    | asm dis check run replay bench
+cetvm ""                                    | asm dis check run replay bench smp
 cetvm r                                     | run replay
+cetvm s                                     | smp
 cetvm walk                                  |
 cetvm asm ""                                | --runtime
 cetvm asm --runtime ""                      |
@@ -45,6 +46,12 @@ cetvm replay ""                             | --schedule --mix --limit --procs -
 cetvm replay --mix 1 ""                     | --limit --procs --trace --signals
 cetvm replay --schedule "0*41" --m          |
 cetvm replay --schedule ""                  | 0 0*1 0*1,1*1
+cetvm run --workers ""                      | --limit --procs --trace --signals
+cetvm smp ""                                | --workers --limit --procs --trace --signals
+cetvm smp --workers ""                      | 1 2 4 8 16
+cetvm smp --workers = 1                     | 1 16
+cetvm smp --workers 2 --                    | --limit --procs --trace --signals
+cetvm smp --m                               |
 cetvm bench ""                              | 1 10 100 1000
 cetvm bench 10 ""                           |
 ROWS
