@@ -64,6 +64,7 @@ cetvm check
 cetvm run [common]
 cetvm replay [common] --schedule ITEMS or --mix NUMBER
 cetvm bench NUMBER
+cetvm smp [common] [--workers NUMBER]
 common: --limit NUMBER --procs NUMBER --trace full or last --signals ITEMS
 """
 

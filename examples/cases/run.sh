@@ -10,8 +10,7 @@
 #
 # words.cases has a list of words a line, and before it the number of its first faulty word, or `-` where it is a command.
 # odd_words.cases has the same with words that have blanks or bytes that are no text: `\\0` and three octal digits is a
-# byte, and `''` an empty word. smp_words.cases is for a command that isn't there yet: the numbers count once it is, and
-# today the first word is the faulty one.
+# byte, and `''` an empty word.
 # texts.cases has a text a line, with `|` for a newline, and before it the line and the rule that it breaks.
 # images.cases has a change of an image a line: the rule that it breaks and the place, and then a `patch` or `cut`.
 # map_shadow_stack_arguments.cases has a call from a fresh start a line: its result, address, size and flags, and, where it
@@ -126,7 +125,6 @@ faulty_word() {
 # The longest lists, and those with an item more, or a turn.
 {
     cat words.cases
-    sed 's/^[^ ]*/1/' smp_words.cases
     echo "- run --signals $(list 0:0:10 256)"
     echo "3 run --signals $(list 0:0:10 257)"
     echo "- replay --schedule $(list 0 10000)"
@@ -152,7 +150,11 @@ faulty_word() {
     echo "3 bench 1 ${zeros}1"
     echo "3 replay --mix ${zeros}1"
     echo "3 replay --schedule ${zeros}1"
+    echo "3 smp --workers ${zeros}1"
+    echo "3 smp --workers 1$zeros"
+    echo "2 smp --workers=1$zeros"
     echo "1 $(yes x | head -n 10000 | tr '\n' ' ')"
+    echo "4 smp --workers 1 $(yes -- '--workers 1' | head -n 4998 | tr '\n' ' ')"
     echo "2 run $(yes run | head -n 9999 | tr '\n' ' ')"
     echo "2 bench $(yes bench | head -n 9999 | tr '\n' ' ')"
     echo "3 bench 5 $(yes 5 | head -n 9998 | tr '\n' ' ')"
