@@ -1,11 +1,11 @@
 -- The words that each of the two calls serves.
-use Rattle.std.proofs.Common.{ℕ, ◌+◌, ◌<◌, ◌≤◌, ◌≡◌, Bool, true, false, List, [], ◌∷◌, ◌++◌, length, take, refl, sym, ap, ◌∙◌, inl, inr, subst, arith}
+use Rattle.std.proofs.Common.{ℕ, zero, suc, ◌+◌, ◌<◌, ◌≤◌, ◌≡◌, Bool, true, false, List, [], ◌∷◌, ◌++◌, length, take, refl, sym, ap, ◌∙◌, inl, inr, subst, arith}
 use Rattle.std.specs.Prelude.{codes, IfOk, MatchResult, Result}
 use Rattle.std.specs.Str.{bytes_eq}
 use Rattle.std.proofs.lemmas.Result.{MatchResult-weaker}
 use Rattle.cet_cli.specs.Faults.{HasCause}
 use Rattle.cet_cli.specs.Grammar.{Begins, FaultyWord, IsAmong, IsLine}
-use Rattle.cet_cli.specs.Words.{HasNumber, IsCommand, IsPlain, IsSmp, Means, MeansPlain, begins_smp, choices_of, command_of, commands, is_threaded, smp_word}
+use Rattle.cet_cli.specs.Words.{HasNumber, IsCommand, IsPlain, IsSmp, Means, MeansPlain, begins_smp, choices_of, command_of, commands, is_threaded, smp, smp_word}
 use Rattle.cet_cli.specs.Settings.{SettingsData}
 use Rattle.cet_cli.specs.declared.options.Choices.{Choices}
 use Rattle.cet_cli.specs.declared.words.Command.{Command}
@@ -25,7 +25,7 @@ threaded_row row (inr (inr (inr (inl e)))) operands choices = rw (e) refl
 threaded_row row (inr (inr (inr (inr (inl e))))) operands choices = rw (e) refl
 threaded_row row (inr (inr (inr (inr (inr (inl e)))))) operands choices = rw (e) refl
 threaded_row row (inr (inr (inr (inr (inr (inr (inl e))))))) operands choices = rw (e) refl
-threaded_row row (inr (inr (inr (inr (inr (inr (inr no))))))) operands choices = absurd no
+threaded_row row (inr (inr (inr (inr (inr (inr (inr none))))))) operands choices = absurd none
 
 pub means_threaded : (words : List (List ℕ)) (c : Command) → Means words c → is_threaded c ≡ begins_smp words
 means_threaded words c m =
@@ -63,7 +63,7 @@ smp_first words (settings, workers, m) = sym (means_threaded words (command.Smp 
 
 -- ---- there are words of both
 
-dis_words : List (List ℕ)
+abbrev dis_words : List (List ℕ)
 dis_words = codes "dis" ∷ []
 
 dis_line : IsCommand dis_words
@@ -77,8 +77,8 @@ dis_line = (command.Dis, record {
 })
 
 smp_line : IsCommand (smp_word ∷ [])
-smp_line = (command_of _ [] (choices_of []), record {
-  row = _;
+smp_line = (command_of smp.name [] (choices_of []), record {
+  row = smp;
   among = inr (inr (inr (inr (inr (inr (inl refl))))));
   operands = [];
   given = [];

@@ -210,7 +210,7 @@ number_within_row row (inr (inr (inr (inr (inr (inl e)))))) (word ∷ words) cho
     let fit : is_some (number_within 1 most_swaps word) ≡ true = (subst (λ (r : Row). AreValues r.operands (word ∷ words)) e v).0 in
     rw (e) (within 1 most_swaps word (number_within 1 most_swaps word) refl fit)
 number_within_row row (inr (inr (inr (inr (inr (inr (inl e))))))) operands choices v h = rw (e) h
-number_within_row row (inr (inr (inr (inr (inr (inr (inr no))))))) operands choices v h = absurd no
+number_within_row row (inr (inr (inr (inr (inr (inr (inr none))))))) operands choices v h = absurd none
 
 -- the number of a command that words mean is one that it may have
 pub means_number : (words : List (List ℕ)) (c : Command) → Means words c → HasNumber c

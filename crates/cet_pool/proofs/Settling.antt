@@ -142,7 +142,7 @@ module _ (place : Place) where
 
   -- ---- passes that go on wait for a turn, and those laid aside have ended
 
-  all_ready : (xs : List Live) → All (IsLive place) xs → All IsGoing xs → All (IsReady place) xs
+  pub all_ready : (xs : List Live) → All (IsLive place) xs → All IsGoing xs → All (IsReady place) xs
   all_ready [] l g = All-nil (IsReady place)
   all_ready (x ∷ xs) l g =
       let live = All-head (IsLive place) x xs l in

@@ -59,6 +59,13 @@ module _ (place : Place) (before : List Live) where
             before - length waiting) + 1) before (rest ++ l)) all to);
       }
 
+  -- another round
+  pub turned_then : (mid after : List Live) → Turned place before mid → Turned place mid after → Turned place before after
+  turned_then mid after t u = record {
+    lives = u.lives;
+    goes = goes_less place.job (length before) (length before + length mid) before after (omega arith) (goes_then place.job (length before) (length mid) before mid after t.goes u.goes);
+  }
+
   pub turning_done : (waiting after : List Live) → Turning place before waiting after → length waiting ≡ 0 → Turned place before after
   turning_done waiting after t none = record {
     lives = t.lives;

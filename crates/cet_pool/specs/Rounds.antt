@@ -1,4 +1,4 @@
--- A round: passes are dealt to workers, each has a turn, and those whose threads have ended are laid aside. Source: own.
+-- Passes are dealt to workers, each has turns, and those whose threads have ended are laid aside. Source: own.
 use Rattle.std.specs.Prelude.{◌≡◌, ◌≢◌, ℕ, ◌-◌, ◌≤◌, List, [], ◌∷◌, ◌++◌, length, None, Result, Ok, Err, All}
 use Rattle.std.specs.List.Sorted.{IsPermutation}
 use Rattle.std.specs.declared.vec.Vec.{Vec}

@@ -122,8 +122,9 @@ fn gather_by_number(
 }
 
 /// Brings every thread to its end on the words of `shared`. In a round worker w gives each live thread t
-/// with t mod workers = w up to 64 accesses, and the workers are joined. `first` is the pass that
-/// `Shared::new` gave. Where memory is short the passes are dropped.
+/// with t mod workers = w up to 64 accesses. The workers are joined where one of their threads was born or
+/// has ended, and after 64 rounds at the latest. `first` is the pass that `Shared::new` gave. Where memory
+/// is short the passes are dropped.
 pub fn drive_rounds<R: Threads + Sync, G: Turnstile + Sync>(
     rt: &R,
     alloc: Global,

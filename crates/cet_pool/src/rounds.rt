@@ -1,4 +1,4 @@
-//! A round: the passes are dealt to the workers, and each has its turn.
+//! The passes are dealt to the workers, which are joined after some rounds.
 
 ghost use Rattle.std.specs.Prelude.{◌≡◌, ◌<◌, ◌++◌, [], All, OnOk, IfOk, vec_len};
 ghost use Rattle.std.specs.List.Sorted.{IsPermutation};
@@ -82,7 +82,7 @@ fn collect(
     Ok(lives)
 }
 
-/// Each live thread has its turn.
+/// Each live thread has at least one turn.
 pub fn round<R: Threads + Sync, G: Turnstile + Sync>(
     rt: &R,
     alloc: Global,

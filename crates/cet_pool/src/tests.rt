@@ -100,15 +100,20 @@ fn expect_thread(rt: &impl Abort, outcome: &Outcome, number: usize, records: &[R
     assert_eq!(rt; out.records.as_slice(), records, "thread {number}");
 }
 
-/// Each of 100 jumps makes two accesses, so they take four turns.
-#[test]
-fn a_guest_that_spins_ends_by_the_limit(rt: HostRuntime) -> Result<(), Fail> {
-    let alloc = rt.alloc();
+/// A guest that spins has so many records, and so many turns, all of them its own worker's.
+fn spins<R: Threads + Sync + Abort>(
+    rt: &R,
+    alloc: Global,
+    limit: u32,
+    turns: u64,
+) -> Result<(), Fail>
+    requires { (1 ≤ limit) × (limit ≤ 100000) }
+{
     let image = image_of(alloc, &SPIN)?;
     let job = Job {
         image: &image,
         procs: 4,
-        limit: 100,
+        limit,
         signals: &[],
     };
     let gate = Counting {
@@ -116,14 +121,31 @@ fn a_guest_that_spins_ends_by_the_limit(rt: HostRuntime) -> Result<(), Fail> {
         calls: AtomicU64::new(0),
         others: AtomicU64::new(0),
     };
-    let ran = run_on(&rt, alloc, &job, 16, &gate)?;
-    let jumps = [noted_at(0x401000, What::Step, 0x401000, 2); 100];
-    expect_thread(&rt, ran.outcome(), 0, &jumps, End::Limit);
+    let ran = run_on(rt, alloc, &job, 16, &gate)?;
+    let out = ran
+        .outcome()
+        .threads
+        .as_slice()
+        .first()
+        .expect(rt, "no thread");
+    assert_eq!(rt; out.end, End::Limit);
+    assert_eq!(rt; out.records.len(), limit as usize);
+    assert_eq!(rt;
+        out.records.get(0),
+        Some(noted_at(0x401000, What::Step, 0x401000, 2))
+    );
     assert_eq!(rt; ran.outcome().threads.len(), 1);
     assert_eq!(rt; ran.outcome().process, ProcessEnd::Limit(0));
-    assert_eq!(rt; gate.calls.load(Ordering::SeqCst), 4);
+    assert_eq!(rt; gate.calls.load(Ordering::SeqCst), turns);
     assert_eq!(rt; gate.others.load(Ordering::SeqCst), 0);
     Ok(())
+}
+
+/// Each jump makes two accesses: 96 of them are three turns of 64, and one more wants a fourth.
+#[test]
+fn a_guest_that_spins_has_turns_of_64_up_to_its_limit(rt: HostRuntime) -> Result<(), Fail> {
+    spins(&rt, rt.alloc(), 96, 3)?;
+    spins(&rt, rt.alloc(), 97, 4)
 }
 
 /// The parent and its child tell their numbers, and both exit: with a processor for each, the order of

@@ -1,8 +1,8 @@
 //! The turns of workers, each in a thread of its own.
 
-ghost use Rattle.std.specs.Prelude.{◌≡◌, ℕ, ◌<◌, All, IfOk, vec_len, slice_index_or};
+ghost use Rattle.std.specs.Prelude.{◌≡◌, ℕ, ◌<◌, true, All, IfOk, vec_len, slice_index_or};
 ghost use Rattle.cet_pool.specs.Going.{IsReady};
-ghost use Rattle.cet_pool.specs.Rounds.{IsReadyBin, Turned};
+ghost use Rattle.cet_pool.specs.Rounds.{IsGoing, IsReadyBin, Turned};
 
 use crate::lives::{Live, turn};
 use cet_shared::{Shared, Turnstile};
@@ -24,16 +24,14 @@ fn turns<G: Turnstile>(
     job: &Job,
     gate: &G,
     shared: &Shared,
-    bin: Bin,
+    worker: u32,
+    lives: Vec<Live>,
 ) -> Result<Vec<Live>, NoMemory>
     requires job { shared.now.job ≡ job.now }
-    requires ready { IsReadyBin shared.now bin }
-    ensures { IfOk result (λ out. Turned shared.now bin.lives.items out.items) }
+    requires ready { All (IsReady shared.now) lives.items }
+    ensures { IfOk result (λ out. Turned shared.now lives.items out.items) }
 {
-    let Bin {
-        worker,
-        lives: mut waiting,
-    } = bin;
+    let mut waiting = lives;
     let mut had = Vec::new(alloc);
     while let Some(mut live) = waiting.pop() {
         gate.pass(worker, live.number());
@@ -43,7 +41,47 @@ fn turns<G: Turnstile>(
     Ok(had)
 }
 
-/// The turns of all workers, which are joined.
+/// Whether the thread of no pass has ended.
+fn all_go(lives: &[Live]) -> bool
+    ensures { result ≡ true → All IsGoing lives.now }
+{
+    for live in lives {
+        if live.end().is_some() {
+            return false;
+        }
+    }
+    true
+}
+
+/// The rounds of a worker between two joins, at most.
+const ROUNDS: u32 = 64;
+
+/// Each pass of a worker has its turn, and again, up to 64 times. A thread that was born or has ended ends this, so that the
+/// passes are dealt anew.
+fn rounds<G: Turnstile>(
+    alloc: Global,
+    job: &Job,
+    gate: &G,
+    shared: &Shared,
+    bin: Bin,
+) -> Result<Vec<Live>, NoMemory>
+    requires job { shared.now.job ≡ job.now }
+    requires ready { IsReadyBin shared.now bin }
+    ensures { IfOk result (λ out. Turned shared.now bin.lives.items out.items) }
+{
+    let Bin { worker, lives } = bin;
+    let count = lives.len();
+    let mut had = turns(alloc, job, gate, shared, worker, lives)?;
+    for _ in 1..ROUNDS {
+        if had.len() != count || !all_go(&had) {
+            break;
+        }
+        had = turns(alloc, job, gate, shared, worker, had)?;
+    }
+    Ok(had)
+}
+
+/// The rounds of all workers, which are joined.
 pub fn all_turns<R: Threads + Sync, G: Turnstile + Sync>(
     rt: &R,
     alloc: Global,
@@ -64,7 +102,7 @@ pub fn all_turns<R: Threads + Sync, G: Turnstile + Sync>(
         &|bin: Bin| -> Result<Vec<Live>, NoMemory>
             requires { All (IsReady shared.now) bin.lives.items × (shared.now.job ≡ job.now) }
             ensures { IfOk result (λ out. Turned shared.entry.now bin.lives.items out.items) }
-        { turns(alloc, job, gate, shared, bin) },
+        { rounds(alloc, job, gate, shared, bin) },
     )?;
     Ok(answers)
 }

@@ -14,6 +14,8 @@ mod serve;
 mod status;
 #[cfg(test)]
 mod tests;
+#[cfg(test)]
+mod thread_tests;
 mod threads;
 mod transfers;
 

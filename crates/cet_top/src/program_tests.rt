@@ -9,10 +9,10 @@ use std::process::Abort;
 use std::test::Fail;
 
 /// More than the longest output here has, in bytes.
-const ROOM: u32 = 8192;
+pub(crate) const ROOM: u32 = 8192;
 
 /// The words of a command, parted by blanks.
-fn words(alloc: Global, text: &str) -> Result<Vec<String>, AllocError> {
+pub(crate) fn words(alloc: Global, text: &str) -> Result<Vec<String>, AllocError> {
     let mut words = Vec::new(alloc);
     for word in text.split_whitespace() {
         words.push(String::from_str(alloc, word)?)?;
@@ -25,7 +25,7 @@ fn run<S: Source>(alloc: Global, src: &mut S, sink: &mut MemSink) -> Result<Stat
 }
 
 /// The image of an exit with status 7, of 4,108 bytes.
-fn exit_seven(rt: &impl Abort, alloc: Global) -> Result<MemSink, Fail> {
+pub(crate) fn exit_seven(rt: &impl Abort, alloc: Global) -> Result<MemSink, Fail> {
     let mut src = SureSource::new(alloc, b"mov edi, 7\nmov eax, 60\nsyscall\n")?;
     let mut image = MemSink::new(alloc, ROOM, ROOM, &[])?;
     let words = words(alloc, "asm")?;
@@ -34,7 +34,7 @@ fn exit_seven(rt: &impl Abort, alloc: Global) -> Result<MemSink, Fail> {
     Ok(image)
 }
 
-const EXIT_SEVEN: &str = "cetvm report 1
+pub(crate) const EXIT_SEVEN: &str = "cetvm report 1
 thread 0 records 3 exit 7
 0 step 0000000000401000 0 0000000000000007 0000000000000002
 0 step 0000000000401005 0 000000000000003c 0000000000000002

@@ -122,9 +122,7 @@ pub fn smp<R: Threads + Sync, S: Source, K: Sink, G: Turnstile + Sync>(
         (result.0 ≡ Status.TooLong) ⊎ (result.0 ≡ Status.NoMemory) }
 {
     match read_smp(alloc, words) {
-        Ok((settings, workers)) => {
-            serve_threads(rt, alloc, &settings, workers, src, sink, gate)
-        }
+        Ok((settings, workers)) => { serve_threads(rt, alloc, &settings, workers, src, sink, gate) }
         Err(CliFault::Usage(number)) => (Status::Usage(number), None),
         Err(CliFault::NoMemory) => (Status::NoMemory, None),
     }

@@ -110,9 +110,14 @@ pub(crate) fn serve_threads<R: Threads + Sync, S: Source, K: Sink, G: Turnstile 
         Err(Unread::Failed) => return (Status::ReadFault, None),
         Err(Unread::TooLong) => return (Status::TooLong, None),
     };
-    let Ok(Threaded { answer, ran }) =
-        run_threads(rt, alloc, settings, workers, gate, bytes.as_slice())
-    else {
+    let Ok(Threaded { answer, ran }) = run_threads(
+        rt,
+        alloc,
+        settings,
+        workers,
+        gate,
+        bytes.as_slice(),
+    ) else {
         return (Status::NoMemory, None);
     };
     match write_all(sink, answer.output.as_slice()) {

@@ -1,1 +1,3 @@
 mod Appended
+mod Pairs
+mod Written

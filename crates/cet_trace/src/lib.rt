@@ -1,6 +1,7 @@
 //! What is written of a run that has ended: its report, and the line of `bench`.
 #![tactic(auto)]
 
+mod digits;
 mod lines;
 mod reports;
 mod summaries;

@@ -5,7 +5,7 @@ ghost use Rattle.std.specs.List.{flat_map, enumerate_from};
 ghost use Rattle.cet_trace.specs.Line.{line, word_text};
 ghost use Rattle.cet_trace.specs.Report.{fault_name, record_name, record_text, thread_line, thread_text, entry_text, shown_from, shown_entries, stack_line, stack_text, process_text, process_words, report_of};
 
-use crate::lines::{Word, put_line};
+use crate::lines::{LINE, Word, put_line, write_spaced, write_word};
 use cet_base::Style;
 use cet_book::{Shown, StackReport};
 use cet_isa::{End, FaultName, Record, What};
@@ -51,19 +51,19 @@ fn record_name(what: What) -> &'static str
     }
 }
 
-/// Appends a record of the thread of this number.
+/// Appends a record of the thread of this number. Its line is written from its end.
 #[tactic(auto, unfolding(crate::specs::Report::record_text))]
 fn put_record(alloc: Global, out: &mut Bytes, number: u64, noted: Record) -> Result<(), NoMemory>
     ensures { OnOk result (out.new ≡ out.old ++ record_text number noted) }
 {
-    let words = [
-        Word::Text(record_name(noted.what)),
-        Word::Hex(noted.rip),
-        Word::Decimal(u64::from(noted.code)),
-        Word::Hex(noted.a),
-        Word::Hex(noted.b),
-    ];
-    put_line(alloc, out, Word::Decimal(number), &words)
+    let mut line = [b'\n'; LINE];
+    let at = write_spaced(&mut line, LINE - 1, Word::Hex(noted.b));
+    let at = write_spaced(&mut line, at, Word::Hex(noted.a));
+    let at = write_spaced(&mut line, at, Word::Decimal(u64::from(noted.code)));
+    let at = write_spaced(&mut line, at, Word::Hex(noted.rip));
+    let at = write_spaced(&mut line, at, Word::Text(record_name(noted.what)));
+    let at = write_word(&mut line, at, Word::Decimal(number));
+    out.extend(alloc, &line[at..])
 }
 
 /// Appends the records from a place on.
