@@ -6,7 +6,7 @@
 # error), `patch: OFFSET HEX` (bytes of the image that are written over) and `cut: SIZE` (the image's first bytes). Behind
 # `source:` stands an assembler text, whose image is the input (of `asm` the text itself), and behind `output:` what is
 # written; nothing, where that is missing. A run is made once more with `--trace last`, by which each thread has its last
-# record alone.
+# record alone, and by `smp`, where it has one thread.
 #
 # words.cases has a list of words a line, and before it the number of its first faulty word, or `-` where it is a command.
 # odd_words.cases has the same with words that have blanks or bytes that are no text: `\\0` and three octal digits is a
@@ -95,6 +95,13 @@ for case in *.case; do
     # shellcheck disable=SC2086
     [ "$(answers $words --trace=last)" = "$told" ] || fail "$name with last records ends otherwise"
     cmp "$work/written" "$work/last" || fail "$name with last records writes something else"
+    case $words in
+    replay*) continue ;;
+    esac
+    grep -q '^thread 1 ' "$work/output" && continue
+    # shellcheck disable=SC2086
+    [ "$(answers smp ${words#run})" = "$told" ] || fail "$name by smp ends otherwise"
+    cmp "$work/written" "$work/output" || fail "$name by smp writes something else"
 done
 
 printf 'mov edi, 7\nmov eax, 60\nsyscall\n' | "$cetvm" asm > "$work/image" || fail "the image is not assembled"
