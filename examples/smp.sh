@@ -1,7 +1,7 @@
 #!/bin/sh
 # Runs guests by `smp`, whose threads have their turns beside each other, and looks at each run for what holds in every
 # order of the turns:
-# - a guest of one thread, and one whose values depend on no order, has the report of `run`, on 1, 2 and 16 workers;
+# - a guest of one thread, and one whose values depend on no order, has the report of `run`;
 # - in four_threads_of_contexts no record is a fault, and with the shadow stacks named by who made them the report is that
 #   of `run`;
 # - in a race for one token one thread takes the stack and the other has #CP with code 4, and `replay` makes the same report
@@ -52,47 +52,47 @@ run() {
 # What `run` makes of the image, with these words behind.
 stated() {
     "$cetvm" run "$@" < "$work/image" > "$work/run" 2> "$work/line"
-    state="$? $(cat "$work/line")"
-    state=${state% }
 }
 
 # The report is to be this one.
 is() {
-    cmp -s "$work/report" "$1" || fail "$source by $2 has another report than $1"
+    cmp -s "$work/report" "$1" || fail "$source by smp has another report than $1"
 }
 
-# Guests whose reports depend on no order: all examples of one thread, and some with more.
+# Guests whose reports depend on no order: all examples of one thread, and one of two that share nothing.
 for source in *.s; do
     name=${source%.s}
     printf 'asm\nrun\n' > "$work/words"
     [ -f "$name.words" ] && cp "$name.words" "$work/words"
     { read -r made; read -r words; } < "$work/words"
     [ -f "$name.report" ] || continue
-    case $name:$words:$(cat "$name.report") in
-    turnstile:*) ;;
+    case $words:$(cat "$name.report") in
     *"thread 1 "*) continue ;;
-    *:run*) ;;
+    run*) ;;
     *) continue ;;
     esac
     # shellcheck disable=SC2086
     image "$source" $made
-    for workers in 1 2 16; do
-        # shellcheck disable=SC2086
-        run "$(paste -s -d ' ' "$name.status")" smp --workers $workers ${words#run}
-        is "$name.report" "$workers workers"
-    done
+    # shellcheck disable=SC2086
+    run "$(paste -s -d ' ' "$name.status")" smp ${words#run}
+    is "$name.report"
 done
-image turnstile.s
-for _ in $(some 50); do
-    run 0 smp --workers 2
-    is turnstile.report "2 workers"
+for source in exit_seven.s turnstile.s; do
+    image $source
+    for workers in 1 2 16; do
+        for _ in $(some 10); do
+            run 0 smp --workers $workers
+            is "${source%.s}.report"
+        done
+    done
 done
 
 # A loop without an end, of one thread and of two.
 image limits_reached.s
 stated --limit 1000
-run "$state" smp --limit 1000
-is "$work/run" "a limit"
+run "8 cetvm: limit in thread 0" smp --limit 1000
+is "$work/run"
+run "8 cetvm: limit in thread 0" smp
 cat > "$work/loops.s" << 'END'
 mov edi, 0x10900
 lea rsi, [rsp-4096]
@@ -103,8 +103,8 @@ END
 image "$work/loops.s"
 stated --limit 1000
 for workers in 1 2 16; do
-    run "$state" smp --limit 1000 --workers $workers
-    is "$work/run" "a limit"
+    run "8 cetvm: limit in thread 0" smp --limit 1000 --workers $workers
+    is "$work/run"
 done
 
 # Four threads with eight contexts each.
@@ -121,10 +121,10 @@ for _ in $(some 100); do
     named "$work/report" | cmp -s - "$work/named" || fail "$source does something else than under run"
 done
 
-# The races for one token. Both threads are there from turn 41 of thread 0 on, and have so many turns up to RSTORSSP, whose
-# exchange is the last of four: thread 0 two more than thread 1, those of its way back from the kernel. The first thread
-# then goes round a loop with a record each two turns, until the second one, which has 7 turns for its kill, has ended the
-# process. The turns of the one and then those of the other are one order that makes the report.
+# The races for one token. Thread 1 is there from turn 41 of thread 0 on, and thread 0 has two more before it is back from
+# the kernel. Each then has so many turns before RSTORSSP, those stated, and four for it. The first thread goes round a loop
+# with a record each two turns, until the second one, which has 7 turns for its kill, has ended the process. The turns of
+# the one and then those of the other are one order that makes the report.
 race() {
     takes=$(grep -c '^[01] take ' "$work/report")
     misses=$(grep -c '^[01] #CP [0-9a-f]* 4 000000020000aff8 ' "$work/report")
@@ -133,33 +133,59 @@ race() {
         $2 == "take" { took = 1; thread = $1 } END { print rounds + 0 }' "$work/report")
     if grep -q '^0 take ' "$work/report"; then
         first=$((first + 1))
-        turns="0*$((41 + 2 + $1 + 4 + 2 * rounds)),1*$(($1 + 4 + 7))"
+        turns="0*$((41 + 2 + $1 + 4 + 2 * rounds)),1*$(($2 + 4 + 7))"
     else
-        turns="0*41,1*$(($1 + 4 + 2 * rounds)),0*$((2 + $1 + 4 + 7))"
+        turns="0*41,1*$(($2 + 4 + 2 * rounds)),0*$((2 + $1 + 4 + 7))"
     fi
     "$cetvm" replay --schedule "$turns" < "$work/image" 2> "$work/line" | cmp -s - "$work/report" ||
         fail "$source has another report than by the turns $turns"
 }
+# In this one the parent waits twice as long as its child.
+cat > "$work/late_parent.s" << 'END'
+mov edi, 0
+mov esi, 4096
+mov edx, 1
+mov eax, 453
+syscall
+mov rbx, rax
+mov edi, 0x10900
+lea rsi, [rsp-4096]
+mov eax, 56
+syscall
+mov ebp, 400
+test rax, rax
+jne l
+mov ebp, 200
+l: dec rbp
+jne l
+rstorssp [rbx+4088]
+s: jmp short s
+END
 first=0
-for source in token_race.s:0 delayed_race.s:802; do
-    delay=${source#*:}
-    image "${source%:*}"
+races=0
+while read -r file count turns_of_0 turns_of_1; do
+    image "$file"
     for workers in 2 4; do
-        for _ in $(some 100); do
+        for _ in $(some "$count"); do
             run "7 cetvm: killed by 11" smp --workers $workers
-            race "$delay"
+            race "$turns_of_0" "$turns_of_1"
+            races=$((races + 1))
         done
     done
-done
+done << END
+token_race.s 100 0 0
+delayed_race.s 25 802 802
+$work/late_parent.s 25 1606 808
+END
 
-# All threads that a process can have.
+# All threads that a process can have, on one worker and on 16.
 image all_births.s
 unbusy() {
     sed '/^[0-9]* busy /d; s/ records [0-9]* / /' "$1"
 }
 unbusy all_births.report > "$work/unbusy"
 for workers in 1 2 16; do
-    for _ in $(some 10); do
+    for _ in $(some 5); do
         run 0 smp --workers $workers
         unbusy "$work/report" | cmp -s - "$work/unbusy" || fail "$source on $workers workers has other records"
     done
@@ -184,7 +210,7 @@ for how in exit:0 group:4 kill:4 group:12 kill:12; do
     *) wanted=0 end="exit 0" ;;
     esac
     for workers in 2 4 16; do
-        for _ in $(some 20); do
+        for _ in $(some 10); do
             run "$wanted" smp --workers $workers
             [ "$(tail -n 1 "$work/report")" = "process $end" ] || fail "$source ends otherwise"
             threads="$threads $(grep -c '^thread ' "$work/report")"
@@ -194,6 +220,6 @@ done
 numbers=$(echo "$threads" | tr ' ' '\n' | sort -n | uniq | sed 1d | tr '\n' ' ')
 
 if [ "$failed" = 0 ]; then
-    echo "smp: $runs runs as stated; thread 0 is first in $first races; processes of ${numbers% } threads"
+    echo "smp: $runs runs as stated; thread 0 is first in $first of $races races; processes of ${numbers% } threads"
 fi
 exit "$failed"
