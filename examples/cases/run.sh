@@ -6,12 +6,11 @@
 # error), `patch: OFFSET HEX` (bytes of the image that are written over) and `cut: SIZE` (the image's first bytes). Behind
 # `source:` stands an assembler text, whose image is the input (of `asm` the text itself), and behind `output:` what is
 # written; nothing, where that is missing. A run is made once more with `--trace last`, by which each thread has its last
-# record alone.
+# record alone, and by `smp`, where it has one thread.
 #
 # words.cases has a list of words a line, and before it the number of its first faulty word, or `-` where it is a command.
 # odd_words.cases has the same with words that have blanks or bytes that are no text: `\\0` and three octal digits is a
-# byte, and `''` an empty word. smp_words.cases is for a command that isn't there yet: the numbers count once it is, and
-# today the first word is the faulty one.
+# byte, and `''` an empty word.
 # texts.cases has a text a line, with `|` for a newline, and before it the line and the rule that it breaks.
 # images.cases has a change of an image a line: the rule that it breaks and the place, and then a `patch` or `cut`.
 # map_shadow_stack_arguments.cases has a call from a fresh start a line: its result, address, size and flags, and, where it
@@ -96,6 +95,13 @@ for case in *.case; do
     # shellcheck disable=SC2086
     [ "$(answers $words --trace=last)" = "$told" ] || fail "$name with last records ends otherwise"
     cmp "$work/written" "$work/last" || fail "$name with last records writes something else"
+    case $words in
+    replay*) continue ;;
+    esac
+    grep -q '^thread 1 ' "$work/output" && continue
+    # shellcheck disable=SC2086
+    [ "$(answers smp ${words#run})" = "$told" ] || fail "$name by smp ends otherwise"
+    cmp "$work/written" "$work/output" || fail "$name by smp writes something else"
 done
 
 printf 'mov edi, 7\nmov eax, 60\nsyscall\n' | "$cetvm" asm > "$work/image" || fail "the image is not assembled"
@@ -126,7 +132,6 @@ faulty_word() {
 # The longest lists, and those with an item more, or a turn.
 {
     cat words.cases
-    sed 's/^[^ ]*/1/' smp_words.cases
     echo "- run --signals $(list 0:0:10 256)"
     echo "3 run --signals $(list 0:0:10 257)"
     echo "- replay --schedule $(list 0 10000)"
@@ -152,7 +157,11 @@ faulty_word() {
     echo "3 bench 1 ${zeros}1"
     echo "3 replay --mix ${zeros}1"
     echo "3 replay --schedule ${zeros}1"
+    echo "3 smp --workers ${zeros}1"
+    echo "3 smp --workers 1$zeros"
+    echo "2 smp --workers=1$zeros"
     echo "1 $(yes x | head -n 10000 | tr '\n' ' ')"
+    echo "4 smp --workers 1 $(yes -- '--workers 1' | head -n 4998 | tr '\n' ' ')"
     echo "2 run $(yes run | head -n 9999 | tr '\n' ' ')"
     echo "2 bench $(yes bench | head -n 9999 | tr '\n' ' ')"
     echo "3 bench 5 $(yes 5 | head -n 9998 | tr '\n' ' ')"

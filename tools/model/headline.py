@@ -1,9 +1,10 @@
 #!/usr/bin/env python3
 """`headline.py CETVM [COUNT [TURNS]]` runs each example and each case in which a thread is born under `--mix` 0 to
-COUNT - 1 (else 32), and the races of RACES under all lists of TURNS turns (else 6) of their two threads from there on.
-It reads from each report alone that the headline holds of it: each `ret` goes to where the newest open call of its
-shadow stack was to return, or, by an entry that is no call, to no code; each token is taken by one thread; no stack is
-current on two threads; and the stacks shown are those of the records' story. It is no part of a proof."""
+COUNT - 1 (else 32) and by `smp` on 2, 4 and 16 workers, and the races of RACES under all lists of TURNS turns (else 6)
+of their two threads from there on. It reads from each report alone that the headline holds of it: each `ret` goes to
+where the newest open call of its shadow stack was to return, or, by an entry that is no call, to no code; each token is
+taken by one thread; no stack is current on two threads; and the stacks shown are those of the records' story. It is no
+part of a proof."""
 import os
 import sys
 from itertools import product
@@ -16,6 +17,7 @@ from texts import all_texts
 
 LEAST = 3
 BIRTH = " born "
+WORKERS = (2, 4, 16)
 # Threads are born in it, although its report is one of last records.
 LAST = "four_threads_of_contexts"
 # Of an example: the turns up to the one before the second thread may matter, as a schedule's item.
@@ -53,6 +55,8 @@ def check_text(totals, text, count, turns):
     common = ["replay", *without_plan(text.words)]
     for number in range(count):
         totals.check(text.name, image, program, [*common, "--mix", str(number)])
+    for workers in WORKERS:
+        totals.check(text.name, image, program, ["smp", *common[1:], "--workers", str(workers)])
     if text.name in RACES:
         for order in product("01", repeat=turns):
             totals.check(text.name, image, program, [*common, "--schedule", ",".join((RACES[text.name], *order))])

@@ -13,9 +13,9 @@ import sys
 sys.dont_write_bytecode = True
 
 from texts import EXAMPLES, help_text
-from words import COMMON, PLANS, Faulty, number
+from words import COMMON, OPTIONS as OF_RUNS, PLANS, WORKERS, Faulty, number
 
-OPTIONS = {"run": COMMON, "replay": COMMON | PLANS, "dis": {}, "check": {}, "asm": {"--runtime": None}, "bench": {}}
+OPTIONS = OF_RUNS | {"dis": {}, "check": {}, "asm": {"--runtime": None}, "bench": {}}
 LEAST = 800
 
 
@@ -85,15 +85,15 @@ def first_faulty(words):
     return next((count for count in range(1, len(words) + 1) if not begins(words[:count])), len(words) + 1)
 
 
-NAMES = [*COMMON, *PLANS, "--runtime"]
-VALUES = """1 5 8 9 0 1000 1001 31 32 100000 100001 0x1F 0x00000000000186a0 -1 +1 007 1_0 ٣ 18446744073709551615
+NAMES = [*COMMON, *PLANS, *WORKERS, "--runtime"]
+VALUES = """1 5 8 9 0 16 17 0x10 1000 1001 31 32 100000 100001 0x1F 0x00000000000186a0 -1 +1 007 1_0 ٣ 18446744073709551615
 18446744073709551616 0xffffffffffffffff 0x10000000000000000 0X5 0x full last fully Full 0:0:10 0:6:10,31:0:1 32:0:1
 0:100001:1 0:0:32 0:0 0*3,1 31*1000000 0*1000001 0*0 0, , x --limit --trace --mix=1""".split()
 VALUES += ["", " ", "5 ", " 5", "5\n"]
 
 
 def random_words(numbers):
-    words = [numbers.choice([*OPTIONS, *OPTIONS, "smp", "walk", "--limit", ""])]
+    words = [numbers.choice([*OPTIONS, *OPTIONS, "walk", "--limit", ""])]
     for _ in range(numbers.randrange(5)):
         name, value = numbers.choice(NAMES), numbers.choice(VALUES)
         words += numbers.choice(([name, value], [f"{name}={value}"], [name, value], [name], [value]))

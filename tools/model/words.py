@@ -1,10 +1,10 @@
-"""The words of `run` and `replay`. Words that are no command are an error: which one is faulty isn't told here."""
+"""The words of `run`, `replay` and `smp`. Words that are no command are an error: which one is faulty isn't told here."""
 from collections import namedtuple
 
 from places import MASK
 
-Settings = namedtuple("Settings", "limit procs trace signals schedule mix",
-                      defaults=(100000, 4, "full", (), None, None))
+Settings = namedtuple("Settings", "limit procs trace signals schedule mix workers",
+                      defaults=(100000, 4, "full", (), None, None, None))
 
 
 class Faulty(Exception):
@@ -56,14 +56,16 @@ def trace(text):
 COMMON = {"--limit": lambda text: number(text, 1, 100000), "--procs": lambda text: number(text, 1, 8), "--trace": trace,
           "--signals": signals}
 PLANS = {"--schedule": schedule, "--mix": lambda text: number(text, 0, MASK)}
+WORKERS = {"--workers": lambda text: number(text, 1, 16)}
+OPTIONS = {"run": COMMON, "replay": COMMON | PLANS, "smp": COMMON | WORKERS}
+WORKERS_ELSE = 4
 
 
 def read(words):
     """The settings of a run."""
-    if not words or words[0] not in ("run", "replay"):
+    if not words or words[0] not in OPTIONS:
         raise Faulty("the command")
-    options = COMMON | PLANS if words[0] == "replay" else COMMON
-    found, rest = {}, list(words[1:])
+    options, found, rest = OPTIONS[words[0]], {}, list(words[1:])
     while rest:
         name, equals, value = rest.pop(0).partition("=")
         if name not in options or name in found or not (equals or rest):
@@ -71,4 +73,6 @@ def read(words):
         found[name] = options[name](value if equals else rest.pop(0))
     if words[0] == "replay" and len(found.keys() & PLANS.keys()) != 1:
         raise Faulty("one of --schedule and --mix is wanted")
+    if words[0] == "smp":
+        found.setdefault("--workers", WORKERS_ELSE)
     return Settings(**{name[2:]: value for name, value in found.items()})
