@@ -121,10 +121,21 @@ fn gather_by_number(
     Ok(done)
 }
 
+/// The joins of a run up to which each is behind a round.
+const FINE_JOINS: u32 = 128;
+
+/// The rounds of a worker between two later joins, at most.
+const ROUNDS: u32 = 64;
+
+/// The rounds of a worker before it is joined, at most, where workers were joined so often before.
+fn most_rounds(joins: u32) -> u32 {
+    if joins < FINE_JOINS { 1 } else { ROUNDS }
+}
+
 /// Brings every thread to its end on the words of `shared`. In a round worker w gives each live thread t
-/// with t mod workers = w up to 64 accesses. The workers are joined where one of their threads was born or
-/// has ended, and after 64 rounds at the latest. `first` is the pass that `Shared::new` gave. Where memory
-/// is short the passes are dropped.
+/// with t mod workers = w up to 64 accesses, and the workers are joined. From the 129th join on a worker
+/// goes on with its next round, where none of its threads was born or has ended, for 64 rounds at most.
+/// `first` is the pass that `Shared::new` gave. Where memory is short the passes are dropped.
 pub fn drive_rounds<R: Threads + Sync, G: Turnstile + Sync>(
     rt: &R,
     alloc: Global,
@@ -141,8 +152,13 @@ pub fn drive_rounds<R: Threads + Sync, G: Turnstile + Sync>(
 {
     let mut ended = Vec::new(alloc);
     let mut lives = start(alloc, job, shared, first, &mut ended)?;
+    let mut joins = 0_u32;
     'rounds: while !lives.is_empty() {
-        lives = round(rt, alloc, job, workers, gate, shared, lives, &mut ended)?;
+        let most = most_rounds(joins);
+        lives = round(
+            rt, alloc, job, workers, gate, shared, most, lives, &mut ended,
+        )?;
+        joins = joins.saturating_add(1);
     }
     let done = gather_by_number(alloc, shared, ended)?;
     Ok(done)

@@ -82,7 +82,7 @@ fn collect(
     Ok(lives)
 }
 
-/// Each live thread has at least one turn.
+/// Each live thread has at least one turn, and its worker so many rounds at most.
 pub fn round<R: Threads + Sync, G: Turnstile + Sync>(
     rt: &R,
     alloc: Global,
@@ -90,6 +90,7 @@ pub fn round<R: Threads + Sync, G: Turnstile + Sync>(
     workers: u32,
     gate: &G,
     shared: &Shared,
+    most: u32,
     lives: Vec<Live>,
     ended: &mut Vec<Live>,
 ) -> Result<Vec<Live>, NoMemory>
@@ -101,7 +102,7 @@ pub fn round<R: Threads + Sync, G: Turnstile + Sync>(
 {
     let mut bins = deal(alloc, workers, lives)?;
     drop_empty(&mut bins);
-    let answers = all_turns(rt, alloc, job, gate, shared, bins)?;
+    let answers = all_turns(rt, alloc, job, gate, shared, most, bins)?;
     let left = collect(alloc, answers, ended)?;
     Ok(left)
 }

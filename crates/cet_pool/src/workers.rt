@@ -53,16 +53,14 @@ fn all_go(lives: &[Live]) -> bool
     true
 }
 
-/// The rounds of a worker between two joins, at most.
-const ROUNDS: u32 = 64;
-
-/// Each pass of a worker has its turn, and again, up to 64 times. A thread that was born or has ended ends this, so that the
+/// Each pass of a worker has its turn, and again, so often at most. A thread that was born or has ended ends this, so that the
 /// passes are dealt anew.
 fn rounds<G: Turnstile>(
     alloc: Global,
     job: &Job,
     gate: &G,
     shared: &Shared,
+    most: u32,
     bin: Bin,
 ) -> Result<Vec<Live>, NoMemory>
     requires job { shared.now.job ≡ job.now }
@@ -72,7 +70,7 @@ fn rounds<G: Turnstile>(
     let Bin { worker, lives } = bin;
     let count = lives.len();
     let mut had = turns(alloc, job, gate, shared, worker, lives)?;
-    for _ in 1..ROUNDS {
+    for _ in 1..most {
         if had.len() != count || !all_go(&had) {
             break;
         }
@@ -88,6 +86,7 @@ pub fn all_turns<R: Threads + Sync, G: Turnstile + Sync>(
     job: &Job,
     gate: &G,
     shared: &Shared,
+    most: u32,
     bins: Vec<Bin>,
 ) -> Result<Vec<Result<Vec<Live>, NoMemory>>, NoMemory>
     requires job { shared.now.job ≡ job.now }
@@ -102,7 +101,7 @@ pub fn all_turns<R: Threads + Sync, G: Turnstile + Sync>(
         &|bin: Bin| -> Result<Vec<Live>, NoMemory>
             requires { All (IsReady shared.now) bin.lives.items × (shared.now.job ≡ job.now) }
             ensures { IfOk result (λ out. Turned shared.entry.now bin.lives.items out.items) }
-        { rounds(alloc, job, gate, shared, bin) },
+        { rounds(alloc, job, gate, shared, most, bin) },
     )?;
     Ok(answers)
 }
