@@ -3,3 +3,4 @@ mod Known
 mod InputReads
 mod Serving
 mod AnswerLaws
+mod Threading

@@ -1,9 +1,10 @@
 -- What follows of a command that was served.
-use Rattle.std.proofs.Common.{◌≡◌, ℕ, ◌<◌, ◌≤◌, arith, Bool, true, false, List, [], ◌∷◌, length, Option, Some, None, refl, sym, ap, subst, inl, inr, ◌⊎◌}
+use Rattle.std.proofs.Common.{◌≡◌, ℕ, ◌<◌, ◌≤◌, arith, ◌∙◌, Bool, true, false, List, [], ◌∷◌, length, Option, Some, None, refl, sym, ap, subst, inl, inr, ◌⊎◌}
 use Rattle.std.specs.Prelude.{IfSome, is_some}
 use Rattle.std.specs.Io.KnownBytes.{Appends, Consumes}
 use Rattle.cet_top.specs.Answer.{Answers, AnswersThreaded, Refuses, Runs, Turns, has_run, reads, status_of}
 use Rattle.cet_top.specs.Serves.{Answering, Answered, Completes, CountsTooMuch, Cut, GaveTooMuch, IsAnswered, LostTooMuch, Serves, SinkState, Takes, TakesSome, Wrote}
+use Rattle.cet_elf.specs.Written.{written}
 use Rattle.cet_io.specs.Stream.{AppendsSome, Rose, RoseBy, Tally}
 use Rattle.cet_top.specs.Reading.{ReadSome, ReadToEnd, ReadTooMuch, ReadUntilFault, SourceState, TakesAll, TalliesBy}
 use Rattle.cet_cli.specs.Settings.{SettingsData}
@@ -50,7 +51,7 @@ no_usage (command.Asm with) bytes output n a = elim a [
 no_usage (command.Bench m) bytes output n a = elim a [
   | inl r ↦ (let e = r.refused in cc)
   | inr b ↦ elim b.ran [
-    | inl r ↦ refused_no_usage bytes output n r
+    | inl r ↦ refused_no_usage (written b.program) output n r
     | inr r ↦ run_no_usage r.measured.outcome.process n r.measured.ends
   ]
 ]
@@ -111,7 +112,7 @@ answer_is_answered (command.Asm with) bytes output s a = elim a [
 answer_is_answered (command.Bench m) bytes output s a = elim a [
   | inl r ↦ subst IsAnswered (sym r.refused) tt
   | inr b ↦ elim b.ran [
-    | inl r ↦ refused_answered bytes output s r
+    | inl r ↦ refused_answered (written b.program) output s r
     | inr r ↦ subst IsAnswered (sym r.measured.ends) (run_answered r.measured.outcome.process)
   ]
 ]
@@ -292,7 +293,7 @@ pub means_serves : (words : List (List ℕ)) (c d : Command) (src src' : SourceS
     Serves (reads c) (Answers c) src src' sink sink' s → Serves (reads d) (Answers d) src src' sink sink' s
 means_serves words c d src src' sink sink' s m n h = subst (λ (x : Command). Serves (reads x) (Answers x) src src' sink sink' s) (means_same words c d m.means n.means) h
 
-settings_in : SettingsData → Command → SettingsData
+abbrev settings_in : SettingsData → Command → SettingsData
 settings_in other (command.Smp settings workers) = settings
 settings_in other (command.Run settings) = other
 settings_in other (command.Replay settings plan) = other
