@@ -3,7 +3,7 @@ use Rattle.std.proofs.Common.{◌≡◌, ℕ, suc, ◌+◌, ◌-◌, ◌/◌, �
 use Rattle.std.specs.Prelude.{◌^◌, ◌==◌}
 use Rattle.std.specs.Int.Bits.{bit_and}
 use Rattle.std.proofs.lemmas.Nat.Bits.{shr_and_one}
-use Rattle.std.specs.Prelude.{List, length, get_or, slice_get, nat_le, IfSome}
+use Rattle.std.specs.Prelude.{List, [], length, get_or, slice_get, nat_le, IfSome}
 use Rattle.std.proofs.lemmas.List.Sums.{length-filter, count_by-le-length}
 use Rattle.std.proofs.lemmas.List.Elements.{All-filter, All-get_or}
 use Rattle.std.proofs.lemmas.Option.{slice_get_within, get_or_from_slice_get, none-some, cond_some}
@@ -47,6 +47,10 @@ lowest_none from (suc n) =
     ap (λ (bit : ℕ). cond (bit == 1) (Some from) (lowest 0 (from + 1) n)) clear ∙ lowest_none (from + 1) n
 
 -- ---- listed signals
+
+-- a job that lists none has none that is due
+pub none_listed : (job : JobData) (arch : Arch) → job.signals ≡ [] → due_signal job arch ≡ None
+none_listed job arch e = ap (λ (signals : List Signal). due_by arch.count (slice_get (listed signals arch.number) arch.posted)) e
 
 -- the signal in this place of a thread's list
 pub due_at : (job : JobData) (arch : Arch) (signal : ℕ) (s : Signal) → IsJob job → slice_get (listed job.signals arch.number) arch.posted ≡ Some s → s.number ≡ signal → IsDue arch signal

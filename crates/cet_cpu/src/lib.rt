@@ -7,6 +7,7 @@
 
 mod fetches;
 mod kernel;
+mod openings;
 mod rows;
 mod signals;
 mod threads;

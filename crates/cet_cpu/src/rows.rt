@@ -22,6 +22,7 @@ use cet_page::{Cursor, Family, Suspended, family_of, general_protection, invalid
 use cet_words::{EXIT_WORD, Job, pend_word};
 
 /// An instruction, with the address of the next one. Where it is over, the state is changed in its place.
+#[inline(always)]
 #[tactic(auto, using(cet_page::proofs::ScriptLaws::play_bind))]
 fn execute(
     job: &Job,
@@ -57,6 +58,7 @@ fn execute(
 }
 
 /// The instruction that the code at RIP is.
+#[inline(always)]
 fn decoded(job: &Job, arch: &mut Arch, code: &Code, at: &mut Cursor) -> Result<RowEnd, Suspended>
     requires count { arch.old.count < 2 ^ 32 - 1 }
     requires made { IsMade arch.old.made }

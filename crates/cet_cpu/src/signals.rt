@@ -27,11 +27,14 @@ fn nth_listed(signals: &[Signal], thread: u8, posted: u32) -> Option<&Signal>
 }
 
 /// The listed signal that a thread posts next, where its count isn't above the thread's.
-#[tactic(auto, unfolding(cet_page::specs::Posting::due_signal))]
+#[tactic(auto, using(crate::proofs::SignalLaws::none_listed), unfolding(cet_page::specs::Posting::due_signal))]
 pub fn due_signal(job: &Job, arch: &Arch) -> Option<u8>
     ensures signal { result ≡ due_signal job.now arch.now }
     ensures due { IfSome result (IsDue arch.now) }
 {
+    if job.signals.is_empty() {
+        return None;
+    }
     let signal = nth_listed(job.signals, arch.number, arch.posted)?;
     if signal.count <= arch.count {
         Some(signal.number)

@@ -19,6 +19,7 @@ ghost use Rattle.cet_words.specs.Layout.{thread_region_size, thread_limit};
 
 use crate::fetches::Code;
 use crate::kernel::RowEnd;
+use crate::openings::opening;
 use crate::rows::row;
 use cet_isa::{Arch, End, Fault, R11, RAX, RCX, RSI, RSP, Record, What};
 use cet_page::{Mark, SYSCALL_LENGTH, Suspended, Vals};
@@ -294,13 +295,35 @@ impl Cpu {
         if self.next.is_some() || self.over.is_some() {
             return;
         }
-        if let Err(Suspended::Access(access, mark)) = self.replay_row(job) {
+        if let Err(Suspended::Access(access, mark)) = self.row_so_far(job) {
             self.next = Some((access, mark));
         }
     }
 
     /// What the thread's row comes to after the accesses so far. Where it is over, the state is the one after
-    /// it, but for the thread's number and the supervisor stack that it holds.
+    /// it, but for the thread's number and the supervisor stack that it holds. The row isn't played where it
+    /// wants an access that it opens with.
+    #[inline(always)]
+    #[inline(always)]
+    fn row_so_far(&mut self, job: &Job) -> Result<RowEnd, Suspended>
+        requires count { self.old.core.arch.count < 2 ^ 32 - 1 }
+        requires made { IsMade self.old.core.arch.made }
+        requires number { self.old.core.arch.number < thread_limit }
+        requires code { KeepsCode job.now self.old }
+        ensures came { RefinesRow (row_played job.now self.old.core.arch self.old.core.vals) self.old.core.arch self.new.core.arch result }
+        ensures core { self.new.core ≡ record self.old.core { arch = self.new.core.arch } }
+        ensures waits { self.new.next ≡ self.old.next }
+        ensures code { IfSome self.new.code (IsCode job.now.image.segments self.old.core.arch.rip) }
+    {
+        match opening(job, &self.arch, &self.vals) {
+            Some(access) => Err(Suspended::Access(access, Mark::Plain)),
+            None => self.replay_row(job),
+        }
+    }
+
+    /// The same, by a play of the row from its start.
+    #[inline(never)]
+    #[inline(never)]
     fn replay_row(&mut self, job: &Job) -> Result<RowEnd, Suspended>
         requires count { self.old.core.arch.count < 2 ^ 32 - 1 }
         requires made { IsMade self.old.core.arch.made }
@@ -335,7 +358,7 @@ impl Cpu {
         let (access, mark) = self.next?;
         self.arch.held = held_by(mark, answer, self.arch.held);
         self.vals.add(access, answer);
-        match self.replay_row(job) {
+        match self.row_so_far(job) {
             Err(Suspended::Access(access, mark)) => {
                 self.next = Some((access, mark));
                 None

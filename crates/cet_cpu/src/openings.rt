@@ -1,0 +1,31 @@
+//! What a row opens with between two instructions: the loads of EXIT and of PEND.
+
+ghost use Rattle.std.specs.Prelude.{◌≡◌, ◌<◌, IfSome};
+ghost use Rattle.cet_words.specs.Layout.{thread_limit};
+ghost use Rattle.cet_page.specs.Core.{row_played};
+ghost use Rattle.cet_page.specs.Plays.{Wanted};
+ghost use Rattle.cet_page.specs.declared.cursors.Mark.{Mark};
+
+use crate::signals::due_signal;
+use cet_isa::Arch;
+use cet_page::Vals;
+use cet_words::{Access, EXIT_WORD, Job, pend_word};
+
+/// The access that a row wants, where it is one of the two that it opens with: no fault and no listed signal
+/// is due, and EXIT, once loaded, was 0. It is known without a play of the row.
+#[tactic(auto, using(crate::proofs::OpeningLaws::wants_exit, crate::proofs::OpeningLaws::wants_pend))]
+pub fn opening(job: &Job, arch: &Arch, vals: &Vals) -> Option<Access>
+    requires number { arch.now.number < thread_limit }
+    ensures { IfSome result (λ access. Wanted (row_played job.now arch.now vals.now) access Mark.Plain) }
+{
+    if vals.done() > 1 || arch.due.is_some() || due_signal(job, arch).is_some() {
+        return None;
+    }
+    if vals.done() == 0 {
+        return Some(Access::Load(EXIT_WORD));
+    }
+    if vals.count() == 1 && vals.value(0) == 0 {
+        return Some(Access::Load(pend_word(arch.number)));
+    }
+    None
+}
