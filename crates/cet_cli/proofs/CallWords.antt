@@ -67,24 +67,30 @@ abbrev dis_words : List (List ℕ)
 dis_words = codes "dis" ∷ []
 
 dis_line : IsCommand dis_words
-dis_line = (command.Dis, record {
-  row = _;
-  among = inr (inr (inl refl));
-  operands = [];
-  given = [];
-  line = record { options = []; whole = refl; values = tt; spelled = refl; taken = tt; apart = tt; needed = tt };
-  is = refl;
-})
+dis_line = (
+  command.Dis,
+  record {
+    row = _;
+    among = inr (inr (inl refl));
+    operands = [];
+    given = [];
+    line = record { options = []; whole = refl; values = tt; spelled = refl; taken = tt; apart = tt; needed = tt };
+    is = refl;
+  },
+)
 
 smp_line : IsCommand (smp_word ∷ [])
-smp_line = (command_of smp.name [] (choices_of []), record {
-  row = smp;
-  among = inr (inr (inr (inr (inr (inr (inl refl))))));
-  operands = [];
-  given = [];
-  line = record { options = []; whole = refl; values = tt; spelled = refl; taken = tt; apart = tt; needed = tt };
-  is = refl;
-})
+smp_line = (
+  command_of smp.name [] (choices_of []),
+  record {
+    row = smp;
+    among = inr (inr (inr (inr (inr (inr (inl refl))))));
+    operands = [];
+    given = [];
+    line = record { options = []; whole = refl; values = tt; spelled = refl; taken = tt; apart = tt; needed = tt };
+    is = refl;
+  },
+)
 
 plain_begins : Begins IsPlain []
 plain_begins = (dis_words, to_plain dis_words refl dis_line)
