@@ -35,7 +35,7 @@ fn a_write_that_fails_leaves_a_first_part_of_the_run(rt: HostRuntime) -> Result<
     let mut sink = MemSink::new(alloc, ROOM, 10, &[2])?;
     let (status, ran) = smp(&rt, alloc, &words, &mut src, &mut sink, &Open);
     assert_eq!(rt; status, Status::WriteFault);
-    assert_eq!(rt; sink.bytes(), b"cetvm repo");
+    assert_eq!(rt; sink.bytes(), b"cetvm repo".as_slice());
     let ran = ran.expect(&rt, "no run");
     assert_eq!(rt; ran.outcome().threads.len(), 1);
     Ok(())
