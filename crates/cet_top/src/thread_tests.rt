@@ -80,6 +80,7 @@ syscall
 const POLLS: u32 = 1_000_000_000;
 
 /// A gate whose second and third call each wait until the other has come.
+#[derive(Drop)]
 struct Meeting {
     calls: AtomicU64,
     come: AtomicU64,
