@@ -80,7 +80,7 @@ done
 for source in exit_seven.s turnstile.s; do
     image $source
     for workers in 1 2 16; do
-        for _ in $(some 10); do
+        for _ in $(some 5); do
             run 0 smp --workers $workers
             is "${source%.s}.report"
         done
@@ -174,8 +174,8 @@ while read -r file count turns_of_0 turns_of_1; do
     done
 done << END
 token_race.s 100 0 0
-delayed_race.s 25 802 802
-$work/late_parent.s 25 1606 808
+delayed_race.s 15 802 802
+$work/late_parent.s 15 1606 808
 END
 
 # All threads that a process can have, on one worker and on 16.
@@ -210,7 +210,7 @@ for how in exit:0 group:4 kill:4 group:12 kill:12; do
     *) wanted=0 end="exit 0" ;;
     esac
     for workers in 2 4 16; do
-        for _ in $(some 10); do
+        for _ in $(some 6); do
             run "$wanted" smp --workers $workers
             [ "$(tail -n 1 "$work/report")" = "process $end" ] || fail "$source ends otherwise"
             threads="$threads $(grep -c '^thread ' "$work/report")"
