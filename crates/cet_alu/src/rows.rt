@@ -4,7 +4,7 @@ ghost use Rattle.std.specs.Prelude.{◌≡◌, ◌-◌, ◌^◌, ◌<◌, [], Al
 ghost use Rattle.cet_isa.specs.declared.threads.Fault.{Fault};
 ghost use Rattle.cet_page.specs.Script.{play};
 ghost use Rattle.cet_page.specs.Trail.{trail};
-ghost use Rattle.cet_page.specs.Plays.{Refines, NextInRange, next_of};
+ghost use Rattle.cet_page.specs.Plays.{Follows, NextInRange, next_of};
 ghost use Rattle.cet_page.specs.Faults.{KeepsWords};
 ghost use Rattle.cet_page.specs.Row.{next_address};
 ghost use Rattle.cet_page.specs.Arithmetic.{arithmetic};
@@ -14,26 +14,26 @@ use crate::moves::{cmov, lea, mov, movsxd, movzx};
 use crate::operations::{alu, dec, imul, inc, neg, not, sar, set_carry, shl, shr, test};
 use cet_decode::instruction_length;
 use cet_isa::{Arch, Instr, Record};
-use cet_page::{Cursor, Next, Suspended, Vals, assigned, invalid_opcode, next_address, stepped};
+use cet_page::{Cursor, Next, Suspended, Vals, assign, invalid_opcode, next_address, step};
 use cet_words::Job;
 
-/// What an instruction of this crate comes to over the accesses that were made: the state after it and
-/// its record, an access that it wants, or a fault. `next` is the address of the next instruction. Every
+/// What an instruction of this crate comes to over the accesses that were made: its record, with the
+/// state changed in its place, an access that it wants, or a fault. `next` is the address of the next instruction. Every
 /// other instruction is an invalid opcode.
 pub fn follow(
-    arch: &Arch,
+    arch: &mut Arch,
     instr: &Instr,
     next: u64,
     at: &mut Cursor,
-) -> Result<(Arch, Record), Suspended>
-    requires { arch.now.count < 2 ^ 32 - 1 }
-    ensures { Refines (play (arithmetic arch.now instr.now next) at.old.left at.old.rest.now) result at.new.left at.new.rest.now }
+) -> Result<Record, Suspended>
+    requires { arch.old.count < 2 ^ 32 - 1 }
+    ensures { Follows (play (arithmetic arch.old instr.now next) at.old.left at.old.rest.now) arch.old arch.new result at.new.left at.new.rest.now }
 {
     match *instr {
         Instr::Alu { op, size, dst, src } => alu(arch, op, size, dst, src, next, at),
         Instr::Test { size, dst, src } => test(arch, size, dst, src, next, at),
         Instr::Mov { size, dst, src } => mov(arch, size, dst, src, next, at),
-        Instr::MovWide { dst, value } => Ok(assigned(arch, dst, value, next)),
+        Instr::MovWide { dst, value } => Ok(assign(arch, dst, value, next)),
         Instr::MovZero8 { dst, src } => movzx(arch, dst, src, next, at),
         Instr::MovSign32 { dst, src } => movsxd(arch, dst, src, next, at),
         Instr::Lea { size, dst, src } => Ok(lea(arch, size, dst, src, next)),
@@ -55,7 +55,7 @@ pub fn follow(
             src,
         } => cmov(arch, cond, size, dst, src, next, at),
         Instr::Nop | Instr::Pause | Instr::Endbr64 => {
-            Ok(stepped(arch, arch.regs, next, arch.flags, 0))
+            Ok(step(arch, next, 0))
         }
         Instr::Stc => Ok(set_carry(arch, true, next)),
         Instr::Clc => Ok(set_carry(arch, false, next)),
@@ -68,17 +68,15 @@ pub fn follow(
 /// is that after the instruction at RIP.
 #[tactic(auto, using(cet_page::proofs::PlayLaws::next_is, cet_page::proofs::PlayLaws::next_ranges, cet_page::proofs::FaultLaws::arithmetic_clean))]
 pub fn next(job: &Job, arch: &Arch, vals: &Vals, instr: &Instr) -> Next
-    requires { arch.now.count < 2 ^ 32 - 1 }
+    requires { arch.old.count < 2 ^ 32 - 1 }
     ensures next { result ≡ next_of (play (arithmetic arch.now instr.now (next_address job.now arch.now)) vals.now.accesses vals.now.values) }
     ensures range { NextInRange result }
 
     // An instruction that faults has changed no word.
     ensures fault { (e : Fault) → result ≡ Next.Fault e → All KeepsWords (trail vals.now.accesses (arithmetic arch.now instr.now (next_address job.now arch.now)) vals.now.values []) }
 {
-    Next::noted(follow(
-        arch,
-        instr,
-        next_address(job, arch, |bytes| instruction_length(bytes)),
-        &mut vals.start(),
-    ))
+    let next = next_address(job, arch, |bytes| instruction_length(bytes));
+    let mut after = *arch;
+    let reached = follow(&mut after, instr, next, &mut vals.start());
+    Next::noted(&after, reached)
 }

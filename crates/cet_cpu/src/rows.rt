@@ -22,7 +22,6 @@ use cet_page::{Cursor, Family, Suspended, family_of, general_protection, invalid
 use cet_words::{EXIT_WORD, Job, pend_word};
 
 /// An instruction, with the address of the next one. Where it is over, the state is changed in its place.
-#[inline(always)]
 #[tactic(auto, using(cet_page::proofs::ScriptLaws::play_bind))]
 fn execute(
     job: &Job,
@@ -37,28 +36,15 @@ fn execute(
     ensures stays { Stays arch.old arch.new result }
 {
     match family_of(instr) {
-        Family::Arithmetic => {
-            let (after, noted) = cet_alu::follow(arch, instr, next, at)?;
-            *arch = after;
-            Ok(RowEnd::Noted(noted))
-        }
-        Family::Flow => {
-            let (after, noted) = cet_flow::follow(arch, instr, next, at)?;
-            *arch = after;
-            Ok(RowEnd::Noted(noted))
-        }
-        Family::ShadowStacks => {
-            let (after, noted) = cet_shstk::follow(arch, instr, next, at)?;
-            *arch = after;
-            Ok(RowEnd::Noted(noted))
-        }
+        Family::Arithmetic => Ok(RowEnd::Noted(cet_alu::follow(arch, instr, next, at)?)),
+        Family::Flow => Ok(RowEnd::Noted(cet_flow::follow(arch, instr, next, at)?)),
+        Family::ShadowStacks => Ok(RowEnd::Noted(cet_shstk::follow(arch, instr, next, at)?)),
         Family::SystemCall => syscall(job, arch, at),
         Family::Supervisor => Err(general_protection()),
     }
 }
 
 /// The instruction that the code at RIP is.
-#[inline(always)]
 fn decoded(job: &Job, arch: &mut Arch, code: &Code, at: &mut Cursor) -> Result<RowEnd, Suspended>
     requires count { arch.old.count < 2 ^ 32 - 1 }
     requires made { IsMade arch.old.made }

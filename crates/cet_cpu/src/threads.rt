@@ -303,8 +303,6 @@ impl Cpu {
     /// What the thread's row comes to after the accesses so far. Where it is over, the state is the one after
     /// it, but for the thread's number and the supervisor stack that it holds. The row isn't played where it
     /// wants an access that it opens with.
-    #[inline(always)]
-    #[inline(always)]
     fn row_so_far(&mut self, job: &Job) -> Result<RowEnd, Suspended>
         requires count { self.old.core.arch.count < 2 ^ 32 - 1 }
         requires made { IsMade self.old.core.arch.made }
@@ -322,8 +320,6 @@ impl Cpu {
     }
 
     /// The same, by a play of the row from its start.
-    #[inline(never)]
-    #[inline(never)]
     fn replay_row(&mut self, job: &Job) -> Result<RowEnd, Suspended>
         requires count { self.old.core.arch.count < 2 ^ 32 - 1 }
         requires made { IsMade self.old.core.arch.made }

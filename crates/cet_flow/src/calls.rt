@@ -2,22 +2,19 @@
 
 ghost use Rattle.std.specs.Prelude.{◌≡◌, ◌-◌, ◌^◌, ◌<◌};
 ghost use Rattle.cet_page.specs.Script.{play};
-ghost use Rattle.cet_page.specs.Plays.{Refines};
+ghost use Rattle.cet_page.specs.Plays.{Follows};
+ghost use Rattle.cet_page.specs.Operands.{Leaves};
 ghost use Rattle.cet_page.specs.Flow.{called, call, call_next, call_relative, call_to, call_indirect};
 
 use crate::jumps::relative;
 use cet_isa::{Arch, Operand, RSP, Record, Size, What, is_canonical};
 use cet_page::{Cursor, Kind, Suspended, Who, general_protection, word_in};
 
-fn called(arch: &Arch, target: u64, sp: u64, ssp: u64) -> (Arch, Record)
-    requires { arch.now.count < 2 ^ 32 - 1 }
-    ensures { result ≡ called arch.now target sp ssp }
+/// A call ends that leaves the stack pointers so.
+fn called(arch: &mut Arch, target: u64, sp: u64, ssp: u64) -> Record
+    requires { arch.old.count < 2 ^ 32 - 1 }
+    ensures { Leaves (called arch.old target sp ssp) arch.new result }
 {
-    let mut after = *arch;
-    after.regs[RSP] = sp;
-    after.rip = target;
-    after.ssp = ssp;
-    after.count = arch.count + 1;
     let noted = Record {
         rip: arch.rip,
         what: What::Call,
@@ -25,14 +22,18 @@ fn called(arch: &Arch, target: u64, sp: u64, ssp: u64) -> (Arch, Record)
         a: target,
         b: ssp,
     };
-    (after, noted)
+    arch.regs[RSP] = sp;
+    arch.rip = target;
+    arch.ssp = ssp;
+    arch.count += 1;
+    noted
 }
 
 /// A call that pushes the return address on both stacks.
 #[tactic(auto, using(cet_page::proofs::ScriptLaws::play_bind), unfolding(cet_page::specs::Flow::call, cet_page::specs::Parts::store_as))]
-fn call(arch: &Arch, back: u64, target: u64, at: &mut Cursor) -> Result<(Arch, Record), Suspended>
-    requires { arch.now.count < 2 ^ 32 - 1 }
-    ensures { Refines (play (call arch.now back target) at.old.left at.old.rest.now) result at.new.left at.new.rest.now }
+fn call(arch: &mut Arch, back: u64, target: u64, at: &mut Cursor) -> Result<Record, Suspended>
+    requires { arch.old.count < 2 ^ 32 - 1 }
+    ensures { Follows (play (call arch.old back target) at.old.left at.old.rest.now) arch.old arch.new result at.new.left at.new.rest.now }
 {
     let sp = arch.regs[RSP].wrapping_sub(8);
     let ssp = arch.ssp.wrapping_sub(8);
@@ -46,26 +47,27 @@ fn call(arch: &Arch, back: u64, target: u64, at: &mut Cursor) -> Result<(Arch, R
 
 /// A call to the next instruction, which pushes on the program stack alone.
 #[tactic(auto, using(cet_page::proofs::ScriptLaws::play_bind), unfolding(cet_page::specs::Flow::call_next))]
-fn call_next(arch: &Arch, back: u64, at: &mut Cursor) -> Result<(Arch, Record), Suspended>
-    requires { arch.now.count < 2 ^ 32 - 1 }
-    ensures { Refines (play (call_next arch.now back) at.old.left at.old.rest.now) result at.new.left at.new.rest.now }
+fn call_next(arch: &mut Arch, back: u64, at: &mut Cursor) -> Result<Record, Suspended>
+    requires { arch.old.count < 2 ^ 32 - 1 }
+    ensures { Follows (play (call_next arch.old back) at.old.left at.old.rest.now) arch.old arch.new result at.new.left at.new.rest.now }
 {
     let sp = arch.regs[RSP].wrapping_sub(8);
     at.check_address(sp, 8)?;
     let page = at.look(Kind::Store, Who::User, sp)?;
     at.store(word_in(page, sp), back)?;
-    Ok(called(arch, back, sp, arch.ssp))
+    let ssp = arch.ssp;
+    Ok(called(arch, back, sp, ssp))
 }
 
 /// A relative near call.
 pub fn call_relative(
-    arch: &Arch,
+    arch: &mut Arch,
     disp: i32,
     next: u64,
     at: &mut Cursor,
-) -> Result<(Arch, Record), Suspended>
-    requires { arch.now.count < 2 ^ 32 - 1 }
-    ensures { Refines (play (call_relative arch.now disp next) at.old.left at.old.rest.now) result at.new.left at.new.rest.now }
+) -> Result<Record, Suspended>
+    requires { arch.old.count < 2 ^ 32 - 1 }
+    ensures { Follows (play (call_relative arch.old disp next) at.old.left at.old.rest.now) arch.old arch.new result at.new.left at.new.rest.now }
 {
     if disp == 0 {
         return call_next(arch, next, at);
@@ -74,13 +76,13 @@ pub fn call_relative(
 }
 
 fn call_to(
-    arch: &Arch,
+    arch: &mut Arch,
     back: u64,
     target: u64,
     at: &mut Cursor,
-) -> Result<(Arch, Record), Suspended>
-    requires { arch.now.count < 2 ^ 32 - 1 }
-    ensures { Refines (play (call_to arch.now back target) at.old.left at.old.rest.now) result at.new.left at.new.rest.now }
+) -> Result<Record, Suspended>
+    requires { arch.old.count < 2 ^ 32 - 1 }
+    ensures { Follows (play (call_to arch.old back target) at.old.left at.old.rest.now) arch.old arch.new result at.new.left at.new.rest.now }
 {
     if !is_canonical(target) {
         return Err(general_protection());
@@ -91,13 +93,13 @@ fn call_to(
 /// An indirect near call.
 #[tactic(auto, using(cet_page::proofs::ScriptLaws::play_bind), unfolding(cet_page::specs::Flow::call_indirect))]
 pub fn call_indirect(
-    arch: &Arch,
+    arch: &mut Arch,
     target: Operand,
     next: u64,
     at: &mut Cursor,
-) -> Result<(Arch, Record), Suspended>
-    requires { arch.now.count < 2 ^ 32 - 1 }
-    ensures { Refines (play (call_indirect arch.now target next) at.old.left at.old.rest.now) result at.new.left at.new.rest.now }
+) -> Result<Record, Suspended>
+    requires { arch.old.count < 2 ^ 32 - 1 }
+    ensures { Follows (play (call_indirect arch.old target next) at.old.left at.old.rest.now) arch.old arch.new result at.new.left at.new.rest.now }
 {
     let target = at.read_operand(arch, Size::Qword, target, next)?;
     call_to(arch, next, target, at)

@@ -2,11 +2,12 @@
 
 ghost use Rattle.std.specs.Prelude.{◌≡◌, ◌-◌, ◌^◌, ◌<◌, ℕ, List};
 ghost use Rattle.cet_page.specs.Script.{play};
-ghost use Rattle.cet_page.specs.Plays.{Refines};
+ghost use Rattle.cet_page.specs.Plays.{Follows};
+ghost use Rattle.cet_page.specs.Operands.{Leaves};
 ghost use Rattle.cet_page.specs.Flow.{relative, jumped, jump_to, jump_indirect, jump_target};
 
 use cet_isa::{Arch, Cond, Operand, Record, Size, is_canonical};
-use cet_page::{Cursor, StatusFlags, Suspended, general_protection, stepped};
+use cet_page::{Cursor, StatusFlags, Suspended, general_protection, step};
 
 /// The target of a relative displacement.
 pub fn relative(next: u64, disp: i32) -> u64
@@ -15,17 +16,17 @@ pub fn relative(next: u64, disp: i32) -> u64
     next.wrapping_add_signed(i64::from(disp))
 }
 
-/// The state and record after a jump.
-pub fn jumped(arch: &Arch, target: u64) -> (Arch, Record)
-    requires { arch.now.count < 2 ^ 32 - 1 }
-    ensures { result ≡ jumped arch.now target }
+/// A jump ends.
+pub fn jumped(arch: &mut Arch, target: u64) -> Record
+    requires { arch.old.count < 2 ^ 32 - 1 }
+    ensures { Leaves (jumped arch.old target) arch.new result }
 {
-    stepped(arch, arch.regs, target, arch.flags, target)
+    step(arch, target, target)
 }
 
-fn jump_to(arch: &Arch, target: u64) -> Result<(Arch, Record), Suspended>
-    requires { arch.now.count < 2 ^ 32 - 1 }
-    ensures { (left : ℕ) (values : List ℕ) → Refines (play (jump_to arch.now target) left values) result left values }
+fn jump_to(arch: &mut Arch, target: u64) -> Result<Record, Suspended>
+    requires { arch.old.count < 2 ^ 32 - 1 }
+    ensures { (left : ℕ) (values : List ℕ) → Follows (play (jump_to arch.old target) left values) arch.old arch.new result left values }
 {
     if !is_canonical(target) {
         return Err(general_protection());
@@ -36,26 +37,27 @@ fn jump_to(arch: &Arch, target: u64) -> Result<(Arch, Record), Suspended>
 /// An indirect near jump.
 #[tactic(auto, using(cet_page::proofs::ScriptLaws::play_bind), unfolding(cet_page::specs::Flow::jump_indirect))]
 pub fn jump_indirect(
-    arch: &Arch,
+    arch: &mut Arch,
     target: Operand,
     next: u64,
     at: &mut Cursor,
-) -> Result<(Arch, Record), Suspended>
-    requires { arch.now.count < 2 ^ 32 - 1 }
-    ensures { Refines (play (jump_indirect arch.now target next) at.old.left at.old.rest.now) result at.new.left at.new.rest.now }
+) -> Result<Record, Suspended>
+    requires { arch.old.count < 2 ^ 32 - 1 }
+    ensures { Follows (play (jump_indirect arch.old target next) at.old.left at.old.rest.now) arch.old arch.new result at.new.left at.new.rest.now }
 {
     let target = at.read_operand(arch, Size::Qword, target, next)?;
     jump_to(arch, target)
 }
 
 /// A conditional jump.
-pub fn jump_if(arch: &Arch, cond: Cond, disp: i32, next: u64) -> (Arch, Record)
-    requires { arch.now.count < 2 ^ 32 - 1 }
-    ensures { result ≡ jumped arch.now (jump_target arch.now cond disp next) }
+pub fn jump_if(arch: &mut Arch, cond: Cond, disp: i32, next: u64) -> Record
+    requires { arch.old.count < 2 ^ 32 - 1 }
+    ensures { Leaves (jumped arch.old (jump_target arch.old cond disp next)) arch.new result }
 {
-    if StatusFlags::of(arch.flags).holds(cond) {
-        jumped(arch, relative(next, disp))
+    let target = if StatusFlags::of(arch.flags).holds(cond) {
+        relative(next, disp)
     } else {
-        jumped(arch, next)
-    }
+        next
+    };
+    jumped(arch, target)
 }

@@ -2,22 +2,19 @@
 
 ghost use Rattle.std.specs.Prelude.{◌≡◌, ◌-◌, ◌^◌, ◌<◌};
 ghost use Rattle.cet_page.specs.Script.{play};
-ghost use Rattle.cet_page.specs.Plays.{Refines};
+ghost use Rattle.cet_page.specs.Plays.{Follows};
+ghost use Rattle.cet_page.specs.Operands.{Leaves};
 ghost use Rattle.cet_page.specs.Flow.{returned, ret, return_differs};
 
 use cet_isa::{Arch, Fault, FaultName, RSP, Record, What, is_canonical};
 use cet_page::{Cursor, Kind, Suspended, Who, general_protection, word_in};
 
-fn returned(arch: &Arch, bytes: u16, target: u64) -> (Arch, Record)
-    requires { arch.now.count < 2 ^ 32 - 1 }
-    ensures { result ≡ returned arch.now bytes target }
+/// A return to this target ends.
+fn returned(arch: &mut Arch, bytes: u16, target: u64) -> Record
+    requires { arch.old.count < 2 ^ 32 - 1 }
+    ensures { Leaves (returned arch.old bytes target) arch.new result }
 {
     let ssp = arch.ssp.wrapping_add(8);
-    let mut after = *arch;
-    after.regs[RSP] = arch.regs[RSP].wrapping_add(8 + u64::from(bytes));
-    after.rip = target;
-    after.ssp = ssp;
-    after.count = arch.count + 1;
     let noted = Record {
         rip: arch.rip,
         what: What::Ret,
@@ -25,7 +22,11 @@ fn returned(arch: &Arch, bytes: u16, target: u64) -> (Arch, Record)
         a: target,
         b: ssp,
     };
-    (after, noted)
+    arch.regs[RSP] = arch.regs[RSP].wrapping_add(8 + u64::from(bytes));
+    arch.rip = target;
+    arch.ssp = ssp;
+    arch.count += 1;
+    noted
 }
 
 /// #CP of a near return whose words differ.
@@ -42,9 +43,9 @@ fn return_differs(word: u64, shadow_word: u64) -> Fault
 
 /// A near return, which takes so many bytes more off the program stack.
 #[tactic(auto, using(cet_page::proofs::ScriptLaws::play_bind), unfolding(cet_page::specs::Flow::ret, cet_page::specs::Parts::load_as))]
-pub fn ret(arch: &Arch, bytes: u16, at: &mut Cursor) -> Result<(Arch, Record), Suspended>
-    requires { arch.now.count < 2 ^ 32 - 1 }
-    ensures { Refines (play (ret arch.now bytes) at.old.left at.old.rest.now) result at.new.left at.new.rest.now }
+pub fn ret(arch: &mut Arch, bytes: u16, at: &mut Cursor) -> Result<Record, Suspended>
+    requires { arch.old.count < 2 ^ 32 - 1 }
+    ensures { Follows (play (ret arch.old bytes) at.old.left at.old.rest.now) arch.old arch.new result at.new.left at.new.rest.now }
 {
     let sp = arch.regs[RSP];
     at.check_address(sp, 8)?;

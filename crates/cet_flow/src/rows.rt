@@ -4,7 +4,7 @@ ghost use Rattle.std.specs.Prelude.{◌≡◌, ◌-◌, ◌^◌, ◌<◌, [], Al
 ghost use Rattle.cet_isa.specs.declared.threads.Fault.{Fault};
 ghost use Rattle.cet_page.specs.Script.{play};
 ghost use Rattle.cet_page.specs.Trail.{trail};
-ghost use Rattle.cet_page.specs.Plays.{Refines, NextInRange, next_of};
+ghost use Rattle.cet_page.specs.Plays.{Follows, NextInRange, next_of};
 ghost use Rattle.cet_page.specs.Faults.{KeepsWords};
 ghost use Rattle.cet_page.specs.Row.{next_address};
 ghost use Rattle.cet_page.specs.Flow.{flow};
@@ -21,13 +21,13 @@ use cet_words::Job;
 /// A call, return, push, pop or jump, as far as the cursor's accesses lead; `next` is the address of the
 /// next instruction. Every other instruction is an invalid opcode.
 pub fn follow(
-    arch: &Arch,
+    arch: &mut Arch,
     instr: &Instr,
     next: u64,
     at: &mut Cursor,
-) -> Result<(Arch, Record), Suspended>
-    requires { arch.now.count < 2 ^ 32 - 1 }
-    ensures { Refines (play (flow arch.now instr.now next) at.old.left at.old.rest.now) result at.new.left at.new.rest.now }
+) -> Result<Record, Suspended>
+    requires { arch.old.count < 2 ^ 32 - 1 }
+    ensures { Follows (play (flow arch.old instr.now next) at.old.left at.old.rest.now) arch.old arch.new result at.new.left at.new.rest.now }
 {
     match *instr {
         Instr::CallRel { disp } => call_relative(arch, disp, next, at),
@@ -49,17 +49,15 @@ pub fn follow(
 /// instruction is that after the instruction at RIP.
 #[tactic(auto, using(cet_page::proofs::PlayLaws::next_is, cet_page::proofs::PlayLaws::next_ranges, cet_page::proofs::FaultLaws::flow_clean))]
 pub fn next(job: &Job, arch: &Arch, vals: &Vals, instr: &Instr) -> Next
-    requires { arch.now.count < 2 ^ 32 - 1 }
+    requires { arch.old.count < 2 ^ 32 - 1 }
     ensures next { result ≡ next_of (play (flow arch.now instr.now (next_address job.now arch.now)) vals.now.accesses vals.now.values) }
     ensures range { NextInRange result }
 
     // An instruction that faults has changed no word.
     ensures fault { (e : Fault) → result ≡ Next.Fault e → All KeepsWords (trail vals.now.accesses (flow arch.now instr.now (next_address job.now arch.now)) vals.now.values []) }
 {
-    Next::noted(follow(
-        arch,
-        instr,
-        next_address(job, arch, |bytes| instruction_length(bytes)),
-        &mut vals.start(),
-    ))
+    let next = next_address(job, arch, |bytes| instruction_length(bytes));
+    let mut after = *arch;
+    let reached = follow(&mut after, instr, next, &mut vals.start());
+    Next::noted(&after, reached)
 }

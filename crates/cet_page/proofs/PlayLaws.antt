@@ -12,7 +12,7 @@ use Rattle.cet_page.specs.declared.finishes.Finish.{Finish}
 use Rattle.cet_page.specs.declared.cursors.Mark.{Mark}
 use Rattle.cet_page.specs.declared.cursors.Suspended.{Suspended}
 use Rattle.cet_page.specs.declared.cursors.Suspended.TheVariants as suspended
-use Rattle.cet_page.specs.Plays.{next_by, with_record, Wanted, Refines, next_of, NextInRange, next_after}
+use Rattle.cet_page.specs.Plays.{next_by, with_record, with_state, Wanted, Refines, Follows, next_of, NextInRange, next_after}
 use Rattle.cet_page.specs.declared.nexts.Next.TheVariants as nexts
 
 -- a function over a cursor answers what its script does next
@@ -30,12 +30,16 @@ next_by_ranges view (Faulted e) (Err (suspended.Access a mark)) left values h = 
 next_by_ranges view (Completed x m vs) (Err (suspended.Access a mark)) left values h = absurd h
 next_by_ranges view came (Err (suspended.Fault e)) left values h = tt
 
--- the same of an instruction
-pub next_is : (came : Played (Arch × Record)) (reached : Result (Arch × Record) Suspended) (left : ℕ) (values : List ℕ) → Refines came reached left values → next_after with_record reached ≡ next_of came
-next_is came reached left values h = next_by_is with_record came reached left values h
+-- the same of an instruction, which changes the state in its place
+pub next_is : (came : Played (Arch × Record)) (before after : Arch) (reached : Result Record Suspended) (left : ℕ) (values : List ℕ) → Follows came before after reached left values → next_after (with_state after) reached ≡ next_of came
+next_is came before after (Ok noted) left values h = rw h refl
+next_is came before after (Err (suspended.Access a mark)) left values h = next_by_is with_record came (Err (suspended.Access a mark)) left values h.1
+next_is came before after (Err (suspended.Fault e)) left values h = next_by_is with_record came (Err (suspended.Fault e)) left values h.1
 
-pub next_ranges : (came : Played (Arch × Record)) (reached : Result (Arch × Record) Suspended) (left : ℕ) (values : List ℕ) → Refines came reached left values → NextInRange (next_after with_record reached)
-next_ranges came reached left values h = next_by_ranges with_record came reached left values h
+pub next_ranges : (came : Played (Arch × Record)) (before after : Arch) (reached : Result Record Suspended) (left : ℕ) (values : List ℕ) → Follows came before after reached left values → NextInRange (next_after (with_state after) reached)
+next_ranges came before after (Ok noted) left values h = tt
+next_ranges came before after (Err (suspended.Access a mark)) left values h = next_by_ranges with_record came (Err (suspended.Access a mark)) left values h.1
+next_ranges came before after (Err (suspended.Fault e)) left values h = tt
 
 -- what is wanted
 pub wanted_access : (c : Played Finish) (a : Access) (mark : Mark) → Wanted c a mark → wanted c ≡ Some a

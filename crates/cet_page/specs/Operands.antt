@@ -1,6 +1,6 @@
 -- Operands of registers, immediates and memory, and what an instruction leaves. Source: Intel SDM volume 1 (operand addressing in
 -- 64-bit mode); that data accesses are aligned is own.
-use Rattle.std.specs.Prelude.{ℕ, ◌+◌, ◌*◌, ◌/◌, ◌%◌, ◌^◌, List, Option, Some, None, slice_index, slice_set}
+use Rattle.std.specs.Prelude.{◌≡◌, ℕ, ◌+◌, ◌*◌, ◌/◌, ◌%◌, ◌^◌, List, Option, Some, None, slice_index, slice_set}
 use Rattle.std.specs.Int.{w64, cast_unsigned}
 use Rattle.cet_words.specs.Layout.{word_in}
 use Rattle.cet_isa.specs.Code.{reg_number}
@@ -88,6 +88,10 @@ read_operand arch s (operand.Imm z) next = done (cast_unsigned (width s) z)
 read_operand arch s (operand.Mem m) next = load_at (effective arch m next) (byte_count s)
 
 -- ---- what an instruction leaves
+
+-- this state and this record
+abbrev pub Leaves : Arch × Record → Arch → Record → Type 0
+Leaves left after noted = (after ≡ left.0) × (noted ≡ left.1)
 
 -- registers, RIP and RFLAGS, with one record more, which tells the value and RFLAGS
 abbrev pub stepped : Arch → (regs : List ℕ) → (next flags value : ℕ) → Arch × Record

@@ -51,6 +51,12 @@ abbrev pub RefinesBy : {A B : Type 0} → (A → B) → Played B → Result A Su
 RefinesBy view came (Ok x) left values = came ≡ Completed (view x) left values
 RefinesBy view came (Err s) left values = Suspends came s
 
+-- What an instruction comes to that changes the thread's state in its place: it is over with this state and this record, or
+-- nothing has changed.
+abbrev pub Follows : Played (Arch × Record) → (before after : Arch) → Result Record Suspended → (left : ℕ) → List ℕ → Type 0
+Follows came before after (Ok noted) left values = came ≡ Completed (after, noted) left values
+Follows came before after (Err s) left values = (after ≡ before) × Suspends came s
+
 abbrev pub Refines : {A : Type 0} → Played A → Result A Suspended → (left : ℕ) → List ℕ → Type 0
 Refines came result left values = RefinesBy (λ x. x) came result left values
 
@@ -69,6 +75,10 @@ next_by view (Completed x left values) = nexts.Done (view x).0 (view x).1
 -- an instruction ends with a record
 abbrev pub with_record : Arch × Record → Arch × Option Record
 with_record x = (x.0, Some x.1)
+
+-- the same with the state after it
+abbrev pub with_state : Arch → Record → Arch × Option Record
+with_state after noted = (after, Some noted)
 
 -- and a service that goes back to the thread, before the way out
 abbrev pub with_leaving : Arch × Record × Leaving → Arch × Option Record

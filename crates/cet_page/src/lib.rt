@@ -34,8 +34,8 @@ pub use flags::{Computed, StatusFlags};
 pub use laws::{accesses_run_out, numbers_stay, parts_are_in_their_rows};
 pub use nexts::Next;
 pub use operands::{
-    assigned, compared, effective, register, register_of, settled, stepped, truncated,
-    with_register,
+    assign, compare, effective, register, register_of, set_register, settle, step, step_with,
+    truncated,
 };
 pub use services::{Errno, SYSCALL_LENGTH, failed, serve, served, sys_record};
 pub use tokens::{

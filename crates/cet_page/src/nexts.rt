@@ -17,7 +17,7 @@ pub enum Next {
 }
 
 impl Next {
-    ghost use Rattle.cet_page.specs.Plays.{next_after, with_leaving, with_record};
+    ghost use Rattle.cet_page.specs.Plays.{next_after, with_leaving, with_state};
 
     /// What a part of a row does next, by how far its accesses have led: a state with a record, or
     /// with none.
@@ -31,12 +31,12 @@ impl Next {
         }
     }
 
-    /// The same of an instruction, which ends with a record.
-    pub fn noted(reached: Result<(Arch, Record), Suspended>) -> Next
-        ensures { result ≡ next_after with_record reached }
+    /// The same of an instruction, which ends with a record and this state.
+    pub fn noted(after: &Arch, reached: Result<Record, Suspended>) -> Next
+        ensures { result ≡ next_after (with_state after.now) reached }
     {
         match reached {
-            Ok((arch, noted)) => Next::of(Ok((arch, Some(noted)))),
+            Ok(noted) => Next::of(Ok((*after, Some(noted)))),
             Err(stop) => Next::of(Err(stop)),
         }
     }

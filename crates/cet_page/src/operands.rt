@@ -6,7 +6,7 @@ ghost use Rattle.cet_words.specs.Layout.{word_count};
 ghost use Rattle.cet_page.specs.Script.{play};
 ghost use Rattle.cet_page.specs.Plays.{Refines};
 ghost use Rattle.cet_page.specs.Values.{limit, width};
-ghost use Rattle.cet_page.specs.Operands.{register, with_register, base_address, index_value, effective, byte_count, bytes_at, load_word, load_at, write_place, store_at, read_operand, stepped, assigned, settled, compared};
+ghost use Rattle.cet_page.specs.Operands.{register, with_register, base_address, index_value, effective, byte_count, bytes_at, load_word, load_at, write_place, store_at, read_operand, Leaves, stepped, assigned, settled, compared};
 
 use crate::checks::{Kind, Who};
 use crate::cursors::{Cursor, Suspended, word_in};
@@ -166,25 +166,18 @@ impl<'a> Cursor<'a> {
     }
 }
 
-/// The registers, where one has got a value.
-pub fn with_register(arch: &Arch, reg: Reg, value: u64) -> [u64; 16]
-    ensures { result ≡ with_register arch.now reg value }
+/// Gives a register a value.
+pub fn set_register(arch: &mut Arch, reg: Reg, value: u64)
+    ensures { arch.new ≡ record arch.old { regs = with_register arch.old reg value } }
 {
-    let mut regs = arch.regs;
-    regs[reg.number() as usize] = value;
-    regs
+    arch.regs[reg.number() as usize] = value;
 }
 
-/// The state after an instruction that leaves registers, RIP and RFLAGS so, and its record with a value.
-pub fn stepped(arch: &Arch, regs: [u64; 16], next: u64, flags: u64, value: u64) -> (Arch, Record)
-    requires { arch.now.count < 2 ^ 32 - 1 }
-    ensures { result ≡ stepped arch.now regs next flags value }
+/// An instruction ends that leaves RIP and RFLAGS so; the answer is its record with a value.
+pub fn step_with(arch: &mut Arch, flags: u64, next: u64, value: u64) -> Record
+    requires { arch.old.count < 2 ^ 32 - 1 }
+    ensures { Leaves (stepped arch.old arch.old.regs next flags value) arch.new result }
 {
-    let mut after = *arch;
-    after.regs = regs;
-    after.rip = next;
-    after.flags = flags;
-    after.count = arch.count + 1;
     let noted = Record {
         rip: arch.rip,
         what: What::Step,
@@ -192,42 +185,43 @@ pub fn stepped(arch: &Arch, regs: [u64; 16], next: u64, flags: u64, value: u64) 
         a: value,
         b: flags,
     };
-    (after, noted)
+    arch.rip = next;
+    arch.flags = flags;
+    arch.count += 1;
+    noted
 }
 
-/// The state and record after an instruction that gives a register a value.
-pub fn assigned(arch: &Arch, reg: Reg, value: u64, next: u64) -> (Arch, Record)
-    requires { arch.now.count < 2 ^ 32 - 1 }
-    ensures { result ≡ assigned arch.now reg value next }
+/// An instruction ends that leaves RFLAGS as they are.
+pub fn step(arch: &mut Arch, next: u64, value: u64) -> Record
+    requires { arch.old.count < 2 ^ 32 - 1 }
+    ensures { Leaves (stepped arch.old arch.old.regs next arch.old.flags value) arch.new result }
 {
-    stepped(
-        arch,
-        with_register(arch, reg, value),
-        next,
-        arch.flags,
-        value,
-    )
+    let flags = arch.flags;
+    step_with(arch, flags, next, value)
 }
 
-/// The state and record after an instruction that gives a register what was computed, and RFLAGS the flags.
-pub fn settled(arch: &Arch, reg: Reg, computed: Computed, next: u64) -> (Arch, Record)
-    requires { arch.now.count < 2 ^ 32 - 1 }
-    ensures { result ≡ settled arch.now reg computed next }
+/// An instruction ends that gives a register a value.
+pub fn assign(arch: &mut Arch, reg: Reg, value: u64, next: u64) -> Record
+    requires { arch.old.count < 2 ^ 32 - 1 }
+    ensures { Leaves (assigned arch.old reg value next) arch.new result }
 {
-    let flags = computed.flags.rflags();
-    stepped(
-        arch,
-        with_register(arch, reg, computed.value),
-        next,
-        flags,
-        computed.value,
-    )
+    set_register(arch, reg, value);
+    step(arch, next, value)
 }
 
-/// The state and record after an instruction that gives RFLAGS alone the flags of what was computed.
-pub fn compared(arch: &Arch, computed: Computed, next: u64) -> (Arch, Record)
-    requires { arch.now.count < 2 ^ 32 - 1 }
-    ensures { result ≡ compared arch.now computed next }
+/// An instruction ends that gives a register what was computed, and RFLAGS the flags.
+pub fn settle(arch: &mut Arch, reg: Reg, computed: Computed, next: u64) -> Record
+    requires { arch.old.count < 2 ^ 32 - 1 }
+    ensures { Leaves (settled arch.old reg computed next) arch.new result }
 {
-    stepped(arch, arch.regs, next, computed.flags.rflags(), 0)
+    set_register(arch, reg, computed.value);
+    step_with(arch, computed.flags.rflags(), next, computed.value)
+}
+
+/// An instruction ends that gives RFLAGS alone the flags of what was computed.
+pub fn compare(arch: &mut Arch, computed: Computed, next: u64) -> Record
+    requires { arch.old.count < 2 ^ 32 - 1 }
+    ensures { Leaves (compared arch.old computed next) arch.new result }
+{
+    step_with(arch, computed.flags.rflags(), next, 0)
 }

@@ -2,7 +2,8 @@
 
 ghost use Rattle.std.specs.Prelude.{◌≡◌, ◌-◌, ◌^◌, ◌<◌};
 ghost use Rattle.cet_page.specs.Script.{play};
-ghost use Rattle.cet_page.specs.Plays.{Refines};
+ghost use Rattle.cet_page.specs.Plays.{Follows};
+ghost use Rattle.cet_page.specs.Operands.{Leaves};
 ghost use Rattle.cet_page.specs.ShadowStacks.{restored, rstorssp, no_restore_token};
 
 use cet_isa::{Arch, Fault, FaultName, Record, What};
@@ -11,15 +12,11 @@ use cet_page::{Cursor, Kind, Suspended, Who, previous_token, restore_token_at, w
 /// RFLAGS with CF, PF, AF, ZF, SF and OF clear.
 const CLEAR: u64 = 2;
 
-fn restored(arch: &Arch, addr: u64, next: u64) -> (Arch, Record)
-    requires { arch.now.count < 2 ^ 32 - 1 }
-    ensures { result ≡ restored arch.now addr next }
+/// RSTORSSP ends.
+fn restored(arch: &mut Arch, addr: u64, next: u64) -> Record
+    requires { arch.old.count < 2 ^ 32 - 1 }
+    ensures { Leaves (restored arch.old addr next) arch.new result }
 {
-    let mut after = *arch;
-    after.rip = next;
-    after.flags = CLEAR;
-    after.ssp = addr;
-    after.count = arch.count + 1;
     let noted = Record {
         rip: arch.rip,
         what: What::Take,
@@ -27,7 +24,11 @@ fn restored(arch: &Arch, addr: u64, next: u64) -> (Arch, Record)
         a: addr,
         b: arch.ssp,
     };
-    (after, noted)
+    arch.rip = next;
+    arch.flags = CLEAR;
+    arch.ssp = addr;
+    arch.count += 1;
+    noted
 }
 
 /// #CP(RSTORSSP): the word found at the address is no restore token for it.
@@ -46,13 +47,13 @@ fn no_restore_token(addr: u64, found: u64) -> Fault
 /// exchange, so of two threads that want it one gets it.
 #[tactic(auto, using(cet_page::proofs::ScriptLaws::play_bind), unfolding(cet_page::specs::ShadowStacks::rstorssp, cet_page::specs::Parts::compare_exchange_as))]
 pub fn rstorssp(
-    arch: &Arch,
+    arch: &mut Arch,
     addr: u64,
     next: u64,
     at: &mut Cursor,
-) -> Result<(Arch, Record), Suspended>
-    requires { arch.now.count < 2 ^ 32 - 1 }
-    ensures { Refines (play (rstorssp arch.now addr next) at.old.left at.old.rest.now) result at.new.left at.new.rest.now }
+) -> Result<Record, Suspended>
+    requires { arch.old.count < 2 ^ 32 - 1 }
+    ensures { Follows (play (rstorssp arch.old addr next) at.old.left at.old.rest.now) arch.old arch.new result at.new.left at.new.rest.now }
 {
     let token = restore_token_at(addr);
     at.check_address_gp(addr, 8)?;

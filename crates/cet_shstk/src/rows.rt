@@ -4,7 +4,7 @@ ghost use Rattle.std.specs.Prelude.{◌≡◌, ◌-◌, ◌^◌, ◌<◌, [], Al
 ghost use Rattle.cet_isa.specs.declared.threads.Fault.{Fault};
 ghost use Rattle.cet_page.specs.Script.{play};
 ghost use Rattle.cet_page.specs.Trail.{trail};
-ghost use Rattle.cet_page.specs.Plays.{Refines, NextInRange, next_of};
+ghost use Rattle.cet_page.specs.Plays.{Follows, NextInRange, next_of};
 ghost use Rattle.cet_page.specs.Faults.{KeepsWords};
 ghost use Rattle.cet_page.specs.Row.{next_address};
 ghost use Rattle.cet_page.specs.ShadowStacks.{shadow_stacks};
@@ -15,7 +15,7 @@ use crate::saves::saveprevssp;
 use cet_decode::instruction_length;
 use cet_isa::{Arch, Instr, Record};
 use cet_page::{
-    Cursor, Next, Suspended, Vals, assigned, effective, general_protection, invalid_opcode,
+    Cursor, Next, Suspended, Vals, assign, effective, general_protection, invalid_opcode,
     next_address, register,
 };
 use cet_words::Job;
@@ -24,18 +24,27 @@ use cet_words::Job;
 /// next instruction. WRSSQ is never enabled, so it is an invalid opcode as every other instruction is, and
 /// WRUSSQ is the supervisor's, #GP(0).
 pub fn follow(
-    arch: &Arch,
+    arch: &mut Arch,
     instr: &Instr,
     next: u64,
     at: &mut Cursor,
-) -> Result<(Arch, Record), Suspended>
-    requires { arch.now.count < 2 ^ 32 - 1 }
-    ensures { Refines (play (shadow_stacks arch.now instr.now next) at.old.left at.old.rest.now) result at.new.left at.new.rest.now }
+) -> Result<Record, Suspended>
+    requires { arch.old.count < 2 ^ 32 - 1 }
+    ensures { Follows (play (shadow_stacks arch.old instr.now next) at.old.left at.old.rest.now) arch.old arch.new result at.new.left at.new.rest.now }
 {
     match *instr {
-        Instr::Incsspq { reg } => incsspq(arch, (register(arch, reg) % 256) as u8, next, at),
-        Instr::Rdsspq { reg } => Ok(assigned(arch, reg, arch.ssp, next)),
-        Instr::Rstorssp { mem } => rstorssp(arch, effective(arch, mem, next), next, at),
+        Instr::Incsspq { reg } => {
+            let count = (register(arch, reg) % 256) as u8;
+            incsspq(arch, count, next, at)
+        }
+        Instr::Rdsspq { reg } => {
+            let ssp = arch.ssp;
+            Ok(assign(arch, reg, ssp, next))
+        },
+        Instr::Rstorssp { mem } => {
+            let addr = effective(arch, mem, next);
+            rstorssp(arch, addr, next, at)
+        }
         Instr::Saveprevssp => saveprevssp(arch, next, at),
         Instr::Wrussq { .. } => Err(general_protection()),
         _ => Err(invalid_opcode()),
@@ -47,17 +56,15 @@ pub fn follow(
 /// instruction is that after the instruction at RIP.
 #[tactic(auto, using(cet_page::proofs::PlayLaws::next_is, cet_page::proofs::PlayLaws::next_ranges, cet_page::proofs::FaultLaws::shadow_stacks_clean))]
 pub fn next(job: &Job, arch: &Arch, vals: &Vals, instr: &Instr) -> Next
-    requires { arch.now.count < 2 ^ 32 - 1 }
+    requires { arch.old.count < 2 ^ 32 - 1 }
     ensures next { result ≡ next_of (play (shadow_stacks arch.now instr.now (next_address job.now arch.now)) vals.now.accesses vals.now.values) }
     ensures range { NextInRange result }
 
     // An instruction that faults has changed no word.
     ensures fault { (e : Fault) → result ≡ Next.Fault e → All KeepsWords (trail vals.now.accesses (shadow_stacks arch.now instr.now (next_address job.now arch.now)) vals.now.values []) }
 {
-    Next::noted(follow(
-        arch,
-        instr,
-        next_address(job, arch, |bytes| instruction_length(bytes)),
-        &mut vals.start(),
-    ))
+    let next = next_address(job, arch, |bytes| instruction_length(bytes));
+    let mut after = *arch;
+    let reached = follow(&mut after, instr, next, &mut vals.start());
+    Next::noted(&after, reached)
 }

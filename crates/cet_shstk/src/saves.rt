@@ -2,7 +2,8 @@
 
 ghost use Rattle.std.specs.Prelude.{◌≡◌, ◌-◌, ◌^◌, ◌<◌};
 ghost use Rattle.cet_page.specs.Script.{play};
-ghost use Rattle.cet_page.specs.Plays.{Refines};
+ghost use Rattle.cet_page.specs.Plays.{Follows};
+ghost use Rattle.cet_page.specs.Operands.{Leaves};
 ghost use Rattle.cet_page.specs.ShadowStacks.{saved, save, save_checked, save_by, saveprevssp};
 
 use cet_isa::{Arch, Record, What, is_canonical};
@@ -11,15 +12,12 @@ use cet_page::{
     restore_token, saved_at, word_in,
 };
 
-fn saved(arch: &Arch, addr: u64, next: u64) -> (Arch, Record)
-    requires { arch.now.count < 2 ^ 32 - 1 }
-    ensures { result ≡ saved arch.now addr next }
+/// SAVEPREVSSP ends.
+fn saved(arch: &mut Arch, addr: u64, next: u64) -> Record
+    requires { arch.old.count < 2 ^ 32 - 1 }
+    ensures { Leaves (saved arch.old addr next) arch.new result }
 {
     let ssp = arch.ssp.wrapping_add(8);
-    let mut after = *arch;
-    after.rip = next;
-    after.ssp = ssp;
-    after.count = arch.count + 1;
     let noted = Record {
         rip: arch.rip,
         what: What::Save,
@@ -27,14 +25,17 @@ fn saved(arch: &Arch, addr: u64, next: u64) -> (Arch, Record)
         a: addr,
         b: ssp,
     };
-    (after, noted)
+    arch.rip = next;
+    arch.ssp = ssp;
+    arch.count += 1;
+    noted
 }
 
 /// The restore token of the shadow stack that was left at this pointer is stored below it.
 #[tactic(auto, using(cet_page::proofs::ScriptLaws::play_bind), unfolding(cet_page::specs::ShadowStacks::save, cet_page::specs::Parts::store_as))]
-fn save(arch: &Arch, ssp: u64, next: u64, at: &mut Cursor) -> Result<(Arch, Record), Suspended>
-    requires { arch.now.count < 2 ^ 32 - 1 }
-    ensures { Refines (play (save arch.now ssp next) at.old.left at.old.rest.now) result at.new.left at.new.rest.now }
+fn save(arch: &mut Arch, ssp: u64, next: u64, at: &mut Cursor) -> Result<Record, Suspended>
+    requires { arch.old.count < 2 ^ 32 - 1 }
+    ensures { Follows (play (save arch.old ssp next) at.old.left at.old.rest.now) arch.old arch.new result at.new.left at.new.rest.now }
 {
     let addr = saved_at(ssp);
     let page = at.look(Kind::ShadowStore, Who::User, addr)?;
@@ -44,13 +45,13 @@ fn save(arch: &Arch, ssp: u64, next: u64, at: &mut Cursor) -> Result<(Arch, Reco
 
 /// The address of the token must be canonical, else #GP(0).
 fn save_checked(
-    arch: &Arch,
+    arch: &mut Arch,
     ssp: u64,
     next: u64,
     at: &mut Cursor,
-) -> Result<(Arch, Record), Suspended>
-    requires { arch.now.count < 2 ^ 32 - 1 }
-    ensures { Refines (play (save_checked arch.now ssp next) at.old.left at.old.rest.now) result at.new.left at.new.rest.now }
+) -> Result<Record, Suspended>
+    requires { arch.old.count < 2 ^ 32 - 1 }
+    ensures { Follows (play (save_checked arch.old ssp next) at.old.left at.old.rest.now) arch.old arch.new result at.new.left at.new.rest.now }
 {
     if !is_canonical(saved_at(ssp)) {
         return Err(general_protection());
@@ -59,9 +60,9 @@ fn save_checked(
 }
 
 /// What the word at SSP leads to: CF set is #GP(0), and so is a word that is no previous-SSP token.
-fn save_by(arch: &Arch, word: u64, next: u64, at: &mut Cursor) -> Result<(Arch, Record), Suspended>
-    requires { arch.now.count < 2 ^ 32 - 1 }
-    ensures { Refines (play (save_by arch.now word next) at.old.left at.old.rest.now) result at.new.left at.new.rest.now }
+fn save_by(arch: &mut Arch, word: u64, next: u64, at: &mut Cursor) -> Result<Record, Suspended>
+    requires { arch.old.count < 2 ^ 32 - 1 }
+    ensures { Follows (play (save_by arch.old word next) at.old.left at.old.rest.now) arch.old arch.new result at.new.left at.new.rest.now }
 {
     if arch.flags % 2 == 1 {
         return Err(general_protection());
@@ -74,9 +75,9 @@ fn save_by(arch: &Arch, word: u64, next: u64, at: &mut Cursor) -> Result<(Arch, 
 
 /// SAVEPREVSSP. The word at SSP is read before CF is tested.
 #[tactic(auto, using(cet_page::proofs::ScriptLaws::play_bind), unfolding(cet_page::specs::ShadowStacks::saveprevssp))]
-pub fn saveprevssp(arch: &Arch, next: u64, at: &mut Cursor) -> Result<(Arch, Record), Suspended>
-    requires { arch.now.count < 2 ^ 32 - 1 }
-    ensures { Refines (play (saveprevssp arch.now next) at.old.left at.old.rest.now) result at.new.left at.new.rest.now }
+pub fn saveprevssp(arch: &mut Arch, next: u64, at: &mut Cursor) -> Result<Record, Suspended>
+    requires { arch.old.count < 2 ^ 32 - 1 }
+    ensures { Follows (play (saveprevssp arch.old next) at.old.left at.old.rest.now) arch.old arch.new result at.new.left at.new.rest.now }
 {
     let page = at.look(Kind::ShadowLoad, Who::User, arch.ssp)?;
     let word = at.load(word_in(page, arch.ssp))?;
