@@ -29,3 +29,17 @@ pub fn opening(job: &Job, arch: &Arch, vals: &Vals) -> Option<Access>
     }
     None
 }
+
+/// Whether the row has come to the instruction at RIP, behind the two accesses that it opens with: nothing is
+/// due, EXIT was 0, and no signal is pending that isn't masked.
+#[tactic(auto, using(crate::proofs::OpeningLaws::comes_to_instruction))]
+pub fn is_opened(job: &Job, arch: &Arch, vals: &Vals) -> bool
+    ensures { result ≡ true → IsOpened job.now arch.now vals.now }
+{
+    vals.done() >= 2
+        && vals.count() >= 2
+        && vals.value(0) == 0
+        && vals.value(1) & !arch.mask == 0
+        && arch.due.is_none()
+        && due_signal(job, arch).is_none()
+}

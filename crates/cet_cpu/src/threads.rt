@@ -7,7 +7,7 @@ ghost use Rattle.cet_isa.specs.declared.threads.End.{End};
 ghost use Rattle.cet_isa.specs.declared.threads.FaultName.{FaultName};
 ghost use Rattle.cet_page.specs.Faults.{Faults};
 ghost use Rattle.cet_page.specs.Within.{IsCore};
-ghost use Rattle.cet_page.specs.Core.{row_played, core_at, first_core, child_core, next_access, taken, recorded, fault_record};
+ghost use Rattle.cet_page.specs.Core.{row_played, core_by, noted_by, core_at, first_core, child_core, next_access, taken, recorded, fault_record};
 ghost use Rattle.cet_page.specs.Plays.{held_by};
 ghost use Rattle.cet_page.specs.Finish.{IsMade};
 ghost use Rattle.cet_page.specs.Entering.{AtGate, Enters};
@@ -17,12 +17,13 @@ ghost use Rattle.cet_cpu.specs.Code.{IsCode};
 ghost use Rattle.cet_cpu.specs.Cpu.{awaited, RefinesRow, CpuData, IsCpu, IsNext, KeepsCode};
 ghost use Rattle.cet_words.specs.Layout.{thread_region_size, thread_limit};
 
-use crate::fetches::Code;
+use crate::fetches::{Code, code_at};
 use crate::kernel::RowEnd;
-use crate::openings::opening;
+use crate::openings::{is_opened, opening};
 use crate::rows::row;
-use cet_isa::{Arch, End, Fault, R11, RAX, RCX, RSI, RSP, Record, What};
-use cet_page::{Mark, SYSCALL_LENGTH, Suspended, Vals};
+use cet_decode::Decoded;
+use cet_isa::{Arch, End, Fault, R11, RAX, RCX, RSI, RSP, Record, What, is_canonical};
+use cet_page::{Family, Mark, SYSCALL_LENGTH, Suspended, Vals, family_of};
 use cet_words::{
     Access, FIRST_REGION_END, FIRST_REGION_START, Job, THREAD_LIMIT, THREAD_REGION_SIZE, token,
 };
@@ -231,9 +232,16 @@ impl Cpu {
         ensures restore { (p : ℕ) → AtRestore job.now self.old.core p → Restores job.now self.old.core self.new.core p answer result }
         ensures gate { AtGate job.now self.old.core → Enters job.now self.old.core self.new.core answer result }
     {
-        let noted = self.accept_answer(job, answer);
-        self.await_access(job);
-        noted
+        match self.accept_answer(job, answer) {
+            Some(noted) => {
+                self.await_access(job);
+                Some(noted)
+            }
+            None => {
+                self.await_access(job);
+                None
+            }
+        }
     }
 
     /// Whether a thread is born where the next access has this answer.
@@ -244,7 +252,7 @@ impl Cpu {
         ensures born { result ≡ true → IsSome (taken job.now self.now.core answer).child }
         ensures none { result ≡ false → (taken job.now self.now.core answer).child ≡ None }
     {
-        match self.next {
+        match &self.next {
             Some((_, Mark::Bears(_))) => answer < THREAD_LIMIT,
             _ => false,
         }
@@ -295,31 +303,28 @@ impl Cpu {
         if self.next.is_some() || self.over.is_some() {
             return;
         }
-        if let Err(Suspended::Access(access, mark)) = self.row_so_far(job) {
+        match opening(job, &self.arch, &self.vals) {
+            Some(access) => self.next = Some((access, Mark::Plain)),
+            None => self.await_played(job),
+        }
+    }
+
+    /// The same, where the row must be played: a fault or a listed signal is due.
+    fn await_played(&mut self, job: &Job)
+        requires state { IsCore job.now self.old.core }
+        requires goes { self.old.core.over ≡ None }
+        requires none { self.old.next ≡ None }
+        requires code { KeepsCode job.now self.old }
+        ensures core { self.new.core ≡ self.old.core }
+        ensures state { IsCpu job.now self.new }
+    {
+        if let Err(Suspended::Access(access, mark)) = self.replay_row(job) {
             self.next = Some((access, mark));
         }
     }
 
-    /// What the thread's row comes to after the accesses so far. Where it is over, the state is the one after
-    /// it, but for the thread's number and the supervisor stack that it holds. The row isn't played where it
-    /// wants an access that it opens with.
-    fn row_so_far(&mut self, job: &Job) -> Result<RowEnd, Suspended>
-        requires count { self.old.core.arch.count < 2 ^ 32 - 1 }
-        requires made { IsMade self.old.core.arch.made }
-        requires number { self.old.core.arch.number < thread_limit }
-        requires code { KeepsCode job.now self.old }
-        ensures came { RefinesRow (row_played job.now self.old.core.arch self.old.core.vals) self.old.core.arch self.new.core.arch result }
-        ensures core { self.new.core ≡ record self.old.core { arch = self.new.core.arch } }
-        ensures waits { self.new.next ≡ self.old.next }
-        ensures code { IfSome self.new.code (IsCode job.now.image.segments self.old.core.arch.rip) }
-    {
-        match opening(job, &self.arch, &self.vals) {
-            Some(access) => Err(Suspended::Access(access, Mark::Plain)),
-            None => self.replay_row(job),
-        }
-    }
-
-    /// The same, by a play of the row from its start.
+    /// What the thread's row comes to after the accesses so far, by a play of the row from its start. Where it
+    /// is over, the state is the one after it, but for the thread's number and the supervisor stack that it holds.
     fn replay_row(&mut self, job: &Job) -> Result<RowEnd, Suspended>
         requires count { self.old.core.arch.count < 2 ^ 32 - 1 }
         requires made { IsMade self.old.core.arch.made }
@@ -352,20 +357,131 @@ impl Cpu {
         ensures code { KeepsCode job.now self.new }
     {
         let (access, mark) = self.next?;
-        self.arch.held = held_by(mark, answer, self.arch.held);
+        match mark {
+            Mark::Plain => {}
+            _ => self.arch.held = held_by(mark, answer, self.arch.held),
+        }
         self.vals.add(access, answer);
-        match self.row_so_far(job) {
+        match opening(job, &self.arch, &self.vals) {
+            Some(access) => {
+                self.next = Some((access, Mark::Plain));
+                None
+            }
+            None => self.go_on(job),
+        }
+    }
+
+    /// Goes on as far as the accesses so far lead: to the next one, or to the row's end.
+    fn go_on(&mut self, job: &Job) -> Option<Record>
+        requires count { self.old.core.arch.count < 2 ^ 32 - 1 }
+        requires made { IsMade self.old.core.arch.made }
+        requires number { self.old.core.arch.number < thread_limit }
+        requires going { self.old.core.over ≡ None }
+        requires code { KeepsCode job.now self.old }
+        ensures core { self.new.core ≡ core_by job.now self.old.core.arch self.old.core.arch.held self.old.core.vals (row_played job.now self.old.core.arch self.old.core.vals) }
+        ensures noted { result ≡ noted_by self.old.core.arch (row_played job.now self.old.core.arch self.old.core.vals) }
+        ensures waits { IfSome self.new.next (IsNext job.now self.new.core) }
+        ensures code { KeepsCode job.now self.new }
+    {
+        match self.carrier(job) {
+            Some(Family::Arithmetic) => self.carry_arithmetic(job),
+            Some(Family::Flow) => self.carry_flow(job),
+            _ => self.go_on_by_row(job),
+        }
+    }
+
+    /// The part of the machine that carries the instruction at RIP, where the row has come to one. Its code is read
+    /// where it isn't there yet.
+    #[inline(always)]
+    fn carrier(&mut self, job: &Job) -> Option<Family>
+    {
+        if !is_opened(job, &self.arch, &self.vals) || !is_canonical(self.arch.rip) {
+            return None;
+        }
+        if self.code.is_none() {
+            self.code = Some(code_at(job.image, self.arch.rip));
+        }
+        match &self.code {
+            Some(Code { decoded: Decoded::Ok { instr, len: _ }, fetched: _ }) => Some(family_of(instr)),
+            _ => None,
+        }
+    }
+
+    #[inline(never)]
+    fn carry_arithmetic(&mut self, job: &Job) -> Option<Record>
+    {
+        let Some(Code { decoded: Decoded::Ok { instr, len }, fetched: _ }) = &self.code else {
+            unreachable!()
+        };
+        let next = self.arch.rip.wrapping_add(u64::from(*len));
+        let (number, held) = (self.arch.number, self.arch.held);
+        self.arch.held = None;
+        let came = cet_alu::follow(&mut self.arch, instr, next, &mut self.vals.behind(2));
+        self.arch.number = number;
+        self.arch.held = held;
+        self.carried(job, &came)
+    }
+
+    #[inline(never)]
+    fn carry_flow(&mut self, job: &Job) -> Option<Record>
+    {
+        let Some(Code { decoded: Decoded::Ok { instr, len }, fetched: _ }) = &self.code else {
+            unreachable!()
+        };
+        let next = self.arch.rip.wrapping_add(u64::from(*len));
+        let (number, held) = (self.arch.number, self.arch.held);
+        self.arch.held = None;
+        let came = cet_flow::follow(&mut self.arch, instr, next, &mut self.vals.behind(2));
+        self.arch.number = number;
+        self.arch.held = held;
+        self.carried(job, &came)
+    }
+
+    #[inline(always)]
+    fn carried(&mut self, job: &Job, came: &Result<Record, Suspended>) -> Option<Record>
+    {
+        match came {
+            Ok(noted) => {
+                self.end_row(job);
+                Some(*noted)
+            }
+            Err(Suspended::Access(access, mark)) => {
+                self.next = Some((*access, *mark));
+                None
+            }
+            Err(Suspended::Fault(fault)) => Some(self.fault(job, *fault)),
+        }
+    }
+
+    /// A fault is due, and the row ends with its record.
+    fn fault(&mut self, job: &Job, fault: Fault) -> Record
+    {
+        let noted = fault_record(&self.arch, &fault);
+        self.arch.due = Some(fault);
+        self.arch.count += 1;
+        self.end_row(job);
+        noted
+    }
+
+    /// The same, by a play of the row from its start.
+    #[inline(never)]
+    fn go_on_by_row(&mut self, job: &Job) -> Option<Record>
+        requires count { self.old.core.arch.count < 2 ^ 32 - 1 }
+        requires made { IsMade self.old.core.arch.made }
+        requires number { self.old.core.arch.number < thread_limit }
+        requires going { self.old.core.over ≡ None }
+        requires code { KeepsCode job.now self.old }
+        ensures core { self.new.core ≡ core_by job.now self.old.core.arch self.old.core.arch.held self.old.core.vals (row_played job.now self.old.core.arch self.old.core.vals) }
+        ensures noted { result ≡ noted_by self.old.core.arch (row_played job.now self.old.core.arch self.old.core.vals) }
+        ensures waits { IfSome self.new.next (IsNext job.now self.new.core) }
+        ensures code { KeepsCode job.now self.new }
+    {
+        match self.replay_row(job) {
             Err(Suspended::Access(access, mark)) => {
                 self.next = Some((access, mark));
                 None
             }
-            Err(Suspended::Fault(fault)) => {
-                let noted = fault_record(&self.arch, &fault);
-                self.arch.due = Some(fault);
-                self.arch.count += 1;
-                self.end_row(job);
-                Some(noted)
-            }
+            Err(Suspended::Fault(fault)) => Some(self.fault(job, fault)),
             Ok(RowEnd::Noted(noted)) => {
                 self.end_row(job);
                 Some(noted)

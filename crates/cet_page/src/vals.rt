@@ -1,6 +1,6 @@
 //! The values read so far in a row.
 
-ghost use Rattle.std.specs.Prelude.{◌≡◌, ◌<◌, length, slice_index};
+ghost use Rattle.std.specs.Prelude.{◌≡◌, ◌-◌, ◌<◌, ◌≤◌, drop, length, slice_index};
 ghost use Rattle.cet_page.specs.ValsData.{vals_after, no_vals, most_values, most_accesses};
 
 use crate::cursors::Cursor;
@@ -86,6 +86,19 @@ impl Vals {
         ensures { result ≡ slice_index self.now.values at }
     {
         self.kept[at as usize]
+    }
+
+    /// The place behind the first accesses, so many, each of which kept its value.
+    pub fn behind(&self, count: u32) -> Cursor<'_>
+        requires accesses { count ≤ self.now.accesses }
+        requires values { count ≤ length self.now.values }
+        ensures left { result.left ≡ self.now.accesses - count }
+        ensures rest { result.rest.now ≡ drop count self.now.values }
+    {
+        Cursor {
+            left: self.accesses - count,
+            rest: &self.kept[count as usize..self.used],
+        }
     }
 
     /// The place before the first access.

@@ -136,11 +136,17 @@ impl Guests {
         ensures bore { OnOk result (BoreAt job.now self.old.all.items self.new.all.items at value) }
         ensures guests { OnOk result (AreGuests job.now self.new.all.items self.new.live.items) }
     {
-        let parent = &self.all[at];
-        if !parent.bears(job, value) {
-            return Ok(());
+        if self.all[at].bears(job, value) {
+            self.bear_child(alloc, job, at, value)
+        } else {
+            Ok(())
         }
-        match parent.child(job, value) {
+    }
+
+    #[inline(never)]
+    fn bear_child(&mut self, alloc: Global, job: &Job, at: usize, value: u64) -> Result<(), NoMemory>
+    {
+        match self.all[at].child(job, value) {
             Some(cpu) => self.bear(alloc, job, cpu),
             None => Ok(()),
         }

@@ -56,7 +56,7 @@ pub fn follow(
 /// instruction is that after the instruction at RIP.
 #[tactic(auto, using(cet_page::proofs::PlayLaws::next_is, cet_page::proofs::PlayLaws::next_ranges, cet_page::proofs::FaultLaws::shadow_stacks_clean))]
 pub fn next(job: &Job, arch: &Arch, vals: &Vals, instr: &Instr) -> Next
-    requires { arch.old.count < 2 ^ 32 - 1 }
+    requires { arch.now.count < 2 ^ 32 - 1 }
     ensures next { result ≡ next_of (play (shadow_stacks arch.now instr.now (next_address job.now arch.now)) vals.now.accesses vals.now.values) }
     ensures range { NextInRange result }
 

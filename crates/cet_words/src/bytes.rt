@@ -8,7 +8,7 @@ use crate::entries::segment_of;
 use crate::images::{Image, Segment};
 
 /// The byte at an address of one of the segment's pages: 0 outside its file bytes.
-pub(crate) fn segment_byte(segment: &Segment, addr: u64) -> u8
+pub fn segment_byte(segment: &Segment, addr: u64) -> u8
     ensures { result ≡ segment_byte segment.now addr }
 {
     if addr < segment.start {

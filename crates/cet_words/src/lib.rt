@@ -15,7 +15,7 @@ mod places;
 mod start;
 
 pub use accesses::{Access, Perform};
-pub use bytes::code_byte;
+pub use bytes::{code_byte, segment_byte};
 pub use entries::{data_entry, present, segment_at, shadow_entry};
 pub use images::{Image, Job, Segment, Segments, Signal, Signals};
 pub use lists::{Bytes, Items, NoMemory, Words};

@@ -8,13 +8,13 @@ loop-at-preserved c =
     let place = c.in-Some.ensures.range in
     record {
       bytes = fetch_more c.args.image.now.segments c.args.addr c.loop-at.at c.in-Some.byte c.loop-at.buffer (let e = c.loop-at.auto.buffer in let l = c.loop-at-test.true in
-          omega arith) (sym c.code_byte.ensures.byte ∙ c.in-Some.is) c.loop-at.invariant.bytes;
+          omega arith) (sym c.byte_of.ensures.byte ∙ c.in-Some.is) c.loop-at.invariant.bytes;
       room = omega arith;
     }
 
 pub returns-in_default-clause-bytes : goal.returns-in_default-clause-bytes
 returns-in_default-clause-bytes c =
-    fetch_none c.args.image.now.segments c.args.addr c.loop-at.at c.loop-at.buffer (let e = c.loop-at.auto.buffer in let l = c.loop-at-test.true in omega arith) (sym c.code_byte.ensures.byte ∙ c.in_default.is) c.loop-at.invariant.bytes
+    fetch_none c.args.image.now.segments c.args.addr c.loop-at.at c.loop-at.buffer (let e = c.loop-at.auto.buffer in let l = c.loop-at-test.true in omega arith) (sym c.byte_of.ensures.byte ∙ c.in_default.is) c.loop-at.invariant.bytes
     ∙ ap (fetchable c.args.image.now.segments c.args.addr) c.loop-at.auto.buffer
 
 pub returns-clause-bytes : goal.returns-clause-bytes
