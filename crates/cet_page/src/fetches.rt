@@ -64,7 +64,7 @@ fn byte_of(image: &Image, page: Option<&Segment>, addr: u64) -> Option<u8>
 }
 
 fn fetch_each(image: &Image, page: Option<&Segment>, addr: u64, buffer: &mut [u8]) -> usize
-    requires { length buffer.old ≤ 15 }
+    requires length { length buffer.old ≤ 15 }
     requires page { IfSome page (λ segment. HoldsCode image.now.segments segment.now addr (length buffer.old)) }
     ensures bytes { take result buffer.new ≡ fetchable image.now.segments addr (length buffer.old) }
     ensures within { result ≤ length buffer.old }
