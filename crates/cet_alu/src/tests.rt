@@ -6,7 +6,7 @@ ghost use Rattle.std.specs.Prelude.{◌≡◌, ◌-◌, ◌^◌, ◌<◌, ◌≤
 use super::*;
 use cet_isa::Size::Qword;
 use cet_isa::{Arch, Base, Fault, FaultName, Instr, Mem, Operand, Reg};
-use cet_page::{Cursor, Mark, Next, Suspended, Vals, with_register};
+use cet_page::{Cursor, Mark, Next, Suspended, Vals, set_register};
 use cet_words::{Access, Bytes, Image, Job, NoMemory, Segment, Segments};
 use std::alloc::Global;
 use std::test::Fail;
@@ -42,8 +42,8 @@ fn thread(rax: u64, rcx: u64, flags: u64) -> Arch
         due: None,
         held: None,
     };
-    arch.regs = with_register(&arch, Reg::Rax, rax);
-    arch.regs = with_register(&arch, Reg::Rcx, rcx);
+    set_register(&mut arch, Reg::Rax, rax);
+    set_register(&mut arch, Reg::Rcx, rcx);
     arch
 }
 
@@ -119,7 +119,7 @@ fn accesses_and_faults(rt: HostRuntime) {
     for (instr, rcx, rest, stop) in rows() {
         let left = if rest.is_empty() { 0 } else { 1 };
         let at = &mut Cursor { left, rest };
-        let came = follow(&thread(5, rcx, 0), &instr, 0x40_1007, at);
+        let came = follow(&mut thread(5, rcx, 0), &instr, 0x40_1007, at);
         assert_eq!(rt; came, Err(stop), "{instr:?} {rcx:x}");
     }
 }
@@ -174,7 +174,9 @@ fn next_of_a_load(rt: HostRuntime) -> Result<(), Fail> {
     match next(&job, &arch, &vals, &load) {
         Next::Done(after, noted) => {
             assert_eq!(rt; (after.rip, after.flags), (0x40_1003, CF | 2));
-            assert_eq!(rt; after.regs, with_register(&arch, Reg::Rax, 0x1234));
+            let mut loaded = arch;
+            set_register(&mut loaded, Reg::Rax, 0x1234);
+            assert_eq!(rt; after.regs, loaded.regs);
             let noted = noted.expect(&rt, "no record");
             assert_eq!(rt; (noted.a, noted.b), (0x1234, CF | 2));
         }

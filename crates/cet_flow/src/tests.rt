@@ -52,6 +52,15 @@ fn thread() -> Arch
     }
 }
 
+/// An instruction of 3 bytes with these answers, after so many accesses: the state and the record that it leaves.
+fn after(arch: &Arch, instr: &Instr, left: u32, rest: &[u64]) -> Result<(Arch, Record), Suspended>
+    requires { arch.now.count < 2 ^ 32 - 1 }
+{
+    let mut after = *arch;
+    let noted = follow(&mut after, instr, 0x40_1003, &mut Cursor { left, rest })?;
+    Ok((after, noted))
+}
+
 /// The accesses of an instruction of 3 bytes that is given these answers, one after another, and what it
 /// comes to.
 fn accesses(
@@ -67,7 +76,7 @@ fn accesses(
     let mut kept = 0;
     for access in wanted {
         let rest = answers.get(..kept).expect(rt, "too few answers");
-        let stop = follow(arch, instr, 0x40_1003, &mut Cursor { left, rest });
+        let stop = after(arch, instr, left, rest);
         assert_eq!(rt;
             stop.err(),
             Some(Suspended::Access(*access, Mark::Plain)),
@@ -78,15 +87,7 @@ fn accesses(
             kept = kept.checked_add(1).expect(rt, "too many answers");
         }
     }
-    follow(
-        arch,
-        instr,
-        0x40_1003,
-        &mut Cursor {
-            left,
-            rest: answers,
-        },
-    )
+    after(arch, instr, left, answers)
 }
 
 /// A record with no error code.

@@ -305,7 +305,9 @@ fn raises() -> [Row; 10] {
 fn after(arch: &Arch, instr: &Instr, left: u32, rest: &[u64]) -> Result<(Arch, Record), Suspended>
     requires { arch.now.count < 2 ^ 32 - 1 }
 {
-    follow(arch, instr, 0x40_1004, &mut Cursor { left, rest })
+    let mut after = *arch;
+    let noted = follow(&mut after, instr, 0x40_1004, &mut Cursor { left, rest })?;
+    Ok((after, noted))
 }
 
 /// Gives an instruction its answers one after another.

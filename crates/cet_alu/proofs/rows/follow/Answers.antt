@@ -37,4 +37,4 @@ returns-in_default c =
       | instr.Clc ↦ λ e. absurd (h.not-Clc e)
       | _ ↦ λ e. refl
     ] refl in
-    rw c.invalid_opcode.ensures own
+    rw c.invalid_opcode.ensures (refl, own)
