@@ -1,8 +1,10 @@
 //! The words of one range of addresses, held from its first word up to the last that was stored. Those behind are 0.
 
-ghost use Rattle.std.specs.Prelude.{◌≡◌, ◌<◌, ◌≤◌, slice_index};
+ghost use Rattle.std.specs.Prelude.{◌≡◌, ◌-◌, ◌<◌, ◌≤◌, OnOk, slice_index};
 ghost use Rattle.std.specs.Vec.{vec_capacity, vec_len};
-ghost use Rattle.cet_words.specs.Fill.{SameWords, WordSet};
+ghost use Rattle.cet_words.specs.Fill.{FilledFrom, SameWords, WordSet};
+
+use crate::lists::NoMemory;
 
 /// The word at a place of the range.
 pub(crate) fn held_word(words: &[u64], at: usize) -> u64
@@ -33,4 +35,26 @@ pub(crate) fn set_held(words: &mut Vec<u64>, at: usize, value: u64)
 {
     hold(words, at + 1);
     words[at] = value;
+}
+
+/// Stores 0 from a place of the range up to another. The words that are not held are 0 as they are.
+pub(crate) fn clear_held(words: &mut Vec<u64>, low: usize, high: usize)
+    ensures clear { FilledFrom low high (λ w. 0) words.old.items words.new.items }
+    ensures room { vec_capacity words.old ≤ vec_capacity words.new }
+{
+    let end = high.min(words.len());
+    for at in low.min(end)..end {
+        words[at] = 0;
+    }
+}
+
+/// Appends all words of a range, so that there are `end` words: those that are held, and 0 for the others.
+pub(crate) fn append_held(all: &mut Vec<u64>, words: &[u64], end: usize) -> Result<(), NoMemory>
+    requires { vec_len all.old ≤ end }
+    ensures count { OnOk result (vec_len all.new ≡ end) }
+    ensures words { OnOk result (FilledFrom (vec_len all.old) end (λ w. slice_index words.now (w - vec_len all.old)) all.old.items all.new.items) }
+{
+    all.extend_from_slice(words)?;
+    all.resize(end, 0)?;
+    Ok(())
 }

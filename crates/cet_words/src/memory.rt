@@ -3,11 +3,12 @@
 ghost use Rattle.std.specs.Prelude.{◌≡◌, ◌-◌, ◌<◌, ◌≤◌, ℕ, List, [], IfOk, length, slice_index, slice_set};
 ghost use Rattle.std.specs.Vec.{vec_capacity};
 ghost use Rattle.cet_words.specs.Layout.{first_stack_word, first_shadow_word, first_kernel_word, word_count};
+ghost use Rattle.cet_words.specs.Fill.{FilledFrom};
 ghost use Rattle.cet_words.specs.Held.{held_words};
 ghost use Rattle.cet_words.specs.Start.{IsStart};
 
 use crate::accesses::{Access, Perform};
-use crate::held::{held_word, set_held};
+use crate::held::{append_held, clear_held, held_word, set_held};
 use crate::images::Image;
 use crate::lists::NoMemory;
 use crate::places::{
@@ -49,6 +50,16 @@ fn room(alloc: Global, count: u32) -> Result<Vec<u64>, NoMemory>
     Ok(Vec::with_capacity(alloc, count as usize)?)
 }
 
+/// Has the words of a range, which begins at `first`, be 0 from the number `low` up to `high`.
+fn clear_range(words: &mut Vec<u64>, first: u32, low: u32, high: u32)
+    ensures clear { FilledFrom (low - first) (high - first) (λ w. 0) words.old.items words.new.items }
+    ensures room { vec_capacity words.old ≤ vec_capacity words.new }
+{
+    let from = low.saturating_sub(first);
+    let to = high.saturating_sub(first);
+    clear_held(words, from as usize, to as usize);
+}
+
 impl Plain {
     /// The words at the start: the image's bytes, the kernel's words and the entries of the pages that
     /// are present. It takes room for all words, about 13 MB.
@@ -75,6 +86,41 @@ impl Plain {
     {
         let _image = &self.image;
         WORD_COUNT
+    }
+
+    /// All words, in the order of their numbers.
+    pub fn to_words(&self, alloc: Global) -> Result<Vec<u64>, NoMemory>
+        ensures { IfOk result (λ words. words.items ≡ self.now) }
+    {
+        let mut words = room(alloc, WORD_COUNT)?;
+        append_held(&mut words, &self.image, FIRST_STACK_WORD as usize)?;
+        append_held(&mut words, &self.stack, FIRST_SHADOW_WORD as usize)?;
+        append_held(&mut words, &self.shadow, FIRST_KERNEL_WORD as usize)?;
+        append_held(&mut words, &self.kernel, WORD_COUNT as usize)?;
+        Ok(words)
+    }
+
+    /// Has a word be this value. Where it is so already nothing is stored, so a word that is not held
+    /// costs nothing at 0.
+    pub fn put(&mut self, word: u32, value: u64)
+        requires { word < word_count }
+        ensures { self.new ≡ slice_set self.old word value }
+    {
+        if self.get(word) != value {
+            self.set(word, value);
+        }
+    }
+
+    /// Has the words from `low` up to `high` be 0. Those that are not held cost nothing.
+    pub fn clear(&mut self, low: u32, high: u32)
+        requires { high ≤ word_count }
+        ensures words { FilledFrom low high (λ w. 0) self.old self.new }
+        ensures count { length self.new ≡ word_count }
+    {
+        clear_range(&mut self.image, 0, low, high);
+        clear_range(&mut self.stack, FIRST_STACK_WORD, low, high);
+        clear_range(&mut self.shadow, FIRST_SHADOW_WORD, low, high);
+        clear_range(&mut self.kernel, FIRST_KERNEL_WORD, low, high);
     }
 
     /// The word of a number.

@@ -80,6 +80,10 @@ fn starts_exit_seven(rt: HostRuntime) -> Result<(), Fail> {
     expect_answer(&rt, words, Access::Load(1_607_167), 0xffff_8000_0000_2ff8);
     expect_answer(&rt, words, Access::Load(1_614_335), 0xffff_8000_0001_0ff8);
     expect_entries(&rt, words);
+    assert_eq!(rt;
+        words.to_words(rt.alloc())?.get(512),
+        Some(&0x003c_b800_0000_07bf)
+    );
     Ok(())
 }
 
