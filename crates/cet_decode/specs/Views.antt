@@ -27,7 +27,8 @@ use Rattle.cet_decode.specs.declared.reading.Miss as miss
 use Rattle.cet_decode.specs.declared.reading.Miss.TheVariants as misses
 use Rattle.cet_isa.specs.Form.{Pattern, Wide, Rex, Imm, Amount, Kind, Form}
 use Rattle.cet_isa.specs.Form as table
-use Rattle.cet_isa.specs.Meaning.{Fields}
+use Rattle.cet_isa.specs.declared.instructions.Instr.{Instr}
+use Rattle.cet_isa.specs.Meaning.{Fields, operand_of, instr_of}
 use Rattle.cet_isa.specs.Reader.{Miss, Ends, Differs}
 
 abbrev pub pattern_view : pattern.Pattern → Pattern
@@ -138,7 +139,11 @@ form_view x = record {
 
 -- the fields with the immediate's bytes
 abbrev pub fields_view : Parts → List ℕ → Fields
-fields_view x imm = record { rex = x.rex; opcode = x.opcode; modrm = x.modrm; rm = x.rm; imm = imm }
+fields_view x imm = record { rex = x.rex; opcode = x.opcode; modrm = x.modrm; rm = operand_of x.rex x.modrm x.sib x.disp; imm = imm }
+
+-- the instruction of a row that was found, and the bytes behind it
+abbrev pub found_view : kind.Kind → Parts → List ℕ → List ℕ → Instr × List ℕ
+found_view k x imm rest = (instr_of (kind_view k) (fields_view x imm), rest)
 
 abbrev pub miss_view : miss.Miss → Miss
 miss_view misses.Ends = Ends

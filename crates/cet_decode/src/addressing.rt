@@ -1,6 +1,6 @@
 //! ModRM, SIB and displacement (Intel SDM volume 2, chapter 2).
 
-ghost use Rattle.std.specs.Prelude.{◌≡◌, ◌<◌, pos};
+ghost use Rattle.std.specs.Prelude.{◌≡◌, ◌<◌};
 ghost use Rattle.cet_isa.specs.Meaning.{sib_len, base_field, lacks_base, disp_len, base_of, mem_of, operand_of};
 
 use cet_isa::{Base, Mem, Operand, Reg};
@@ -75,20 +75,6 @@ fn mem(rex: u8, modrm: u8, sib: u8, disp: i32) -> Mem
             disp,
         }
     }
-}
-
-/// What ModRM 0 names: the memory at rax or r8. A row without ModRM counts as one with ModRM 0.
-#[inline(always)]
-pub fn operand_at_zero(rex: u8) -> Operand
-    ensures { result ≡ operand_of rex 0 0 (pos 0) }
-{
-    let base = if rex % 2 == 1 { Reg::R8 } else { Reg::Rax };
-    Operand::Mem(Mem {
-        base: Base::Reg(base),
-        index: None,
-        scale: 1,
-        disp: 0,
-    })
 }
 
 /// What mod and rm name.

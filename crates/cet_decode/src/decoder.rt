@@ -10,8 +10,8 @@ ghost use Rattle.cet_decode.specs.Views.{miss_view};
 use crate::forms::FORMS;
 use crate::index::{read_apart, row_of};
 use crate::leads::lead_of;
-use crate::meaning::instr;
-use crate::reading::{Miss, fields_behind};
+use crate::meaning::put_instr;
+use crate::reading::{Miss, found_behind};
 use cet_isa::Instr;
 
 /// What stands at the front of some bytes.
@@ -38,40 +38,40 @@ fn missed(miss: Miss) -> Decoded
 /// What has more than one prefix, or ends before its opcode.
 #[inline(never)]
 #[tactic(auto, unfolding(cet_isa::specs::Reading::decoded))]
-fn answer_apart(bytes: &[u8]) -> Decoded
-    ensures reads { decoding result ≡ decoded bytes.now }
-    ensures len { LenAtMost 12 result }
+fn answer_apart(bytes: &[u8], out: &mut Decoded)
+    ensures reads { decoding out.new ≡ decoded bytes.now }
+    ensures len { LenAtMost 12 out.new }
 {
     match read_apart(bytes) {
-        Ok((instr, rest)) => Decoded::Ok {
-            instr,
-            len: (bytes.len() - rest.len()) as u8,
-        },
-        Err(miss) => missed(miss),
+        Ok(found) => {
+            let len = (bytes.len() - found.rest.len()) as u8;
+            put_instr(found.kind, found.parts, found.imm, len, out);
+        }
+        Err(miss) => *out = missed(miss),
     }
 }
 
-// One function, since each that hands an instruction on copies it; it stands apart in the program, so that it writes
-// its answer in place.
+// It writes its answer where the caller wants it, since an answer that is handed on is copied each time; and it stands
+// apart in the program, so that few values are kept on the way to it.
 #[inline(never)]
 #[tactic(auto, unfolding(cet_isa::specs::Reading::decoded))]
-fn answer(bytes: &[u8]) -> Decoded
-    ensures reads { decoding result ≡ decoded bytes.now }
-    ensures len { LenAtMost 12 result }
+fn answer(bytes: &[u8], out: &mut Decoded)
+    ensures reads { decoding out.new ≡ decoded bytes.now }
+    ensures len { LenAtMost 12 out.new }
 {
     let Some(lead) = lead_of(bytes) else {
-        return answer_apart(bytes);
+        return answer_apart(bytes, out);
     };
     let Some(form) = row_of(&FORMS, &lead) else {
-        return Decoded::Unknown;
+        *out = Decoded::Unknown;
+        return;
     };
-    let (parts, imm, rest) = match fields_behind(form, lead.rex, lead.opcode, lead.rest) {
-        Ok(fields) => fields,
-        Err(miss) => return missed(miss),
-    };
-    Decoded::Ok {
-        instr: instr(&form.kind, &parts, imm),
-        len: (bytes.len() - rest.len()) as u8,
+    match found_behind(form, lead.rex, lead.opcode, lead.rest) {
+        Ok(found) => {
+            let len = (bytes.len() - found.rest.len()) as u8;
+            put_instr(found.kind, found.parts, found.imm, len, out);
+        }
+        Err(miss) => *out = missed(miss),
     }
 }
 
@@ -87,7 +87,9 @@ pub fn decode(bytes: &[u8]) -> Decoded
     ensures part { result ≡ Decoded.Short → length bytes.now < 12 }
     ensures longest { (spelling : List ℕ) (instr : Instr) → Spells spelling instr → length spelling ≤ 12 }
 {
-    answer(bytes)
+    let mut answered = Decoded::Unknown;
+    answer(bytes, &mut answered);
+    answered
 }
 
 /// The length of the instruction at the front of the bytes, 0 where there is none.

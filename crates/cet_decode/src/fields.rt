@@ -5,16 +5,26 @@ ghost use Rattle.std.specs.Int.{from_le_bytes, w16, w64};
 ghost use Rattle.cet_isa.specs.Meaning.{signed_of, size_in, reg_in, opcode_reg, opcode_op, digit_op, opcode_cond, reg_of, mem_in, count_of};
 ghost use Rattle.cet_decode.specs.Views.{amount_view, fields_view};
 
+use crate::addressing::operand;
 use crate::kinds::Amount;
 use cet_isa::{AluOp, Base, Cond, Count, Mem, Operand, Reg, Size};
 
-/// The fields before the immediate: REX, opcode and ModRM (0 where there is none), what mod and rm name.
+/// The fields before the immediate: REX, opcode, ModRM, SIB and displacement, 0 where there is none. They fit in a
+/// register; what mod and rm name is made of them only where it is wanted.
 #[derive(Clone, Copy)]
 pub struct Parts {
     pub rex: u8,
     pub opcode: u8,
     pub modrm: u8,
-    pub rm: Operand,
+    pub sib: u8,
+    pub disp: i32,
+}
+
+/// What mod and rm name.
+pub fn rm(x: Parts) -> Operand
+    ensures { result ≡ (fields_view x []).rm }
+{
+    operand(x.rex, x.modrm, x.sib, x.disp)
 }
 
 /// The byte at `at`, 0 past the end.
@@ -59,8 +69,8 @@ pub fn wide(bytes: &[u8]) -> u64
 }
 
 /// The operand size by REX.W.
-pub fn size(x: &Parts) -> Size
-    ensures { result ≡ size_in (fields_view x.now []) }
+pub fn size(x: Parts) -> Size
+    ensures { result ≡ size_in (fields_view x []) }
 {
     if x.rex / 8 % 2 == 1 {
         Size::Qword
@@ -70,36 +80,36 @@ pub fn size(x: &Parts) -> Size
 }
 
 /// The register of ModRM's reg field.
-pub fn reg_in_field(x: &Parts) -> Reg
-    ensures { result ≡ reg_in (fields_view x.now []) }
+pub fn reg_in_field(x: Parts) -> Reg
+    ensures { result ≡ reg_in (fields_view x []) }
 {
     Reg::of(x.modrm / 8 % 8 + 8 * (x.rex / 4 % 2))
 }
 
 /// The register in the opcode.
-pub fn reg_in_opcode(x: &Parts) -> Reg
-    ensures { result ≡ opcode_reg (fields_view x.now []) }
+pub fn reg_in_opcode(x: Parts) -> Reg
+    ensures { result ≡ opcode_reg (fields_view x []) }
 {
     Reg::of(x.opcode % 8 + 8 * (x.rex % 2))
 }
 
 /// The operation in the opcode.
-pub fn op_in_opcode(x: &Parts) -> AluOp
-    ensures { result ≡ opcode_op (fields_view x.now []) }
+pub fn op_in_opcode(x: Parts) -> AluOp
+    ensures { result ≡ opcode_op (fields_view x []) }
 {
     AluOp::of(x.opcode / 8 % 8)
 }
 
 /// The operation in ModRM's reg field.
-pub fn op_in_digit(x: &Parts) -> AluOp
-    ensures { result ≡ digit_op (fields_view x.now []) }
+pub fn op_in_digit(x: Parts) -> AluOp
+    ensures { result ≡ digit_op (fields_view x []) }
 {
     AluOp::of(x.modrm / 8 % 8)
 }
 
 /// The condition in the opcode.
-pub fn cond_in_opcode(x: &Parts) -> Cond
-    ensures { result ≡ opcode_cond (fields_view x.now []) }
+pub fn cond_in_opcode(x: Parts) -> Cond
+    ensures { result ≡ opcode_cond (fields_view x []) }
 {
     Cond::of(x.opcode % 16)
 }

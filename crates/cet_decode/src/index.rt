@@ -1,21 +1,20 @@
 //! Reading by the maps of opcodes, so that only the rows that may begin so are tried.
 //!
-//! The way of most instructions ends at the row, which is small: an instruction that is handed on is copied each time,
-//! which would cost more than the decoding itself.
+//! Rows and fields are handed on, and no instruction, which would be copied each time: that would cost more than the
+//! decoding itself.
 
 ghost use Rattle.std.specs.Prelude.{◌≡◌, Some, slice_get};
 ghost use Rattle.std.specs.Option.{option_copied};
 ghost use Rattle.cet_isa.specs.Forms.{forms};
 ghost use Rattle.cet_isa.specs.Reading.{any_at};
-ghost use Rattle.cet_decode.specs.Views.{Gives};
+ghost use Rattle.cet_decode.specs.Views.{found_view, Gives};
 ghost use Rattle.cet_decode.specs.Index.{maybe_row_at, some_at, picks_by};
 ghost use Rattle.cet_decode.specs.Lead.{taker, chosen, key_of, mapped, mapped_by, prefixed_by, numbers_by};
 
 use crate::forms::{FORMS, Form};
 use crate::leads::{Lead, has_long_prefix};
 use crate::maps::{LONG_PREFIXED, ONE_BYTE, PICKS, PREFIXED, PREFIXED_TWO_BYTE, TWO_BYTE};
-use crate::reading::{Miss, read_listed, read_row, takes};
-use cet_isa::Instr;
+use crate::reading::{Found, Miss, read_listed, read_row, takes};
 
 /// The row with this number, where it takes REX and the bytes behind the opcode.
 #[inline(always)]
@@ -114,13 +113,28 @@ fn key_of(prefix: u8, opcode: u8) -> u16
 }
 
 /// The row that takes what stands behind a prefix, REX and 0f, by the prefix and the opcode. It stands apart in the
-/// program, since few instructions have a prefix.
+/// program, since few instructions have a prefix, and takes the parts of a lead one by one, so that these stay in
+/// registers.
 #[inline(never)]
-fn row_prefixed<'r>(rows: &'r [Form], prefix: u8, lead: Lead<'_>) -> Option<&'r Form>
-    ensures { option_copied result ≡ chosen rows.now (prefixed_by lead.entry.escaped PREFIXED.rows PREFIXED_TWO_BYTE.rows PICKS (key_of prefix lead.entry.opcode)) lead.entry.rex lead.entry.rest.now }
+fn row_prefixed<'r>(
+    rows: &'r [Form],
+    prefix: u8,
+    rex: u8,
+    escaped: bool,
+    opcode: u8,
+    rest: &[u8],
+) -> Option<&'r Form>
+    ensures { option_copied result ≡ chosen rows.now (prefixed_by escaped PREFIXED.rows PREFIXED_TWO_BYTE.rows PICKS (key_of prefix opcode)) rex rest.now }
 {
-    let key = key_of(prefix, lead.opcode);
-    if lead.escaped {
+    let lead = Lead {
+        prefix: Some(prefix),
+        rex,
+        escaped,
+        opcode,
+        rest,
+    };
+    let key = key_of(prefix, opcode);
+    if escaped {
         row_found(rows, &PICKS, PREFIXED_TWO_BYTE.find(key), &lead)
     } else {
         row_found(rows, &PICKS, PREFIXED.find(key), &lead)
@@ -133,13 +147,19 @@ pub fn row_of<'r>(rows: &'r [Form], lead: &Lead<'_>) -> Option<&'r Form>
     ensures { option_copied result ≡ chosen rows.now (numbers_by lead.now.prefix lead.now.escaped lead.now.opcode) lead.now.rex lead.now.rest.now }
 {
     match lead.prefix {
-        Some(prefix) => row_prefixed(rows, prefix, *lead),
+        Some(prefix) => {
+            row_prefixed(rows, prefix, lead.rex, lead.escaped, lead.opcode, lead.rest)
+        }
         None => row_plain(rows, lead),
     }
 }
 
-fn read_numbered<'a>(rows: &[Form], number: u8, bytes: &'a [u8]) -> Result<(Instr, &'a [u8]), Miss>
-    ensures { Gives (λ x. (x.0, x.1.now)) result (maybe_row_at (slice_get rows.now number) bytes.now) }
+fn read_numbered<'r, 'a>(
+    rows: &'r [Form],
+    number: u8,
+    bytes: &'a [u8],
+) -> Result<Found<'r, 'a>, Miss>
+    ensures { Gives (λ x. found_view x.kind.now x.parts x.imm.now x.rest.now) result (maybe_row_at (slice_get rows.now number) bytes.now) }
 {
     match rows.get(usize::from(number)) {
         Some(form) => read_row(form, bytes),
@@ -148,8 +168,12 @@ fn read_numbered<'a>(rows: &[Form], number: u8, bytes: &'a [u8]) -> Result<(Inst
 }
 
 #[tactic(auto, unfolding(crate::specs::Index::some_at))]
-fn read_some<'a>(rows: &[Form], numbers: &[u8], bytes: &'a [u8]) -> Result<(Instr, &'a [u8]), Miss>
-    ensures { Gives (λ x. (x.0, x.1.now)) result (some_at rows.now numbers.now bytes.now) }
+fn read_some<'r, 'a>(
+    rows: &'r [Form],
+    numbers: &[u8],
+    bytes: &'a [u8],
+) -> Result<Found<'r, 'a>, Miss>
+    ensures { Gives (λ x. found_view x.kind.now x.parts x.imm.now x.rest.now) result (some_at rows.now numbers.now bytes.now) }
 {
     let mut miss = Miss::Differs;
     for number in numbers {
@@ -163,8 +187,8 @@ fn read_some<'a>(rows: &[Form], numbers: &[u8], bytes: &'a [u8]) -> Result<(Inst
 }
 
 /// An instruction by the table, where more than one prefix stands before the opcode, or the bytes end before it.
-pub fn read_apart(bytes: &[u8]) -> Result<(Instr, &[u8]), Miss>
-    ensures { Gives (λ x. (x.0, x.1.now)) result (any_at forms bytes.now) }
+pub fn read_apart(bytes: &[u8]) -> Result<Found<'static, '_>, Miss>
+    ensures { Gives (λ x. found_view x.kind.now x.parts x.imm.now x.rest.now) result (any_at forms bytes.now) }
 {
     if has_long_prefix(bytes) {
         read_some(&FORMS, &LONG_PREFIXED, bytes)

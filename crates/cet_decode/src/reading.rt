@@ -2,23 +2,30 @@
 
 ghost use Rattle.std.specs.Prelude.{◌≡◌, map};
 ghost use Rattle.cet_isa.specs.Forms.{forms};
-ghost use Rattle.cet_isa.specs.Meaning.{instr_of};
-ghost use Rattle.cet_isa.specs.Spells.{has, allows, rex_pattern, places, imm_len};
+ghost use Rattle.cet_isa.specs.Meaning.{operand_of};
+ghost use Rattle.cet_isa.specs.Spells.{has, allows, rex_pattern, places, imm_len, rex_in, modrm_in};
 ghost use Rattle.cet_isa.specs.Reading.{byte_at, cells_at, bytes_at, operand_at, read_at, form_at, row_at, any_at};
-ghost use Rattle.cet_decode.specs.Views.{pattern_view, place_view, wide_view, rex_view, imm_view, kind_view, form_view, fields_view, Gives};
+ghost use Rattle.cet_decode.specs.Views.{pattern_view, place_view, wide_view, rex_view, imm_view, kind_view, form_view, found_view, Gives};
 ghost use Rattle.cet_decode.specs.Lead.{rex_at, operand_behind, opcode_from, row_behind, next_of, takes_next, takes};
 
-use crate::addressing::{disp_count, operand, operand_at_zero, sib_count};
+use crate::addressing::{disp_count, sib_count};
 use crate::fields::{Parts, byte, signed};
-use crate::forms::{FORMS, Form, Imm, Pattern, Rex, Wide};
-use crate::meaning::instr;
-use cet_isa::{Instr, Operand};
+use crate::forms::{FORMS, Form, Imm, Kind, Pattern, Rex, Wide};
 
 /// Why nothing was read: the bytes end too early, or they differ from what was to be read.
 #[derive(Clone, Copy, Drop)]
 pub enum Miss {
     Ends,
     Differs,
+}
+
+/// What a row reads: the kind of its instruction, the fields, the immediate, and the bytes behind it.
+#[derive(Clone, Copy)]
+pub struct Found<'r, 'a> {
+    pub kind: &'r Kind,
+    pub parts: Parts,
+    pub imm: &'a [u8],
+    pub rest: &'a [u8],
 }
 
 fn is_in(pattern: &Pattern, byte: u8) -> bool
@@ -92,28 +99,27 @@ fn bytes_of(count: usize, bytes: &[u8]) -> Result<(&[u8], &[u8]), Miss>
     Ok(bytes.split_at(count))
 }
 
-/// What mod and rm name, by the SIB and displacement that follow.
+/// The SIB and the displacement that follow, 0 where there is none: with REX they say what mod and rm name.
 #[inline(always)]
 #[tactic(auto, using(crate::proofs::LeadLaws::operand_at_zero))]
-fn operand_behind(rex: u8, modrm: u8, bytes: &[u8]) -> Result<(Operand, &[u8]), Miss>
-    ensures { Gives (λ x. (x.0, x.1.now)) result (operand_behind rex modrm bytes.now) }
+fn place_behind(rex: u8, modrm: u8, bytes: &[u8]) -> Result<(u8, i32, &[u8]), Miss>
+    ensures { Gives (λ x. (operand_of rex modrm x.0 x.1, x.2.now)) result (operand_behind rex modrm bytes.now) }
 {
     // Neither SIB nor displacement follows.
     if modrm == 0 {
-        return Ok((operand_at_zero(rex), bytes));
+        return Ok((0, 0, bytes));
     }
     let (sib, rest) = bytes_of(sib_count(modrm), bytes)?;
     let sib = byte(sib, 0);
     let (disp, rest) = bytes_of(disp_count(modrm, sib), rest)?;
-    let rm = operand(rex, modrm, sib, signed(disp));
-    Ok((rm, rest))
+    Ok((sib, signed(disp), rest))
 }
 
 #[tactic(auto, unfolding(cet_isa::specs::Reading::operand_at))]
-fn operand_of_cells(cells: [u8; 8], bytes: &[u8]) -> Result<(Operand, &[u8]), Miss>
-    ensures { Gives (λ x. (x.0, x.1.now)) result (operand_at cells bytes.now) }
+fn place_of_cells(cells: [u8; 8], bytes: &[u8]) -> Result<(u8, i32, &[u8]), Miss>
+    ensures { Gives (λ x. (operand_of (rex_in cells) (modrm_in cells) x.0 x.1, x.2.now)) result (operand_at cells bytes.now) }
 {
-    operand_behind(cells[3], cells[7], bytes)
+    place_behind(cells[3], cells[7], bytes)
 }
 
 fn imm_count(imm: Imm) -> usize
@@ -129,19 +135,25 @@ fn imm_count(imm: Imm) -> usize
 }
 
 #[tactic(auto, unfolding(cet_isa::specs::Reading::read_at))]
-fn read<'a>(form: &Form, rex: Rex, bytes: &'a [u8]) -> Result<(Instr, &'a [u8]), Miss>
-    ensures { Gives (λ x. (x.0, x.1.now)) result (read_at (form_view form.now) (rex_view rex) bytes.now) }
+fn read<'r, 'a>(form: &'r Form, rex: Rex, bytes: &'a [u8]) -> Result<Found<'r, 'a>, Miss>
+    ensures { Gives (λ x. found_view x.kind.now x.parts x.imm.now x.rest.now) result (read_at (form_view form.now) (rex_view rex) bytes.now) }
 {
     let (cells, rest) = cells(form, rex, bytes)?;
-    let (rm, rest) = operand_of_cells(cells, rest)?;
+    let (sib, disp, rest) = place_of_cells(cells, rest)?;
     let (imm, rest) = bytes_of(imm_count(form.imm), rest)?;
     let parts = Parts {
         rex: cells[3],
         opcode: cells[6],
         modrm: cells[7],
-        rm,
+        sib,
+        disp,
     };
-    Ok((instr(&form.kind, &parts, imm), rest))
+    Ok(Found {
+        kind: &form.kind,
+        parts,
+        imm,
+        rest,
+    })
 }
 
 fn is_allowed(wide: Wide, rex: Rex) -> bool
@@ -160,8 +172,8 @@ fn is_allowed(wide: Wide, rex: Rex) -> bool
 }
 
 #[tactic(auto, unfolding(cet_isa::specs::Reading::form_at))]
-fn read_allowed<'a>(form: &Form, rex: Rex, bytes: &'a [u8]) -> Result<(Instr, &'a [u8]), Miss>
-    ensures { Gives (λ x. (x.0, x.1.now)) result (form_at (form_view form.now) (rex_view rex) bytes.now) }
+fn read_allowed<'r, 'a>(form: &'r Form, rex: Rex, bytes: &'a [u8]) -> Result<Found<'r, 'a>, Miss>
+    ensures { Gives (λ x. found_view x.kind.now x.parts x.imm.now x.rest.now) result (form_at (form_view form.now) (rex_view rex) bytes.now) }
 {
     if is_allowed(form.wide, rex) {
         read(form, rex, bytes)
@@ -181,29 +193,34 @@ fn opcode_of<'a>(form: &Form, found: u8, bytes: &'a [u8]) -> Result<(u8, &'a [u8
     }
 }
 
-/// The fields and the immediate by a row, from behind the byte by which it was found, and the bytes behind them;
-/// REX is 0 where there is none.
+/// What a row reads from behind the byte by which it was found; REX is 0 where there is none.
 #[inline(always)]
 #[tactic(auto, unfolding(crate::specs::Lead::row_behind))]
-pub fn fields_behind<'a>(
-    form: &Form,
+pub fn found_behind<'r, 'a>(
+    form: &'r Form,
     rex: u8,
     found: u8,
     bytes: &'a [u8],
-) -> Result<(Parts, &'a [u8], &'a [u8]), Miss>
-    ensures { Gives (λ x. (instr_of (kind_view form.now.kind) (fields_view x.0 x.1.now), x.2.now)) result (row_behind (form_view form.now) rex found bytes.now) }
+) -> Result<Found<'r, 'a>, Miss>
+    ensures { Gives (λ x. found_view x.kind.now x.parts x.imm.now x.rest.now) result (row_behind (form_view form.now) rex found bytes.now) }
 {
     let (opcode, rest) = opcode_of(form, found, bytes)?;
     let (modrm, rest) = byte_of(form.modrm, rest)?;
-    let (rm, rest) = operand_behind(rex, modrm, rest)?;
+    let (sib, disp, rest) = place_behind(rex, modrm, rest)?;
     let (imm, rest) = bytes_of(imm_count(form.imm), rest)?;
     let parts = Parts {
         rex,
         opcode,
         modrm,
-        rm,
+        sib,
+        disp,
     };
-    Ok((parts, imm, rest))
+    Ok(Found {
+        kind: &form.kind,
+        parts,
+        imm,
+        rest,
+    })
 }
 
 fn rex_of(rex: u8) -> Rex
@@ -250,8 +267,8 @@ pub fn takes(form: &Form, rex: u8, bytes: &[u8]) -> bool
 
 /// An instruction by this row, from its first byte on.
 #[tactic(auto, unfolding(cet_isa::specs::Reading::row_at))]
-pub fn read_row<'a>(form: &Form, bytes: &'a [u8]) -> Result<(Instr, &'a [u8]), Miss>
-    ensures { Gives (λ x. (x.0, x.1.now)) result (row_at (form_view form.now) bytes.now) }
+pub fn read_row<'r, 'a>(form: &'r Form, bytes: &'a [u8]) -> Result<Found<'r, 'a>, Miss>
+    ensures { Gives (λ x. found_view x.kind.now x.parts x.imm.now x.rest.now) result (row_at (form_view form.now) bytes.now) }
 {
     let mut miss = Miss::Differs;
     match read_allowed(form, Rex::Absent, bytes) {
@@ -273,8 +290,8 @@ pub fn read_row<'a>(form: &Form, bytes: &'a [u8]) -> Result<(Instr, &'a [u8]), M
 }
 
 #[tactic(auto, unfolding(cet_isa::specs::Reading::any_at))]
-fn read_any<'a>(rows: &[Form], bytes: &'a [u8]) -> Result<(Instr, &'a [u8]), Miss>
-    ensures { Gives (λ x. (x.0, x.1.now)) result (any_at (map form_view rows.now) bytes.now) }
+fn read_any<'r, 'a>(rows: &'r [Form], bytes: &'a [u8]) -> Result<Found<'r, 'a>, Miss>
+    ensures { Gives (λ x. found_view x.kind.now x.parts x.imm.now x.rest.now) result (any_at (map form_view rows.now) bytes.now) }
 {
     let mut miss = Miss::Differs;
     for form in rows {
@@ -288,8 +305,8 @@ fn read_any<'a>(rows: &[Form], bytes: &'a [u8]) -> Result<(Instr, &'a [u8]), Mis
 }
 
 /// An instruction by the table.
-pub fn read_listed(bytes: &[u8]) -> Result<(Instr, &[u8]), Miss>
-    ensures { Gives (λ x. (x.0, x.1.now)) result (any_at forms bytes.now) }
+pub fn read_listed(bytes: &[u8]) -> Result<Found<'static, '_>, Miss>
+    ensures { Gives (λ x. found_view x.kind.now x.parts x.imm.now x.rest.now) result (any_at forms bytes.now) }
 {
     read_any(&FORMS, bytes)
 }

@@ -6,37 +6,37 @@ use Rattle.cet_decode.specs.Lead.{lead}
 use Rattle.cet_decode.proofs.RowLaws.{row_reads}
 use Rattle.cet_decode.proofs.decoder.answer.Goals as goal
 
-pub overflow_sub-result : goal.overflow_sub-result
-overflow_sub-result c =
+pub overflow_sub-len : goal.overflow_sub-len
+overflow_sub-len c =
     let x = c.in-Some.lead in
     let row = row_reads c.args.bytes.now (lead x.prefix x.rex x.escaped x.opcode x.rest.now) (Some c.in-Some-row_of.form.now)
     (is_bytes c.args.bytes.now (λ i. omega (arith, c.type_inv.bytes i))) c.in-Some.ensures c.in-Some-row_of.ensures in
     let l = forms_length _ _ (sym row ∙ c.in-Ok.ensures) in
     omega (arith, l.some)
 
-pub overflow_cast-result : goal.overflow_cast-result
-overflow_cast-result c =
+pub overflow_cast-len : goal.overflow_cast-len
+overflow_cast-len c =
     let x = c.in-Some.lead in
     let row = row_reads c.args.bytes.now (lead x.prefix x.rex x.escaped x.opcode x.rest.now) (Some c.in-Some-row_of.form.now)
     (is_bytes c.args.bytes.now (λ i. omega (arith, c.type_inv.bytes i))) c.in-Some.ensures c.in-Some-row_of.ensures in
     let l = forms_length _ _ (sym row ∙ c.in-Ok.ensures) in
     omega (arith, l.some, l.small)
 
-pub returns-clause-len : goal.returns-clause-len
-returns-clause-len c =
+pub returns-in-Ok-clause-len : goal.returns-in-Ok-clause-len
+returns-in-Ok-clause-len c =
     let x = c.in-Some.lead in
     let row = row_reads c.args.bytes.now (lead x.prefix x.rex x.escaped x.opcode x.rest.now) (Some c.in-Some-row_of.form.now)
     (is_bytes c.args.bytes.now (λ i. omega (arith, c.type_inv.bytes i))) c.in-Some.ensures c.in-Some-row_of.ensures in
     let l = forms_length _ _ (sym row ∙ c.in-Ok.ensures) in
-    omega (arith, l.small)
+    rw c.put_instr.ensures (omega (arith, l.small))
 
-pub returns-clause-reads : goal.returns-clause-reads
+pub returns-in-Ok-clause-reads : goal.returns-in-Ok-clause-reads
 unfolding decoded
-returns-clause-reads c =
+returns-in-Ok-clause-reads c =
     let x = c.in-Some.lead in
     let row = row_reads c.args.bytes.now (lead x.prefix x.rex x.escaped x.opcode x.rest.now) (Some c.in-Some-row_of.form.now)
     (is_bytes c.args.bytes.now (λ i. omega (arith, c.type_inv.bytes i))) c.in-Some.ensures c.in-Some-row_of.ensures in
-    rw c.instr.ensures (sym (ap (decoding_of (length c.args.bytes.now)) (sym row ∙ c.in-Ok.ensures)))
+    rw c.put_instr.ensures (sym (ap (decoding_of (length c.args.bytes.now)) (sym row ∙ c.in-Ok.ensures)))
 
 pub returns-in-Err-clause-reads : goal.returns-in-Err-clause-reads
 unfolding decoded
