@@ -4,9 +4,11 @@ ghost use Rattle.std.specs.Prelude.{◌≡◌, None, OnOk, IfOk, IfSome};
 ghost use Rattle.cet_cpu.specs.Cpu.{IsCpu};
 ghost use Rattle.cet_page.specs.Machine.{traced};
 ghost use Rattle.cet_page.specs.Within.{IsCore};
+ghost use Rattle.cet_shared.specs.Held.{IsOf, new_thread};
+ghost use Rattle.cet_shared.specs.Rule.{Among};
 ghost use Rattle.cet_pool.specs.Going.{Accessed, IsLive, IsReady, Went, own};
 
-use cet_cpu::{Cpu, Taken};
+use cet_cpu::Cpu;
 use cet_isa::{End, Record};
 use cet_run::Records;
 use cet_shared::{Pass, Shared};
@@ -54,25 +56,46 @@ fn note(alloc: Global, records: &mut Records, noted: Option<Record>) -> Result<(
     }
 }
 
-/// The next access, with its record. A child that it bore is handed on.
+/// The next access, with its record. A child that it bore is put into `child`.
 fn access(
     alloc: Global,
     job: &Job,
     shared: &Shared,
     live: &mut Live,
-) -> Result<Option<Cpu>, NoMemory>
+    child: &mut Option<Cpu>,
+) -> Result<(), NoMemory>
     requires job { shared.now.job ≡ job.now }
     requires ready { IsReady shared.now live.old }
-    ensures step { IfOk result (Accessed shared.now live.old live.new) }
-    ensures born { IfOk result (λ child. IfSome child (IsCpu job.now)) }
+    requires none { child.old ≡ None }
+    ensures step { OnOk result (Accessed shared.now live.old live.new child.new) }
+    ensures born { OnOk result (IfSome child.new (IsCpu job.now)) }
 {
-    let Taken {
-        noted,
-        child,
-        end: _,
-    } = shared.perform(job, &mut live.pass);
-    note(alloc, &mut live.records, noted)?;
-    Ok(child)
+    let noted = shared.advance(job, &mut live.pass, child);
+    note(alloc, &mut live.records, noted)
+}
+
+/// The child that an access bore, if any, gets a pass.
+fn bear(
+    alloc: Global,
+    shared: &Shared,
+    live: &mut Live,
+    child: &mut Option<Cpu>,
+    born: &mut Vec<Live>,
+) -> Result<(), NoMemory>
+    requires pass { IsOf shared.now live.old.pass }
+    requires bore { IfSome child.old (λ cpu. Among (new_thread cpu.core) live.old.pass.view.born) }
+    requires state { IfSome child.old (IsCpu shared.now.job) }
+    ensures went { OnOk result ((before : _) → IsReady shared.now before → Accessed shared.now before live.old child.old → Went shared.now 1 before live.new born.old.items born.new.items) }
+    ensures none { child.new ≡ None }
+{
+    if let Some(cpu) = child.take() {
+        let pass = shared.split_child(&mut live.pass, cpu);
+        born.push(Live {
+            pass,
+            records: Records::new(alloc),
+        })?;
+    }
+    Ok(())
 }
 
 /// The next access. A child that it bore gets a pass.
@@ -81,18 +104,18 @@ fn step(
     job: &Job,
     shared: &Shared,
     live: &mut Live,
+    child: &mut Option<Cpu>,
     born: &mut Vec<Live>,
 ) -> Result<(), NoMemory>
     requires job { shared.now.job ≡ job.now }
     requires ready { IsReady shared.now live.old }
-    ensures { OnOk result (Went shared.now 1 live.old live.new born.old.items born.new.items) }
+    requires none { child.old ≡ None }
+    ensures went { OnOk result (Went shared.now 1 live.old live.new born.old.items born.new.items) }
+    ensures none { OnOk result (child.new ≡ None) }
 {
-    if let Some(child) = access(alloc, job, shared, live)? {
-        let pass = shared.split_child(&mut live.pass, child);
-        born.push(Live {
-            pass,
-            records: Records::new(alloc),
-        })?;
+    access(alloc, job, shared, live, child)?;
+    if child.is_some() {
+        bear(alloc, shared, live, child, born)?;
     }
     Ok(())
 }
@@ -113,12 +136,14 @@ pub fn turn(
     requires ready { IsReady shared.now live.old }
     ensures { OnOk result (Went shared.now 1 live.old live.new born.old.items born.new.items) }
 {
-    step(alloc, job, shared, live, born)?;
+    // One place for the children of all accesses.
+    let mut child = None;
+    step(alloc, job, shared, live, &mut child, born)?;
     for _ in 1..TURN {
         if live.end().is_some() {
             break;
         }
-        step(alloc, job, shared, live, born)?;
+        step(alloc, job, shared, live, &mut child, born)?;
     }
     Ok(())
 }

@@ -1,11 +1,11 @@
 //! The table of words that guest threads share.
 
-ghost use Rattle.std.specs.Prelude.{◌≡◌, ℕ, ◌+◌, ◌<◌, ◌≤◌, [], ◌∷◌, None, Some, IfOk, IfSome, slice_set};
+ghost use Rattle.std.specs.Prelude.{◌≡◌, ℕ, ◌+◌, ◌<◌, ◌≤◌, [], ◌∷◌, None, Some, IfOk, IfSome, option_map, slice_set};
 ghost use Rattle.std.specs.Mem.Slots.{slots_items, slots_len, IsFull};
 ghost use Rattle.cet_words.specs.Access.{InRange};
 ghost use Rattle.cet_words.specs.Layout.{word_count};
-ghost use Rattle.cet_cpu.specs.Cpu.{IsCpu};
-ghost use Rattle.cet_page.specs.Core.{next_access};
+ghost use Rattle.cet_cpu.specs.Cpu.{CpuData, IsCpu};
+ghost use Rattle.cet_page.specs.Core.{next_access, taken};
 ghost use Rattle.cet_page.specs.Machine.{Thread};
 ghost use Rattle.cet_shared.specs.Held.{IsOf, OwnIs, alone, brought, first_view, new_thread, own, parts_of, picked, together, whole, without_child};
 ghost use Rattle.cet_shared.specs.Rule.{Among};
@@ -18,6 +18,7 @@ use crate::rules::{Audit, Bring, Child, Ended, Explains, Key, OneAccess, View};
 use crate::starts::{key_of, start_words};
 use atomic_table::{Closed, Seat, Table};
 use cet_cpu::{Cpu, Taken, first};
+use cet_isa::Record;
 use cet_words::{Access, FIRST_ENTRY_WORD, Job, NoMemory, Perform, Plain};
 use std::alloc::Global;
 use std::marker::Model;
@@ -70,11 +71,39 @@ impl Shared {
         ensures pass { IsOf self.now pass.new }
         ensures born { IfSome result.child (IsCpu job.now) }
     {
+        let mut child = None;
+        let noted = self.advance(job, pass, &mut child);
+        Taken {
+            noted,
+            child,
+            end: pass.cpu.end(),
+        }
+    }
+
+    /// Does the next access as `perform` does, and answers the record alone. The thread that is born, if any,
+    /// is put into `child`, so that no access which bears none hands a thread on.
+    pub fn advance(
+        &self,
+        job: &Job,
+        pass: &mut Pass,
+        child: &mut Option<Cpu>,
+    ) -> Option<Record>
+        requires job { self.now.job ≡ job.now }
+        requires pass { IsOf self.now pass.old }
+        requires goes { (own pass.old.view).core.over ≡ None }
+        requires none { child.old ≡ None }
+        ensures step { Performs pass.old.view pass.new.view (record { noted = result; child = child.new; end = (own pass.new.view).core.over }) }
+        ensures pass { IsOf self.now pass.new }
+        ensures born { IfSome child.new (IsCpu job.now) }
+    {
         let Some(access) = pass.cpu.next(job) else {
             unreachable!()
         };
         let value = act(&self.table.shared, &mut pass.seat, access);
-        pass.cpu.take(job, value)
+        if pass.cpu.bears(job, value) {
+            bear(job, &pass.cpu, value, child);
+        }
+        pass.cpu.accept(job, value)
     }
 
     /// Gives a child, which `perform` answered for this pass, a pass of its own.
@@ -123,6 +152,16 @@ impl Shared {
         copy_words(&closed, into);
         closed.free();
     }
+}
+
+/// The thread that is born where the next access has this answer.
+fn bear(job: &Job, parent: &Cpu, answer: u64, child: &mut Option<Cpu>)
+    requires state { IsCpu job.now parent.now }
+    requires goes { parent.now.core.over ≡ None }
+    ensures child { option_map (λ (cpu : CpuData). cpu.core) child.new ≡ (taken job.now parent.now.core answer).child }
+    ensures born { IfSome child.new (IsCpu job.now) }
+{
+    *child = parent.child(job, answer);
 }
 
 /// One access of the pass's own thread, as one step of the table.
