@@ -1,13 +1,12 @@
--- Words that are copied one by one. Source: own.
-use Rattle.std.proofs.Common.{◌≡◌, ◌≢◌, ℕ, zero, suc, ◌+◌, ◌<◌, List, [], ◌∷◌, ◌++◌, length, get_or, set, sym, ◌∙◌, subst, arith, below_more}
-use Rattle.std.proofs.Common.{get_or-set_other, get_or-set_same, length-append, length-set}
-use Rattle.std.proofs.lemmas.Grind.{same_number_lists}
-use Rattle.std.proofs.lemmas.List.{get_or_append_left}
-use Rattle.std.proofs.Math.Seq.{get_or-append_seam}
+-- Words that are copied part by part. Source: own.
+use Rattle.std.proofs.Common.{◌≡◌, ℕ, zero, suc, ◌+◌, ◌<◌, ◌≤◌, List, [], ◌∷◌, length, get_or, set, sym, ◌∙◌, arith, length-set}
+use Rattle.std.specs.Prelude.{bit_or, slice_index}
+use Rattle.std.proofs.lemmas.Grind.{common_steps, same_number_lists}
+use Rattle.std.proofs.lemmas.Nat.{le_or_l, le_or_r}
+use Rattle.std.proofs.lemmas.Bool.Decides.{nat_tests}
 use mathlib.Core.Option.{some, some-ne-none, some-injective}
 use lib.ListN.{get_elem?}
-use Rattle.cet_words.specs.Start.{IsStart}
-use Rattle.cet_words.specs.Job.{ImageData}
+use Rattle.cet_words.specs.Fill.{FilledFrom}
 use Rattle.cet_words.specs.Layout.{word_count}
 
 pub read_at : (l : List ℕ) (i a : ℕ) → get_elem? l i ≡ some a → get_or l i 0 ≡ a
@@ -15,38 +14,32 @@ read_at [] i a e = absurd (some-ne-none a (sym e))
 read_at (x ∷ xs) zero a e = some-injective x a e
 read_at (x ∷ xs) (suc i) a e = read_at xs i a e
 
--- the first n words
-pub record Copied (n : ℕ) (words copy : List ℕ) : Type 0 where
-  pub size : length copy ≡ n
-  pub each : (k : ℕ) → k < n → get_or copy k 0 ≡ get_or words k 0
+-- each of the words from low to high is at most this number
+abbrev pub Bounded : (low high bits : ℕ) (words : List ℕ) → Type 0
+Bounded low high bits words = (w : ℕ) → low ≤ w → w < high → slice_index words w ≤ bits
 
-pub copied_more : (n x : ℕ) (words copy : List ℕ) → Copied n words copy → x ≡ get_or words n 0 → Copied (n + 1) words (copy ++ x ∷ [])
-copied_more n x words copy h is = record {
-  size = (let s = h.size in let a : length (copy ++ x ∷ []) ≡ length copy + 1 = length-append copy (x ∷ []) in omega arith);
-  each = below_more _ _
-      (λ k lt. get_or_append_left copy (x ∷ []) 0 k (let s = h.size in omega arith) ∙ h.each k lt)
-      (subst (λ i. get_or (copy ++ x ∷ []) i 0 ≡ get_or words n 0) h.size (get_or-append_seam copy x [] 0 ∙ is));
+pub bounded_more : (low at bits x : ℕ) (words : List ℕ) → get_elem? words at ≡ some x → Bounded low at bits words → Bounded low (at + 1) (bit_or bits x) words
+bounded_more low at bits x words is h w from to =
+    grind (arith, h w, read_at words at x is, le_or_l bits x, le_or_r bits x)
+
+-- the words from low up to a place are stored
+pub record Stored (low at : ℕ) (words old new : List ℕ) : Type 0 where
+  pub size : length new ≡ word_count
+  pub filled : FilledFrom low at (slice_index words) old new
+
+pub stored_none : (low : ℕ) (words into : List ℕ) → length into ≡ word_count → Stored low low words into into
+stored_none low words into size = record { size = size; filled = λ w. grind (arith, nat_tests) }
+
+pub stored_more : (low at x : ℕ) (words old now : List ℕ) → low ≤ at → at < word_count → get_elem? words at ≡ some x → Stored low at words old now → Stored low (at + 1) words old (set now at x)
+stored_more low at x words old now from to is h = record {
+  size = length-set now at x ∙ h.size;
+  filled = λ w. (let size = h.size in grind (arith, nat_tests, common_steps, h.filled w, read_at words at x is));
 }
 
-pub copied_on : (n x : ℕ) (words words' copy copy' : List ℕ) → Copied n words copy → words' ≡ words → x ≡ get_or words n 0 → copy' ≡ copy ++ x ∷ [] → Copied (n + 1) words' copy'
-copied_on n x words words' copy copy' h same is more =
-    subst (λ (l : List ℕ). Copied (n + 1) l copy') (sym same) (subst (Copied (n + 1) words) (sym more) (copied_more n x words copy h is))
+-- where a further part is stored
+pub stored_on : (at next : ℕ) (words old now new : List ℕ) → at ≤ next → Stored 0 at words old now → length new ≡ word_count → FilledFrom at next (slice_index words) now new → Stored 0 next words old new
+stored_on at next words old now new le h size more = record { size = size; filled = λ w. grind (arith, nat_tests, h.filled w, more w) }
 
-pub copied_all : (image : ImageData) (words copy : List ℕ) → IsStart image words → Copied word_count words copy → IsStart image copy
-copied_all image words copy start h = record { size = h.size; each = λ w lt. h.each w lt ∙ start.each w lt }
-
--- the first n words of a list of which there are so many
-pub record Stored (n : ℕ) (words into : List ℕ) : Type 0 where
-  pub size : length into ≡ word_count
-  pub each : (k : ℕ) → k < n → get_or into k 0 ≡ get_or words k 0
-
-pub stored_more : (n x : ℕ) (words into : List ℕ) → n < word_count → Stored n words into → get_elem? words n ≡ some x → Stored (n + 1) words (set into n x)
-stored_more n x words into lt h is = record {
-  size = length-set into n x ∙ h.size;
-  each = below_more _ _
-      (λ k low. get_or-set_other into n k x 0 (λ e. omega arith) ∙ h.each k low)
-      (get_or-set_same into n x 0 (let s = h.size in omega arith) ∙ sym (read_at words n x is));
-}
-
-pub stored_all : (words into : List ℕ) → length words ≡ word_count → Stored word_count words into → into ≡ words
-stored_all words into long h = same_number_lists into words (h.size ∙ sym long) (λ k lt. h.each k (let s = h.size in omega arith))
+pub stored_all : (words old new : List ℕ) → length words ≡ word_count → Stored 0 word_count words old new → new ≡ words
+stored_all words old new long h =
+    same_number_lists new words (h.size ∙ sym long) (λ w small. (let size = h.size in grind (arith, nat_tests, h.filled w)))

@@ -5,7 +5,7 @@ ghost use Rattle.cet_words.specs.Start.{IsStart};
 ghost use Rattle.cet_shared.specs.Keys.{job_of};
 
 use crate::rules::Key;
-use cet_words::{Access, Image, Job, NoMemory, Perform, Plain, WORD_COUNT};
+use cet_words::{Image, Job, NoMemory, Plain};
 use std::alloc::Global;
 use std::snapshot::Snapshot;
 
@@ -13,12 +13,8 @@ use std::snapshot::Snapshot;
 pub(crate) fn start_words(alloc: Global, image: &Image) -> Result<Vec<u64>, NoMemory>
     ensures { IfOk result (λ words. IsStart image.now words.items) }
 {
-    let mut plain = Plain::new(alloc, image)?;
-    let mut words = Vec::with_capacity(alloc, WORD_COUNT as usize)?;
-    for word in 0..WORD_COUNT {
-        words.push(plain.perform(Access::Load(word)))?;
-    }
-    Ok(words)
+    let plain = Plain::new(alloc, image)?;
+    plain.to_words(alloc)
 }
 
 /// The key of a table for this job.

@@ -1,8 +1,9 @@
 //! The table of words that guest threads share.
 
-ghost use Rattle.std.specs.Prelude.{◌≡◌, ℕ, ◌+◌, ◌<◌, ◌≤◌, [], ◌∷◌, None, Some, IfOk, IfSome, option_map, slice_set};
+ghost use Rattle.std.specs.Prelude.{◌≡◌, ℕ, ◌+◌, ◌<◌, ◌≤◌, [], ◌∷◌, None, Some, IfOk, IfSome, IsTrue, length, option_map, slice_index};
 ghost use Rattle.std.specs.Mem.Slots.{slots_items, slots_len, IsFull};
 ghost use Rattle.cet_words.specs.Access.{InRange};
+ghost use Rattle.cet_words.specs.Fill.{FilledFrom};
 ghost use Rattle.cet_words.specs.Layout.{word_count};
 ghost use Rattle.cet_cpu.specs.Cpu.{CpuData, IsCpu};
 ghost use Rattle.cet_page.specs.Core.{next_access, taken};
@@ -19,11 +20,14 @@ use crate::starts::{key_of, start_words};
 use atomic_table::{Closed, Seat, Table};
 use cet_cpu::{Cpu, Taken, first};
 use cet_isa::Record;
-use cet_words::{Access, FIRST_ENTRY_WORD, Job, NoMemory, Perform, Plain};
+use cet_words::{Access, FIRST_ENTRY_WORD, Job, NoMemory, Plain};
 use std::alloc::Global;
 use std::marker::Model;
 
 type Words = atomic_table::Shared<(), View, Key, Explains>;
+
+/// So many words are copied out at once, as many as a page has.
+const PART: u32 = 512;
 
 /// The words of guest memory in one atomic table. Contracts see which table it is, and its job.
 #[derive(Drop)]
@@ -214,24 +218,47 @@ fn part(shared: &Words, seat: &mut Seat<(), View>, child: &Cpu) -> Seat<(), View
     shared.split_seat::<Child>(seat)
 }
 
-/// Has a word of `into` be this one. Where it is so already nothing is stored, so pages that nobody has stored to still cost nothing.
-fn put_word(into: &mut Plain, word: u32, value: u64)
-    requires { word < word_count }
-    ensures { into.new ≡ slice_set into.old word value }
+/// Whether the words of a closed table from one up to another are all 0.
+fn is_zero(closed: &Closed<(), Global>, low: u32, high: u32) -> bool
+    requires range { high ≤ slots_len closed.now.words }
+    requires full { IsFull closed.now.words }
+    ensures { IsTrue result → (w : ℕ) → low ≤ w → w < high → slice_index (slots_items closed.now.words) w ≡ 0 }
 {
-    if into.perform(Access::Load(word)) != value {
-        into.perform(Access::Store(word, value));
+    let mut bits = 0;
+    for word in low..high {
+        bits |= closed.word(word as usize);
+    }
+    bits == 0
+}
+
+/// Has the words of `into` from one up to another be those of a closed table.
+fn copy_part(closed: &Closed<(), Global>, into: &mut Plain, low: u32, high: u32)
+    requires count { slots_len closed.now.words ≡ word_count }
+    requires full { IsFull closed.now.words }
+    requires range { (low ≤ high) × (high ≤ word_count) }
+    requires all { length into.old ≡ word_count }
+    ensures words { FilledFrom low high (slice_index (slots_items closed.now.words)) into.old into.new }
+    ensures count { length into.new ≡ word_count }
+{
+    if is_zero(closed, low, high) {
+        into.clear(low, high);
+        return;
+    }
+    for word in low..high {
+        into.put(word, closed.word(word as usize));
     }
 }
 
-/// Has `into` have the words of a closed table, each by its number.
+/// Has `into` have the words of a closed table. A part that is 0 there is not stored, so pages that
+/// nobody has stored to still cost nothing.
 fn copy_words(closed: &Closed<(), Global>, into: &mut Plain)
     requires count { slots_len closed.now.words ≡ word_count }
     requires full { IsFull closed.now.words }
     ensures { into.new ≡ slots_items closed.now.words }
 {
     let count = into.count();
-    for word in 0..count {
-        put_word(into, word, closed.word(word as usize));
+    for part in 0..count.div_ceil(PART) {
+        let low = PART * part;
+        copy_part(closed, into, low, (low + PART).min(count));
     }
 }
