@@ -42,6 +42,7 @@ pub fn disp_count(modrm: u8, sib: u8) -> usize
     }
 }
 
+#[inline(always)]
 fn base(rex: u8, modrm: u8, sib: u8) -> Base
     ensures { result ≡ base_of rex modrm sib }
 {
@@ -54,6 +55,7 @@ fn base(rex: u8, modrm: u8, sib: u8) -> Base
     }
 }
 
+#[inline(always)]
 fn mem(rex: u8, modrm: u8, sib: u8, disp: i32) -> Mem
     ensures { result ≡ mem_of rex modrm sib disp }
 {
@@ -78,6 +80,7 @@ fn mem(rex: u8, modrm: u8, sib: u8, disp: i32) -> Mem
 }
 
 /// What mod and rm name.
+#[inline(always)]
 pub fn operand(rex: u8, modrm: u8, sib: u8, disp: i32) -> Operand
     ensures { result ≡ operand_of rex modrm sib disp }
 {

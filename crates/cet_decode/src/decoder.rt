@@ -3,15 +3,16 @@
 ghost use Rattle.std.specs.Prelude.{◌≡◌, ℕ, ◌<◌, ◌≤◌, List, length, Err};
 ghost use Rattle.cet_isa.specs.declared.instructions.Instr.{Instr};
 ghost use Rattle.cet_isa.specs.Spells.{Spells};
-ghost use Rattle.cet_isa.specs.Reading.{decoding_of, decoded, read_length, IsAnswer};
+ghost use Rattle.cet_isa.specs.Forms.{forms};
+ghost use Rattle.cet_isa.specs.Reading.{any_at, decoding_of, decoded, read_length, IsAnswer};
 ghost use Rattle.cet_decode.specs.Decoded.{decoding, LenAtMost};
-ghost use Rattle.cet_decode.specs.Views.{miss_view};
+ghost use Rattle.cet_decode.specs.Views.{miss_view, found_view, Gives};
 
 use crate::forms::FORMS;
 use crate::index::{read_apart, row_of};
 use crate::leads::lead_of;
 use crate::meaning::put_instr;
-use crate::reading::{Miss, found_behind};
+use crate::reading::{Found, Miss, found_behind};
 use cet_isa::Instr;
 
 /// What stands at the front of some bytes.
@@ -35,38 +36,31 @@ fn missed(miss: Miss) -> Decoded
     }
 }
 
-/// What has more than one prefix, or ends before its opcode.
-#[inline(never)]
-#[tactic(auto, unfolding(cet_isa::specs::Reading::decoded))]
-fn answer_apart(bytes: &[u8], out: &mut Decoded)
-    ensures reads { decoding out.new ≡ decoded bytes.now }
-    ensures len { LenAtMost 12 out.new }
+/// What stands at the front of the bytes, by the table.
+#[inline(always)]
+fn found_in(bytes: &[u8]) -> Result<Found<'static, '_>, Miss>
+    ensures { Gives (λ x. found_view x.kind.now x.parts x.imm.now x.rest.now) result (any_at forms bytes.now) }
 {
-    match read_apart(bytes) {
-        Ok(found) => {
-            let len = (bytes.len() - found.rest.len()) as u8;
-            put_instr(found.kind, found.parts, found.imm, len, out);
-        }
-        Err(miss) => *out = missed(miss),
-    }
+    let Some(lead) = lead_of(bytes) else {
+        // It stands in a place of its own, so that what is found otherwise need not stand in memory.
+        let apart = read_apart(bytes);
+        return apart;
+    };
+    let Some(form) = row_of(&FORMS, &lead) else {
+        return Err(Miss::Differs);
+    };
+    found_behind(form, lead.rex, lead.opcode, lead.rest)
 }
 
-// It writes its answer where the caller wants it, since an answer that is handed on is copied each time; and it stands
-// apart in the program, so that few values are kept on the way to it.
+// It writes its answer where the caller wants it, since an answer that is handed on is copied each time, and it stands
+// apart in the program, so that each way through it writes there itself.
 #[inline(never)]
 #[tactic(auto, unfolding(cet_isa::specs::Reading::decoded))]
 fn answer(bytes: &[u8], out: &mut Decoded)
     ensures reads { decoding out.new ≡ decoded bytes.now }
     ensures len { LenAtMost 12 out.new }
 {
-    let Some(lead) = lead_of(bytes) else {
-        return answer_apart(bytes, out);
-    };
-    let Some(form) = row_of(&FORMS, &lead) else {
-        *out = Decoded::Unknown;
-        return;
-    };
-    match found_behind(form, lead.rex, lead.opcode, lead.rest) {
+    match found_in(bytes) {
         Ok(found) => {
             let len = (bytes.len() - found.rest.len()) as u8;
             put_instr(found.kind, found.parts, found.imm, len, out);

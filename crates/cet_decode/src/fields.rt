@@ -21,6 +21,7 @@ pub struct Parts {
 }
 
 /// What mod and rm name.
+#[inline(always)]
 pub fn rm(x: Parts) -> Operand
     ensures { result ≡ (fields_view x []).rm }
 {

@@ -187,6 +187,7 @@ fn read_some<'r, 'a>(
 }
 
 /// An instruction by the table, where more than one prefix stands before the opcode, or the bytes end before it.
+#[inline(never)]
 pub fn read_apart(bytes: &[u8]) -> Result<Found<'static, '_>, Miss>
     ensures { Gives (λ x. found_view x.kind.now x.parts x.imm.now x.rest.now) result (any_at forms bytes.now) }
 {

@@ -41,8 +41,7 @@ fn mov(size: Size, dst: Operand, src: Operand) -> Instr
     Instr::Mov { size, dst, src }
 }
 
-// The groups stand apart in the program too, so that each has few values to keep.
-#[inline(never)]
+#[inline(always)]
 fn arith(kind: Arith, x: Parts, imm: &[u8], len: u8, out: &mut Decoded)
     ensures { out.new ≡ Decoded.Ok (instr_of (arith_view kind) (fields_view x imm.now)) len }
 {
@@ -89,7 +88,7 @@ fn arith(kind: Arith, x: Parts, imm: &[u8], len: u8, out: &mut Decoded)
     }
 }
 
-#[inline(never)]
+#[inline(always)]
 fn unary(kind: Unary, x: Parts, imm: &[u8], len: u8, out: &mut Decoded)
     ensures { out.new ≡ Decoded.Ok (instr_of (unary_view kind) (fields_view x imm.now)) len }
 {
@@ -130,7 +129,7 @@ fn unary(kind: Unary, x: Parts, imm: &[u8], len: u8, out: &mut Decoded)
     }
 }
 
-#[inline(never)]
+#[inline(always)]
 fn moved(kind: Move, x: Parts, imm: &[u8], len: u8, out: &mut Decoded)
     ensures { out.new ≡ Decoded.Ok (instr_of (move_view kind) (fields_view x imm.now)) len }
 {
@@ -212,7 +211,7 @@ fn moved(kind: Move, x: Parts, imm: &[u8], len: u8, out: &mut Decoded)
     }
 }
 
-#[inline(never)]
+#[inline(always)]
 fn flow(kind: Flow, x: Parts, imm: &[u8], len: u8, out: &mut Decoded)
     ensures { out.new ≡ Decoded.Ok (instr_of (flow_view kind) (fields_view x imm.now)) len }
 {
@@ -269,7 +268,7 @@ fn flow(kind: Flow, x: Parts, imm: &[u8], len: u8, out: &mut Decoded)
     }
 }
 
-#[inline(never)]
+#[inline(always)]
 fn shadow(kind: Shadow, x: Parts, imm: &[u8], len: u8, out: &mut Decoded)
     ensures { out.new ≡ Decoded.Ok (instr_of (shadow_view kind) (fields_view x imm.now)) len }
 {
