@@ -1,7 +1,7 @@
 -- What one access leaves, and what more of them do. Source: own.
 use Rattle.std.proofs.Common.{◌≡◌, ◌⊎◌, inl, inr, ⊎_elim, ℕ, zero, suc, ◌+◌, ◌-◌, ◌*◌, ◌^◌, ◌<◌, ◌≤◌, List}
 use Rattle.std.proofs.Common.{[], ◌∷◌, ◌++◌, Option, Some, None, refl, sym, ap, ◌∙◌, subst, arith, append-nil, append_assoc, eq-eqb}
-use Rattle.std.specs.Prelude.{All, cond}
+use Rattle.std.specs.Prelude.{All, cond, false, is_some}
 use Rattle.std.specs.List.Sorted.{IsPermutation}
 use Rattle.std.proofs.lemmas.List.Elements.{All-nil, All-cons, All-append}
 use Rattle.std.proofs.lemmas.List.Sorted.{IsPermutation-append_comm, IsPermutation-cons}
@@ -195,6 +195,11 @@ module _ (place : Place) (before mid : Live) (old : List Live) (ready : IsReady 
         };
         goes = goes_alone place.job before mid (told_by (next_access place.job (own before).core) a.found) ready.state ready.goes same (sym a.bears);
       }
+
+  -- the same where a test tells that no child was born
+  pub went_childless : (child : Option CpuData) → is_some child ≡ false → Accessed place before mid child → Went place 1 before mid old old
+  went_childless None e a = went_none a
+  went_childless (Some cpu) e a = absurd (cc)
 
   pub went_some : (child : CpuData) (after kid : Live) (a : Accessed place before mid (Some child)) → IsOf place after.pass
       → after.pass.view ≡ without_child child.core.arch.number mid.pass.view → after.records ≡ mid.records
