@@ -1,8 +1,8 @@
-use Rattle.std.proofs.Common.{◌≡◌, List, Option, Some, None, refl, sym, subst, ◌∙◌}
+use Rattle.std.proofs.Common.{◌≡◌, List, Some, None, refl, sym, subst, ◌∙◌}
 use Rattle.std.specs.Prelude.{IfSome}
 use Rattle.cet_cpu.specs.Cpu.{CpuData, IsCpu}
 use Rattle.cet_pool.specs.declared.lives.Live.{Live}
-use Rattle.cet_pool.specs.Going.{Accessed, IsReady, Went}
+use Rattle.cet_pool.specs.Going.{Accessed, Went}
 use Rattle.cet_pool.proofs.Steps.{went_none, went_some}
 use Rattle.cet_pool.proofs.lives.bear.Goals as goal
 
