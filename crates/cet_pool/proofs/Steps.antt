@@ -1,13 +1,12 @@
 -- What one access leaves, and what more of them do. Source: own.
-use Rattle.std.proofs.Common.{◌≡◌, ◌⊎◌, inl, inr, ⊎_elim, ℕ, zero, suc, ◌+◌, ◌-◌, ◌*◌, ◌^◌, ◌<◌, ◌≤◌, List}
+use Rattle.std.proofs.Common.{◌≡◌, ◌⊎◌, inl, inr, ⊎_elim, ℕ, suc, ◌+◌, ◌-◌, ◌*◌, ◌^◌, ◌<◌, ◌≤◌, List}
 use Rattle.std.proofs.Common.{[], ◌∷◌, ◌++◌, Option, Some, None, refl, sym, ap, ◌∙◌, subst, arith, append-nil, append_assoc, eq-eqb}
-use Rattle.std.specs.Prelude.{All, cond}
+use Rattle.std.specs.Prelude.{cond, false, is_some}
 use Rattle.std.specs.List.Sorted.{IsPermutation}
 use Rattle.std.proofs.lemmas.List.Elements.{All-nil, All-cons, All-append}
 use Rattle.std.proofs.lemmas.List.Sorted.{IsPermutation-append_comm, IsPermutation-cons}
 use Rattle.std.proofs.lemmas.List.Sums.{sum_by-cons}
 use Rattle.std.proofs.Math.Nat.{pow-succ', mul-le-mul_right}
-use Rattle.cet_words.specs.Change.{Change}
 use Rattle.cet_words.specs.Job.{JobData}
 use Rattle.cet_words.specs.Layout.{thread_limit}
 use Rattle.cet_isa.specs.declared.threads.Arch.{Arch}
@@ -15,7 +14,7 @@ use Rattle.cet_isa.specs.declared.threads.End.{End}
 use Rattle.cet_isa.specs.declared.threads.Record.{Record}
 use Rattle.cet_cpu.specs.Cpu.{CpuData, IsCpu}
 use Rattle.cet_cpu.specs.declared.threads.Taken.{Taken}
-use Rattle.cet_page.specs.Core.{Core, After, answered, born, child_core, child_of, next_access, row_played, taken}
+use Rattle.cet_page.specs.Core.{Core, After, answered, born, child_core, next_access, row_played, taken}
 use Rattle.cet_page.specs.Left.{left_of}
 use Rattle.cet_page.specs.Machine.{Thread, thread_after, traced}
 use Rattle.cet_page.specs.Numbered.{IsBearing, Names, TellsOf, TellsOn, borne_in}
@@ -26,7 +25,6 @@ use Rattle.cet_page.specs.Within.{CoreAt, IsCore}
 use Rattle.cet_page.specs.declared.finishes.Finish.{Finish}
 use Rattle.cet_page.proofs.NumberLaws.{accesses_run_out, number_taken}
 use Rattle.cet_own.proofs.Naming.{births_told}
-use Rattle.cet_run.specs.TracedThreads.{core_of}
 use Rattle.cet_shared.specs.Held.{Held, IsOf, Place, alone, first_of, newborn, new_thread, rest_of, without, without_child}
 use Rattle.cet_shared.specs.Performed.{Performs, left_by, told_by}
 use Rattle.cet_pool.specs.declared.lives.Live.{Live}
@@ -195,6 +193,11 @@ module _ (place : Place) (before mid : Live) (old : List Live) (ready : IsReady 
         };
         goes = goes_alone place.job before mid (told_by (next_access place.job (own before).core) a.found) ready.state ready.goes same (sym a.bears);
       }
+
+  -- the same where a test tells that no child was born
+  pub went_childless : (child : Option CpuData) → is_some child ≡ false → Accessed place before mid child → Went place 1 before mid old old
+  went_childless None e a = went_none a
+  went_childless (Some cpu) e a = absurd (cc)
 
   pub went_some : (child : CpuData) (after kid : Live) (a : Accessed place before mid (Some child)) → IsOf place after.pass
       → after.pass.view ≡ without_child child.core.arch.number mid.pass.view → after.records ≡ mid.records

@@ -86,12 +86,7 @@ impl Shared {
 
     /// Does the next access as `perform` does, and answers the record alone. The thread that is born, if any,
     /// is put into `child`, so that no access which bears none hands a thread on.
-    pub fn advance(
-        &self,
-        job: &Job,
-        pass: &mut Pass,
-        child: &mut Option<Cpu>,
-    ) -> Option<Record>
+    pub fn advance(&self, job: &Job, pass: &mut Pass, child: &mut Option<Cpu>) -> Option<Record>
         requires job { self.now.job ≡ job.now }
         requires pass { IsOf self.now pass.old }
         requires goes { (own pass.old.view).core.over ≡ None }
