@@ -53,11 +53,6 @@ drop_digits (suc k) n after = drop_digits k n after
 pub past_digits : (start k n : ℕ) (buf after : List ℕ) → drop start buf ≡ hex_digits k n ++ after → drop (start + k) buf ≡ after
 past_digits start k n buf after written = sym (drop-drop k start buf) ∙ ap (λ (l : List ℕ). drop k l) written ∙ drop_digits k n after
 
--- the last two of the zeros
-pub last_zeros : (start at : ℕ) (k : ℕ) (buf : List ℕ) → start + suc (suc k) ≡ at → drop start buf ≡ hex_digits (suc (suc k)) 0 ++ drop at buf → drop (start + k) buf ≡ hex2 0 ++ drop at buf
-last_zeros start at k buf place zeros =
-    past_digits start k 0 buf (hex2 0 ++ drop at buf) (zeros ∙ ap (λ (l : List ℕ). l ++ drop at buf) (hex_digits_more k 0) ∙ append_assoc (hex_digits k 0) (hex2 0) (drop at buf))
-
 -- the zeros before a place stay where what is before it stays
 pub zeros_kept : (start k : ℕ) (before after rest : List ℕ) → take (start + k) after ≡ take (start + k) before → drop start before ≡ hex_digits k 0 ++ rest
     → drop start after ≡ hex_digits k 0 ++ drop (start + k) after

@@ -1,6 +1,6 @@
 //! Hexadecimal digits, written from the last to the first.
 
-ghost use Rattle.std.specs.Prelude.{◌≡◌, ◌+◌, ◌%◌, ◌≤◌, ◌++◌, length, take, drop};
+ghost use Rattle.std.specs.Prelude.{◌≡◌, ◌+◌, ◌≤◌, ◌++◌, length, take, drop};
 ghost use Rattle.cet_base.specs.Digits.{hex2, hex16};
 
 /// The two lower-case digits of each byte, one byte after another.
@@ -34,19 +34,6 @@ fn write_pair(buf: &mut [u8], at: usize, byte: u8)
     let from = 2 * byte as usize;
     buf[at + 1] = PAIRS[from + 1];
     buf[at] = PAIRS[from];
-}
-
-/// Writes a number's last two digits at a place where two zeros stand already.
-#[inline(always)]
-fn write_last(buf: &mut [u8], at: usize, number: u64)
-    requires room { at + 2 ≤ length buf.old }
-    requires zeros { drop at buf.old ≡ hex2 0 ++ drop (at + 2) buf.old }
-    ensures written { drop at buf.new ≡ hex2 (number % 256) ++ drop (at + 2) buf.old }
-    ensures before { take at buf.new ≡ take at buf.old }
-{
-    if number > 0 {
-        write_pair(buf, at, (number % 256) as u8);
-    }
 }
 
 /// Writes bytes so that they end at `end`, and answers where they start.
@@ -83,8 +70,11 @@ pub(crate) fn write_hex(buf: &mut [u8], end: usize, number: u64) -> usize
     let mut at = end;
     let mut rest = number;
     for _pair in 0..8_usize {
+        if rest == 0 {
+            break;
+        }
         at -= 2;
-        write_last(buf, at, rest);
+        write_pair(buf, at, (rest % 256) as u8);
         rest /= 256;
     }
     start
