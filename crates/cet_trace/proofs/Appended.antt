@@ -1,23 +1,7 @@
 -- What items give, one after another.
-use Rattle.std.proofs.Common.{ℕ, suc, ◌+◌, ◌<◌, ◌≡◌, List, [], ◌∷◌, ◌++◌, length, drop, take, get_or, Some, sym, ◌∙◌, ap, arith}
-use Rattle.std.proofs.lemmas.List.{append_assoc, append-nil, drop_more, take_more, length-take-le}
-use Rattle.std.proofs.lemmas.Option.{slice_get_within, get_or_from_slice_get}
-use Rattle.std.specs.List.{flat_map, enumerate_from, slice_get}
-
-module _ {X A : Type 0} (f : X → List A) where
-  -- the text of what is left begins with that of the item here
-  flat_map_next : (xs : List X) (i : ℕ) (x : X) → slice_get xs i ≡ Some x → flat_map f (drop i xs) ≡ f x ++ flat_map f (drop (i + 1) xs)
-  flat_map_next xs i x here =
-      ap (λ (l : List X). flat_map f l) (drop_more xs i x (slice_get_within xs i x here))
-      ∙ ap (λ (y : X). f y ++ flat_map f (drop (i + 1) xs)) (get_or_from_slice_get xs i x x here)
-
-  -- with the text of the item here appended, that of the rest is still to come
-  pub item_appended : (xs : List X) (i : ℕ) (x : X) (out new all : List A) → slice_get xs i ≡ Some x → new ≡ out ++ f x → out ++ flat_map f (drop i xs) ≡ all → new ++ flat_map f (drop (i + 1) xs) ≡ all
-  item_appended xs i x out new all here appended so_far =
-      ap (λ (l : List A). l ++ flat_map f (drop (i + 1) xs)) appended
-      ∙ append_assoc out (f x) (flat_map f (drop (i + 1) xs))
-      ∙ ap (λ (l : List A). out ++ l) (sym (flat_map_next xs i x here))
-      ∙ so_far
+use Rattle.std.proofs.Common.{ℕ, suc, ◌+◌, ◌<◌, ◌≡◌, List, [], ◌∷◌, ◌++◌, length, take, get_or, sym, ◌∙◌, ap, arith}
+use Rattle.std.proofs.lemmas.List.{append_assoc, append-nil, take_more, length-take-le}
+use Rattle.std.specs.List.{flat_map, enumerate_from}
 
 module _ {X : Type 0} (f : ℕ × X → List ℕ) where
   numbered_push : (n : ℕ) (xs : List X) (x : X) → flat_map f (enumerate_from n (xs ++ x ∷ [])) ≡ flat_map f (enumerate_from n xs) ++ f (n + length xs, x)

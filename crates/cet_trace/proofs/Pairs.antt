@@ -1,6 +1,7 @@
 -- Hexadecimal digits, two at a time.
-use Rattle.std.proofs.Common.{◌≡◌, ℕ, zero, suc, ◌+◌, ◌-◌, ◌*◌, ◌/◌, ◌%◌, ◌^◌, ◌<◌, ◌≤◌, true, eqb, false, List, ◌∷◌, ◌++◌, drop, get_or, append_assoc, refl, ap, sym, ◌∙◌, arith}
+use Rattle.std.proofs.Common.{◌≡◌, ℕ, zero, suc, ◌+◌, ◌-◌, ◌*◌, ◌/◌, ◌%◌, ◌^◌, ◌<◌, ◌≤◌, true, eqb, false, List, ◌∷◌, ◌++◌, take, drop, get_or, append_assoc, refl, ap, sym, ◌∙◌, arith}
 use Rattle.std.specs.Fmt.{digit_glyph}
+use Rattle.std.proofs.lemmas.List.{drop-drop, drop-take, take-append-drop}
 use Rattle.std.proofs.lemmas.Bool.{agree_below_at, eqb-true}
 use Rattle.std.proofs.Math.Nat.{div-div-eq-div-mul, pow-succ'}
 use Rattle.cet_base.specs.Digits.{hex_digit_at, hex_digits, hex2}
@@ -39,3 +40,32 @@ pair_written pair at rest before after all more room written so_far =
     ∙ sym (append_assoc (hex_digits k (rest / 256)) (hex2 (rest % 256)) (drop at before))
     ∙ ap (λ ds. ds ++ drop at before) (sym (hex_digits_more k rest) ∙ ap (λ m. hex_digits m rest) left)
     ∙ so_far
+
+take_digits : (k n : ℕ) (after : List ℕ) → take k (hex_digits k n ++ after) ≡ hex_digits k n
+take_digits zero n after = refl
+take_digits (suc k) n after = ap (λ (ds : List ℕ). hex_digit_at n k ∷ ds) (take_digits k n after)
+
+drop_digits : (k n : ℕ) (after : List ℕ) → drop k (hex_digits k n ++ after) ≡ after
+drop_digits zero n after = refl
+drop_digits (suc k) n after = drop_digits k n after
+
+-- behind digits stands what was there
+pub past_digits : (start k n : ℕ) (buf after : List ℕ) → drop start buf ≡ hex_digits k n ++ after → drop (start + k) buf ≡ after
+past_digits start k n buf after written = sym (drop-drop k start buf) ∙ ap (λ (l : List ℕ). drop k l) written ∙ drop_digits k n after
+
+-- the zeros before a place stay where what is before it stays
+pub zeros_kept : (start k : ℕ) (before after rest : List ℕ) → take (start + k) after ≡ take (start + k) before → drop start before ≡ hex_digits k 0 ++ rest
+    → drop start after ≡ hex_digits k 0 ++ drop (start + k) after
+zeros_kept start k before after rest same zeros =
+    let head : take k (drop start after) ≡ hex_digits k 0 =
+    sym (drop-take start k after) ∙ ap (λ (l : List ℕ). drop start l) same ∙ drop-take start k before ∙ ap (λ (l : List ℕ). take k l) zeros ∙ take_digits k 0 rest in
+    sym (take-append-drop k (drop start after))
+    ∙ ap (λ (l : List ℕ). l ++ drop k (drop start after)) head
+    ∙ ap (λ (l : List ℕ). hex_digits k 0 ++ l) (drop-drop k start after)
+
+-- one pair less of the zeros is left
+pub fewer_zeros : (start at k : ℕ) (before after : List ℕ) → start + suc (suc k) ≡ at → take (start + k) after ≡ take (start + k) before
+    → drop start before ≡ hex_digits (suc (suc k)) 0 ++ drop at before → drop start after ≡ hex_digits k 0 ++ drop (start + k) after
+fewer_zeros start at k before after place same zeros =
+    zeros_kept start k before after (hex2 0 ++ drop at before) same
+    (zeros ∙ ap (λ (l : List ℕ). l ++ drop at before) (hex_digits_more k 0) ∙ append_assoc (hex_digits k 0) (hex2 0) (drop at before))

@@ -1,17 +1,12 @@
 -- Lines that are written from their ends.
 use Rattle.std.proofs.Common.{◌≡◌, ℕ, ◌≤◌, List, [], ◌∷◌, ◌++◌, length, append_assoc, refl, ap, sym, ◌∙◌, arith}
 use Rattle.std.specs.List.{flat_map}
-use Rattle.cet_base.specs.Digits.{hex16}
 use Rattle.cet_isa.specs.declared.threads.FaultName.{FaultName}
 use Rattle.cet_isa.specs.declared.threads.FaultName.TheVariants as fault
 use Rattle.cet_isa.specs.declared.threads.What.{What}
 use Rattle.cet_isa.specs.declared.threads.What.TheVariants as what
 use Rattle.cet_trace.specs.Line.{spaced, line}
 use Rattle.cet_trace.specs.Report.{fault_name, record_name}
-
-pub length-hex16 : (n : ℕ) → length (hex16 n) ≡ 16
-unfolding hex16
-length-hex16 n = refl
 
 length-fault_name : (name : FaultName) → length (fault_name name) ≡ 3
 length-fault_name fault.Ud = refl
@@ -38,18 +33,25 @@ length-record_name what.SigReturn = omega arith
 length-record_name (what.Fault name) = omega (arith, length-fault_name name)
 length-record_name what.Kill = omega arith
 
--- what stands of a line: these words after a space each, and the newline
-pub record IsEnd (words : List (List ℕ)) (text : List ℕ) : Type 0 where
-  pub is : text ≡ flat_map spaced words ++ 10 ∷ []
+-- what stands of a line: these words after a space each, the newline, and what follows the line
+pub record IsEnd (words : List (List ℕ)) (behind text : List ℕ) : Type 0 where
+  pub is : text ≡ flat_map spaced words ++ 10 ∷ behind
 
-pub newline : IsEnd [] (10 ∷ [])
-newline = record { is = refl }
+pub newline : {behind text : List ℕ} → text ≡ 10 ∷ behind → IsEnd [] behind text
+newline written = record { is = written }
 
 -- a word more
-pub spaced_more : (word : List ℕ) {words : List (List ℕ)} {before after : List ℕ} → IsEnd words before → after ≡ spaced word ++ before → IsEnd (word ∷ words) after
-spaced_more word {words} e written = record { is = written ∙ ap (λ (l : List ℕ). spaced word ++ l) e.is ∙ sym (append_assoc (spaced word) (flat_map spaced words) (10 ∷ [])) }
+pub spaced_more : (word : List ℕ) {words : List (List ℕ)} {behind before after : List ℕ} → IsEnd words behind before → after ≡ spaced word ++ before → IsEnd (word ∷ words) behind after
+spaced_more word {words} {behind} e written = record { is = written ∙ ap (λ (l : List ℕ). spaced word ++ l) e.is ∙ sym (append_assoc (spaced word) (flat_map spaced words) (10 ∷ behind)) }
+
+-- a word more, whose space was written after it
+pub word_more : (word : List ℕ) {words : List (List ℕ)} {behind before middle after : List ℕ} → IsEnd words behind before → middle ≡ word ++ before → after ≡ 32 ∷ middle → IsEnd (word ∷ words) behind after
+word_more word e written space = spaced_more word e (space ∙ ap (λ (l : List ℕ). 32 ∷ l) written)
 
 -- the first word makes the line whole
-pub line_whole : (first : List ℕ) {words : List (List ℕ)} {before after : List ℕ} → IsEnd words before → after ≡ first ++ before → after ≡ line first words
+pub line_whole : (first : List ℕ) {words : List (List ℕ)} {behind before after : List ℕ} → IsEnd words behind before → after ≡ first ++ before → after ≡ line first words ++ behind
 unfolding line
-line_whole first {words} e written = written ∙ ap (λ (l : List ℕ). first ++ l) e.is ∙ sym (append_assoc first (flat_map spaced words) (10 ∷ []))
+line_whole first {words} {behind} e written =
+    written ∙ ap (λ (l : List ℕ). first ++ l) e.is
+    ∙ sym (append_assoc first (flat_map spaced words) (10 ∷ behind))
+    ∙ sym (append_assoc (first ++ flat_map spaced words) (10 ∷ []) behind)

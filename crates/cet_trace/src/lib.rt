@@ -3,6 +3,7 @@
 
 mod digits;
 mod lines;
+mod records;
 mod reports;
 mod summaries;
 #[cfg(test)]

@@ -7,12 +7,7 @@ ghost use Rattle.cet_trace.specs.Line.{word_text, spaced, line};
 use crate::digits::write_hex;
 use cet_base::put_decimal;
 use cet_words::{Bytes, NoMemory};
-use itoa::write_digits;
 use std::alloc::Global;
-
-/// The bytes of a record's line at most: five spaces and the newline, 48 hexadecimal digits, a name of
-/// six letters, and 20 and 10 decimal digits.
-pub(crate) const LINE: usize = 90;
 
 /// A word of a line.
 #[derive(Clone, Copy, Debug, PartialEq, Eq)]
@@ -22,43 +17,6 @@ pub(crate) enum Word {
     Decimal(u64),
     /// Sixteen hexadecimal digits.
     Hex(u64),
-}
-
-#[inline(always)]
-fn write_text(buf: &mut [u8], end: usize, text: &str) -> usize
-    requires { (length text.now ≤ end) × (end ≤ length buf.old) }
-    ensures start { result + length text.now ≡ end }
-    ensures written { drop result buf.new ≡ text.now ++ drop end buf.old }
-{
-    let at = end - text.len();
-    buf[at..end].copy_from_slice(text.as_bytes());
-    at
-}
-
-/// Writes a word so that it ends at `end`, and answers where it starts.
-#[inline(always)]
-pub(crate) fn write_word(buf: &mut [u8], end: usize, word: Word) -> usize
-    requires { (length (word_text word) ≤ end) × (end ≤ length buf.old) }
-    ensures start { result + length (word_text word) ≡ end }
-    ensures written { drop result buf.new ≡ word_text word ++ drop end buf.old }
-{
-    match word {
-        Word::Text(text) => write_text(buf, end, text),
-        Word::Decimal(number) => write_digits(number, buf, end),
-        Word::Hex(number) => write_hex(buf, end, number),
-    }
-}
-
-/// Writes a word with a space before it so that it ends at `end`, and answers where the space is.
-#[inline(always)]
-pub(crate) fn write_spaced(buf: &mut [u8], end: usize, word: Word) -> usize
-    requires { (length (word_text word) < end) × (end ≤ length buf.old) }
-    ensures start { result + 1 + length (word_text word) ≡ end }
-    ensures written { drop result buf.new ≡ spaced (word_text word) ++ drop end buf.old }
-{
-    let at = write_word(buf, end, word) - 1;
-    buf[at] = b' ';
-    at
 }
 
 fn put_word(alloc: Global, out: &mut Bytes, word: Word) -> Result<(), NoMemory>

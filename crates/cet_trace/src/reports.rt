@@ -1,88 +1,21 @@
 //! The text of a report.
 
-ghost use Rattle.std.specs.Prelude.{◌≡◌, ◌++◌, drop, map, OnOk, IfOk};
+ghost use Rattle.std.specs.Prelude.{◌≡◌, ◌≤◌, ◌++◌, length, map, OnOk, IfOk};
 ghost use Rattle.std.specs.List.{flat_map, enumerate_from};
 ghost use Rattle.cet_trace.specs.Line.{line, word_text};
-ghost use Rattle.cet_trace.specs.Report.{fault_name, record_name, record_text, thread_line, thread_text, entry_text, shown_from, shown_entries, stack_line, stack_text, process_text, process_words, report_of};
+ghost use Rattle.cet_trace.specs.Report.{thread_line, thread_text, entry_text, shown_from, shown_entries, stack_line, stack_text, process_text, process_words, report_of};
 
-use crate::lines::{LINE, Word, put_line, write_spaced, write_word};
+use crate::lines::{Word, put_line};
+use crate::records::put_records;
 use cet_base::Style;
 use cet_book::{Shown, StackReport};
-use cet_isa::{End, FaultName, Record, What};
+use cet_isa::End;
 use cet_run::{Outcome, ProcessEnd, Records, ThreadOut};
 use cet_words::{Bytes, NoMemory};
 use std::alloc::Global;
 
 /// The mark of a frame in the word of an entry.
 const FRAME: u64 = 1 << 63;
-
-fn fault_name(name: FaultName) -> &'static str
-    ensures { result.now ≡ fault_name name }
-{
-    match name {
-        FaultName::Ud => "#UD",
-        FaultName::Gp => "#GP",
-        FaultName::Pf => "#PF",
-        FaultName::Ac => "#AC",
-        FaultName::Cp => "#CP",
-    }
-}
-
-fn record_name(what: What) -> &'static str
-    ensures { result.now ≡ record_name what }
-{
-    match what {
-        What::Step => "step",
-        What::Call => "call",
-        What::Ret => "ret",
-        What::Raise => "raise",
-        What::Take => "take",
-        What::Save => "save",
-        What::Busy => "busy",
-        What::Sys => "sys",
-        What::Claim => "claim",
-        What::Born => "born",
-        What::Wrote => "wrote",
-        What::Signal => "signal",
-        What::Ignore => "ignore",
-        What::SigReturn => "sigret",
-        What::Fault(name) => fault_name(name),
-        What::Kill => "kill",
-    }
-}
-
-/// Appends a record of the thread of this number. Its line is written from its end, and appended in one
-/// piece.
-#[tactic(auto, unfolding(crate::specs::Report::record_text))]
-fn put_record(alloc: Global, out: &mut Bytes, number: u64, noted: Record) -> Result<(), NoMemory>
-    ensures { OnOk result (out.new ≡ out.old ++ record_text number noted) }
-{
-    let mut line = [b'\n'; LINE];
-    let at = write_spaced(&mut line, LINE - 1, Word::Hex(noted.b));
-    let at = write_spaced(&mut line, at, Word::Hex(noted.a));
-    let at = write_spaced(&mut line, at, Word::Decimal(u64::from(noted.code)));
-    let at = write_spaced(&mut line, at, Word::Hex(noted.rip));
-    let at = write_spaced(&mut line, at, Word::Text(record_name(noted.what)));
-    let at = write_word(&mut line, at, Word::Decimal(number));
-    out.extend(alloc, &line[at..])
-}
-
-/// Appends the records from a place on.
-fn put_records(
-    alloc: Global,
-    out: &mut Bytes,
-    number: u64,
-    records: &Records,
-    from: usize,
-) -> Result<(), NoMemory>
-    ensures { OnOk result (out.new ≡ out.old ++ flat_map (record_text number) (drop from records.now)) }
-{
-    for at in from..records.len() {
-        let noted = records.get(at).unwrap();
-        put_record(alloc, out, number, noted)?;
-    }
-    Ok(())
-}
 
 /// Appends the first line of a thread.
 #[tactic(auto, unfolding(crate::specs::Report::thread_line))]
@@ -120,7 +53,8 @@ fn put_thread_line(
 }
 
 fn shown_from(style: Style, records: &Records) -> usize
-    ensures { result ≡ shown_from style records.now }
+    ensures value { result ≡ shown_from style records.now }
+    ensures within { result ≤ length records.now }
 {
     match style {
         Style::Full => 0,

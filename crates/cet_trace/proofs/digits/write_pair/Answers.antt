@@ -4,8 +4,8 @@ use Rattle.cet_base.specs.Digits.{hex_digit_at}
 use Rattle.cet_trace.proofs.Pairs.{high_of, low_of}
 use Rattle.cet_trace.proofs.digits.write_pair.Goals as goal
 
-pub returns : goal.returns
-returns c =
+pub returns-clause-written : goal.returns-clause-written
+returns-clause-written c =
     let buf = c.args.buf.now in
     let at = c.args.at in
     let byte = c.args.byte in
