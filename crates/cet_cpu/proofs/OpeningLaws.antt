@@ -20,7 +20,7 @@ plain : Marks marks.Plain no_changes
 plain = (λ answer held. refl, λ answer. refl)
 
 -- nothing is due, so the row is the boundary's
-at_boundary : (job : JobData) (arch : Arch) → arch.due ≡ None → due_signal job arch ≡ None → row job arch ≡ boundary job arch
+pub at_boundary : (job : JobData) (arch : Arch) → arch.due ≡ None → due_signal job arch ≡ None → row job arch ≡ boundary job arch
 at_boundary job arch fault signal =
     subst (λ (o : Option Fault). row_from job arch o ≡ boundary job arch) (sym fault)
     (subst (λ (o : Option ℕ). between job arch o ≡ boundary job arch) (sym signal) refl)

@@ -1,11 +1,8 @@
 -- What a function comes to that changes a thread's state in its place. Source: own.
-use Rattle.std.specs.Prelude.{◌≡◌, ℕ, List, Result, Ok, Err}
+use Rattle.std.specs.Prelude.{◌≡◌, Result, Ok, Err}
 use Rattle.cet_isa.specs.declared.threads.Arch.{Arch}
 use Rattle.cet_page.specs.declared.cursors.Suspended.{Suspended}
 use Rattle.cet_page.specs.declared.finishes.Finish.{Finish}
-use Rattle.cet_page.specs.Plays.{Suspends}
-use Rattle.cet_page.specs.Script.{Played, Completed}
-use Rattle.cet_isa.specs.declared.threads.Record.{Record}
 use Rattle.cet_page.specs.declared.finishes.Finish.TheVariants as finish
 use Rattle.cet_cpu.specs.declared.kernel.RowEnd.{RowEnd}
 use Rattle.cet_cpu.specs.declared.kernel.RowEnd.TheVariants as row_end
@@ -24,8 +21,3 @@ Stays before after (Ok row_end.Posted) = Unit {0}
 Stays before after (Ok (row_end.Exited noted status)) = Unit {0}
 Stays before after (Ok row_end.Stopped) = after ≡ before
 Stays before after (Err stop) = after ≡ before
-
--- What a row has come to at an instruction that is carried: it is over with this state and this record, or nothing has changed.
-abbrev pub Carried : Played Finish → (before after : Arch) → Result Record Suspended → (left : ℕ) → List ℕ → Type 0
-Carried came before after (Ok noted) left values = came ≡ Completed (finish.Noted after noted) left values
-Carried came before after (Err stop) left values = (after ≡ before) × Suspends came stop

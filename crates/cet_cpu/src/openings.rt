@@ -1,10 +1,11 @@
 //! What a row opens with between two instructions: the loads of EXIT and of PEND.
 
-ghost use Rattle.std.specs.Prelude.{◌≡◌, ◌<◌, IfSome};
+ghost use Rattle.std.specs.Prelude.{◌≡◌, ◌<◌, true, IfSome};
 ghost use Rattle.cet_words.specs.Layout.{thread_limit};
 ghost use Rattle.cet_page.specs.Core.{row_played};
 ghost use Rattle.cet_page.specs.Plays.{Wanted};
 ghost use Rattle.cet_page.specs.declared.cursors.Mark.{Mark};
+ghost use Rattle.cet_cpu.specs.Carried.{IsOpened};
 
 use crate::signals::due_signal;
 use cet_isa::Arch;
@@ -32,7 +33,7 @@ pub fn opening(job: &Job, arch: &Arch, vals: &Vals) -> Option<Access>
 
 /// Whether the row has come to the instruction at RIP, behind the two accesses that it opens with: nothing is
 /// due, EXIT was 0, and no signal is pending that isn't masked.
-#[tactic(auto, using(crate::proofs::OpeningLaws::comes_to_instruction))]
+#[tactic(auto, using(crate::proofs::SignalLaws::lowest_none))]
 pub fn is_opened(job: &Job, arch: &Arch, vals: &Vals) -> bool
     ensures { result ≡ true → IsOpened job.now arch.now vals.now }
 {

@@ -1,6 +1,6 @@
 //! The row of a thread, from a boundary or a due fault to its next record.
 
-ghost use Rattle.std.specs.Prelude.{◌≡◌, ◌+◌, ◌-◌, ◌^◌, ◌<◌, ◌≤◌, None, IfSome};
+ghost use Rattle.std.specs.Prelude.{◌≡◌, ◌+◌, ◌-◌, ◌^◌, ◌<◌, ◌≤◌, IfSome};
 ghost use Rattle.cet_isa.specs.Reading.{decoded};
 ghost use Rattle.cet_words.specs.Layout.{thread_limit};
 ghost use Rattle.cet_page.specs.Script.{play};
@@ -8,7 +8,7 @@ ghost use Rattle.cet_page.specs.Plays.{RefinesBy};
 ghost use Rattle.cet_page.specs.Finish.{IsMade};
 ghost use Rattle.cet_page.specs.Posting.{due_signal, pending_signal, posting};
 ghost use Rattle.cet_page.specs.Row.{row, row_from, after_signals, between, boundary, instruction, fetched, instruction_bytes, execute};
-ghost use Rattle.cet_cpu.specs.Changes.{Carried, finish_with, Stays};
+ghost use Rattle.cet_cpu.specs.Changes.{finish_with, Stays};
 ghost use Rattle.cet_cpu.specs.Code.{IsCode};
 ghost use Rattle.cet_cpu.specs.Due.{IsDue};
 

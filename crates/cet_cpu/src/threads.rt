@@ -7,12 +7,13 @@ ghost use Rattle.cet_isa.specs.declared.threads.End.{End};
 ghost use Rattle.cet_isa.specs.declared.threads.FaultName.{FaultName};
 ghost use Rattle.cet_page.specs.Faults.{Faults};
 ghost use Rattle.cet_page.specs.Within.{IsCore};
-ghost use Rattle.cet_page.specs.Core.{row_played, core_by, noted_by, core_at, first_core, child_core, next_access, taken, recorded, fault_record};
+ghost use Rattle.cet_page.specs.Core.{row_played, core_by, noted_by, core_at, first_core, child_core, next_access, taken, recorded, faulted, fault_record};
 ghost use Rattle.cet_page.specs.Plays.{held_by};
 ghost use Rattle.cet_page.specs.Finish.{IsMade};
 ghost use Rattle.cet_page.specs.Entering.{AtGate, Enters};
 ghost use Rattle.cet_page.specs.Restoring.{AtRestore, Restores};
 ghost use Rattle.cet_page.specs.ValsData.{most_accesses, most_values, no_vals};
+ghost use Rattle.cet_cpu.specs.Carried.{ComesTo, ended};
 ghost use Rattle.cet_cpu.specs.Code.{IsCode};
 ghost use Rattle.cet_cpu.specs.Cpu.{awaited, RefinesRow, CpuData, IsCpu, IsNext, KeepsCode};
 ghost use Rattle.cet_words.specs.Layout.{thread_region_size, thread_limit};
@@ -292,6 +293,7 @@ impl Cpu {
     }
 
     /// Keeps the access that the thread waits for.
+    #[inline(always)]
     #[tactic(auto, using(cet_page::proofs::PlayLaws::wanted_access), unfolding(cet_page::specs::Core::next_access))]
     fn await_access(&mut self, job: &Job)
         requires state { IsCore job.now self.old.core }
@@ -310,6 +312,8 @@ impl Cpu {
     }
 
     /// The same, where the row must be played: a fault or a listed signal is due.
+    #[inline(never)]
+    #[tactic(auto, using(cet_page::proofs::PlayLaws::wanted_access), unfolding(cet_page::specs::Core::next_access))]
     fn await_played(&mut self, job: &Job)
         requires state { IsCore job.now self.old.core }
         requires goes { self.old.core.over ≡ None }
@@ -345,6 +349,7 @@ impl Cpu {
     }
 
     /// Takes the answer, and keeps the access that is waited for, but for the first one of a new row.
+    #[inline(always)]
     #[tactic(auto, unfolding(cet_page::specs::Core::taken, cet_page::specs::Core::next_access))]
     fn accept_answer(&mut self, job: &Job, answer: u64) -> Option<Record>
         requires state { IsCpu job.now self.old }
@@ -372,6 +377,8 @@ impl Cpu {
     }
 
     /// Goes on as far as the accesses so far lead: to the next one, or to the row's end.
+    #[inline(never)]
+    #[tactic(auto, unfolding(cet_page::specs::Core::next_access))]
     fn go_on(&mut self, job: &Job) -> Option<Record>
         requires count { self.old.core.arch.count < 2 ^ 32 - 1 }
         requires made { IsMade self.old.core.arch.made }
@@ -394,6 +401,11 @@ impl Cpu {
     /// where it isn't there yet.
     #[inline(always)]
     fn carrier(&mut self, job: &Job) -> Option<Family>
+        requires code { KeepsCode job.now self.old }
+        ensures comes { IfSome result (ComesTo job.now self.new) }
+        ensures core { self.new.core ≡ self.old.core }
+        ensures waits { self.new.next ≡ self.old.next }
+        ensures code { KeepsCode job.now self.new }
     {
         if !is_opened(job, &self.arch, &self.vals) || !is_canonical(self.arch.rip) {
             return None;
@@ -402,59 +414,125 @@ impl Cpu {
             self.code = Some(code_at(job.image, self.arch.rip));
         }
         match &self.code {
-            Some(Code { decoded: Decoded::Ok { instr, len: _ }, fetched: _ }) => Some(family_of(instr)),
+            Some(Code {
+                decoded: Decoded::Ok { instr, len: _ },
+                fetched: _,
+            }) => Some(family_of(instr)),
             _ => None,
         }
     }
 
-    #[inline(never)]
-    fn carry_arithmetic(&mut self, job: &Job) -> Option<Record>
+    /// What the row comes to at an instruction of moves and arithmetic.
+    #[inline(always)]
+    fn arithmetic_so_far(&mut self, job: &Job) -> Result<Record, Suspended>
+        requires count { self.old.core.arch.count < 2 ^ 32 - 1 }
+        requires comes { ComesTo job.now self.old Family.Arithmetic }
+        ensures came { RefinesRow (row_played job.now self.old.core.arch self.old.core.vals) self.old.core.arch self.new.core.arch (ended result) }
+        ensures core { self.new.core ≡ record self.old.core { arch = self.new.core.arch } }
+        ensures waits { self.new.next ≡ self.old.next }
+        ensures code { self.new.code ≡ self.old.code }
     {
-        let Some(Code { decoded: Decoded::Ok { instr, len }, fetched: _ }) = &self.code else {
+        let Some(Code {
+            decoded: Decoded::Ok { instr, len },
+            fetched: _,
+        }) = &self.code
+        else {
             unreachable!()
         };
         let next = self.arch.rip.wrapping_add(u64::from(*len));
+        // Nothing within a row depends on the supervisor stack that is held.
         let (number, held) = (self.arch.number, self.arch.held);
         self.arch.held = None;
         let came = cet_alu::follow(&mut self.arch, instr, next, &mut self.vals.behind(2));
         self.arch.number = number;
         self.arch.held = held;
-        self.carried(job, &came)
+        came
     }
 
-    #[inline(never)]
-    fn carry_flow(&mut self, job: &Job) -> Option<Record>
+    /// What the row comes to at an instruction of control flow and the program stack.
+    #[inline(always)]
+    fn flow_so_far(&mut self, job: &Job) -> Result<Record, Suspended>
+        requires count { self.old.core.arch.count < 2 ^ 32 - 1 }
+        requires comes { ComesTo job.now self.old Family.Flow }
+        ensures came { RefinesRow (row_played job.now self.old.core.arch self.old.core.vals) self.old.core.arch self.new.core.arch (ended result) }
+        ensures core { self.new.core ≡ record self.old.core { arch = self.new.core.arch } }
+        ensures waits { self.new.next ≡ self.old.next }
+        ensures code { self.new.code ≡ self.old.code }
     {
-        let Some(Code { decoded: Decoded::Ok { instr, len }, fetched: _ }) = &self.code else {
+        let Some(Code {
+            decoded: Decoded::Ok { instr, len },
+            fetched: _,
+        }) = &self.code
+        else {
             unreachable!()
         };
         let next = self.arch.rip.wrapping_add(u64::from(*len));
+        // Nothing within a row depends on the supervisor stack that is held.
         let (number, held) = (self.arch.number, self.arch.held);
         self.arch.held = None;
         let came = cet_flow::follow(&mut self.arch, instr, next, &mut self.vals.behind(2));
         self.arch.number = number;
         self.arch.held = held;
-        self.carried(job, &came)
+        came
     }
 
+    /// Goes on by an instruction of moves and arithmetic.
     #[inline(always)]
-    fn carried(&mut self, job: &Job, came: &Result<Record, Suspended>) -> Option<Record>
+    #[tactic(auto, unfolding(cet_page::specs::Core::next_access))]
+    fn carry_arithmetic(&mut self, job: &Job) -> Option<Record>
+        requires count { self.old.core.arch.count < 2 ^ 32 - 1 }
+        requires comes { ComesTo job.now self.old Family.Arithmetic }
+        requires going { self.old.core.over ≡ None }
+        ensures core { self.new.core ≡ core_by job.now self.old.core.arch self.old.core.arch.held self.old.core.vals (row_played job.now self.old.core.arch self.old.core.vals) }
+        ensures noted { result ≡ noted_by self.old.core.arch (row_played job.now self.old.core.arch self.old.core.vals) }
+        ensures waits { IfSome self.new.next (IsNext job.now self.new.core) }
+        ensures code { KeepsCode job.now self.new }
     {
-        match came {
+        match self.arithmetic_so_far(job) {
             Ok(noted) => {
                 self.end_row(job);
-                Some(*noted)
+                Some(noted)
             }
             Err(Suspended::Access(access, mark)) => {
-                self.next = Some((*access, *mark));
+                self.next = Some((access, mark));
                 None
             }
-            Err(Suspended::Fault(fault)) => Some(self.fault(job, *fault)),
+            Err(Suspended::Fault(fault)) => Some(self.fault(job, fault)),
+        }
+    }
+
+    /// Goes on by an instruction of control flow and the program stack.
+    #[inline(always)]
+    #[tactic(auto, unfolding(cet_page::specs::Core::next_access))]
+    fn carry_flow(&mut self, job: &Job) -> Option<Record>
+        requires count { self.old.core.arch.count < 2 ^ 32 - 1 }
+        requires comes { ComesTo job.now self.old Family.Flow }
+        requires going { self.old.core.over ≡ None }
+        ensures core { self.new.core ≡ core_by job.now self.old.core.arch self.old.core.arch.held self.old.core.vals (row_played job.now self.old.core.arch self.old.core.vals) }
+        ensures noted { result ≡ noted_by self.old.core.arch (row_played job.now self.old.core.arch self.old.core.vals) }
+        ensures waits { IfSome self.new.next (IsNext job.now self.new.core) }
+        ensures code { KeepsCode job.now self.new }
+    {
+        match self.flow_so_far(job) {
+            Ok(noted) => {
+                self.end_row(job);
+                Some(noted)
+            }
+            Err(Suspended::Access(access, mark)) => {
+                self.next = Some((access, mark));
+                None
+            }
+            Err(Suspended::Fault(fault)) => Some(self.fault(job, fault)),
         }
     }
 
     /// A fault is due, and the row ends with its record.
     fn fault(&mut self, job: &Job, fault: Fault) -> Record
+        requires count { self.old.core.arch.count < 2 ^ 32 - 1 }
+        ensures core { self.new.core ≡ recorded job.now (faulted self.old.core.arch fault) }
+        ensures noted { result ≡ fault_record self.old.core.arch fault }
+        ensures waits { self.new.next ≡ None }
+        ensures code { self.new.code ≡ None }
     {
         let noted = fault_record(&self.arch, &fault);
         self.arch.due = Some(fault);
@@ -465,6 +543,7 @@ impl Cpu {
 
     /// The same, by a play of the row from its start.
     #[inline(never)]
+    #[tactic(auto, unfolding(cet_page::specs::Core::next_access))]
     fn go_on_by_row(&mut self, job: &Job) -> Option<Record>
         requires count { self.old.core.arch.count < 2 ^ 32 - 1 }
         requires made { IsMade self.old.core.arch.made }
