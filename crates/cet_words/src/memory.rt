@@ -160,6 +160,7 @@ impl Plain {
 impl Perform for Plain {
     ghost words = { λ p. p };
 
+    #[inline(always)]
     fn perform(&mut self, access: Access) -> u64 {
         match access {
             Access::Look(page) => self.get(FIRST_ENTRY_WORD + page),
