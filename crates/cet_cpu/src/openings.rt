@@ -14,6 +14,7 @@ use cet_words::{Access, EXIT_WORD, Job, pend_word};
 
 /// The access that a row wants, where it is one of the two that it opens with: no fault and no listed signal
 /// is due, and EXIT, once loaded, was 0. It is known without a play of the row.
+#[inline(always)]
 #[tactic(auto, using(crate::proofs::OpeningLaws::wants_exit, crate::proofs::OpeningLaws::wants_pend))]
 pub fn opening(job: &Job, arch: &Arch, vals: &Vals) -> Option<Access>
     requires number { arch.now.number < thread_limit }
@@ -33,6 +34,7 @@ pub fn opening(job: &Job, arch: &Arch, vals: &Vals) -> Option<Access>
 
 /// Whether the row has come to the instruction at RIP, behind the two accesses that it opens with: nothing is
 /// due, EXIT was 0, and no signal is pending that isn't masked.
+#[inline(always)]
 #[tactic(auto, using(crate::proofs::SignalLaws::lowest_none))]
 pub fn is_opened(job: &Job, arch: &Arch, vals: &Vals) -> bool
     ensures { result ≡ true → IsOpened job.now arch.now vals.now }

@@ -220,6 +220,7 @@ impl Cpu {
 
     /// Takes the answer as `take` does, and answers the record alone. The thread that is born, if any, is
     /// that of `child` before this call. So the thread of most accesses, none, is handed to nobody.
+    #[inline(always)]
     #[tactic(auto, using(cet_page::proofs::WithinLaws::room, cet_page::proofs::WithinLaws::taken_at, cet_page::proofs::FaultLaws::faults_of, cet_page::proofs::RestoreLaws::restores_of))]
     pub fn accept(&mut self, job: &Job, answer: u64) -> Option<Record>
         requires state { IsCpu job.now self.old }

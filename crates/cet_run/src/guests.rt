@@ -33,6 +33,7 @@ fn push_live(live: &mut Vec<usize>, at: usize, traced: &TracedThread) -> Result<
 }
 
 /// The numbers of the live threads, in order.
+#[inline(never)]
 fn live_numbers(alloc: Global, all_traced: &[TracedThread]) -> Result<Vec<usize>, NoMemory>
     ensures { IfOk result (λ live. live.items ≡ live_from (threads_of all_traced.now) 0) }
 {
@@ -44,6 +45,7 @@ fn live_numbers(alloc: Global, all_traced: &[TracedThread]) -> Result<Vec<usize>
 }
 
 /// What the words answer to the next access of a thread.
+#[inline(always)]
 fn ask<P: Perform>(job: &Job, words: &mut P, all_traced: &[TracedThread], at: usize) -> u64
     requires cores { AllTraced job.now all_traced.now }
     requires range { at < length all_traced.now }
@@ -54,6 +56,7 @@ fn ask<P: Perform>(job: &Job, words: &mut P, all_traced: &[TracedThread], at: us
 }
 
 /// A thread takes the answer to its next access.
+#[inline(always)]
 fn take(
     alloc: Global,
     job: &Job,
@@ -71,6 +74,7 @@ fn take(
 }
 
 /// Keeps the numbers of the live threads, after the turn of one of them.
+#[inline(always)]
 fn keep_live(
     alloc: Global,
     live: &mut Vec<usize>,
@@ -129,6 +133,7 @@ impl Guests {
     }
 
     /// The thread that the next access of this one bears by this answer, if any, is born.
+    #[inline(always)]
     fn bear_by(&mut self, alloc: Global, job: &Job, at: usize, value: u64) -> Result<(), NoMemory>
         requires guests { AreGuests job.now self.old.all.items self.old.live.items }
         requires range { at < length self.old.all.items }
@@ -136,23 +141,31 @@ impl Guests {
         ensures bore { OnOk result (BoreAt job.now self.old.all.items self.new.all.items at value) }
         ensures guests { OnOk result (AreGuests job.now self.new.all.items self.new.live.items) }
     {
-        if self.all[at].bears(job, value) {
-            self.bear_child(alloc, job, at, value)
-        } else {
-            Ok(())
+        let parent = &self.all[at];
+        if !parent.bears(job, value) {
+            return Ok(());
         }
+        self.bear_child(alloc, job, at, value)
     }
 
+    /// The same, apart from the turns that bear nobody.
     #[inline(never)]
     fn bear_child(&mut self, alloc: Global, job: &Job, at: usize, value: u64) -> Result<(), NoMemory>
+        requires guests { AreGuests job.now self.old.all.items self.old.live.items }
+        requires range { at < length self.old.all.items }
+        requires going { IsGoing (threads_of self.old.all.items) at }
+        ensures bore { OnOk result (BoreAt job.now self.old.all.items self.new.all.items at value) }
+        ensures guests { OnOk result (AreGuests job.now self.new.all.items self.new.live.items) }
     {
-        match self.all[at].child(job, value) {
+        let parent = &self.all[at];
+        match parent.child(job, value) {
             Some(cpu) => self.bear(alloc, job, cpu),
             None => Ok(()),
         }
     }
 
     /// One turn of a live thread.
+    #[inline(always)]
     pub fn turn<P: Perform>(
         &mut self,
         alloc: Global,

@@ -71,6 +71,7 @@ impl TracedThread {
     }
 
     /// What the words answer to the thread's next access.
+    #[inline(always)]
     pub fn ask<P: Perform>(&self, job: &Job, words: &mut P) -> u64
         requires state { IsCpu job.now self.now.cpu }
         requires going { self.now.cpu.core.over ≡ None }
@@ -102,6 +103,7 @@ impl TracedThread {
     }
 
     /// The thread takes the answer to its next access, and keeps the record that this completes, if any.
+    #[inline(always)]
     pub fn take(&mut self, alloc: Global, job: &Job, value: u64) -> Result<(), NoMemory>
         requires state { IsCpu job.now self.old.cpu }
         requires going { self.old.cpu.core.over ≡ None }

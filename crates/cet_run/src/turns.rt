@@ -51,6 +51,7 @@ fn next_place(live: &[usize], place: usize) -> Option<usize>
 }
 
 /// A turn of a live thread by its place, and the place of the live thread after it.
+#[inline(always)]
 fn turn_at<P: Perform>(
     alloc: Global,
     job: &Job,
@@ -75,6 +76,7 @@ fn turn_at<P: Perform>(
 }
 
 /// Gives the threads turns by Robin until each has ended.
+#[inline(never)]
 pub(crate) fn give_robin<P: Perform>(
     alloc: Global,
     job: &Job,
@@ -94,6 +96,7 @@ pub(crate) fn give_robin<P: Perform>(
 }
 
 /// Gives the threads turns by the numbers of Mix until each has ended.
+#[inline(never)]
 pub(crate) fn give_mix<P: Perform>(
     alloc: Global,
     job: &Job,
@@ -137,6 +140,7 @@ fn give_turn<P: Perform>(
 }
 
 /// Gives the threads the turns of a list of their numbers.
+#[inline(never)]
 pub(crate) fn give_turns<P: Perform>(
     alloc: Global,
     job: &Job,

@@ -2,7 +2,7 @@ use Rattle.std.proofs.Common.{Some, None, ap, refl, sym, ◌∙◌}
 use Rattle.std.proofs.lemmas.Option.{slice_get-get_or}
 use Rattle.std.proofs.lemmas.Result.{on_ok_weaker}
 use Rattle.cet_run.proofs.Steps.{born_live}
-use Rattle.cet_run.proofs.guests.Guests.bear_by.Goals as goal
+use Rattle.cet_run.proofs.guests.Guests.bear_child.Goals as goal
 
 pub bear-requires-clause-lives : goal.bear-requires-clause-lives
 bear-requires-clause-lives c = born_live c.args.job.now c.index-parent.result.now.cpu.core c.args.value c.in-Some.cpu c.in-Some.ensures.child
