@@ -1,3 +1,4 @@
+pub mod Carried
 pub mod Changes
 pub mod Code
 pub mod Cpu
