@@ -9,8 +9,7 @@ ghost use Rattle.cet_page.specs.Arithmetic.{move, movzx, movsxd, cmov};
 
 use cet_isa::{Arch, Cond, Mem, Operand, Record, Reg, Size};
 use cet_page::{
-    Cursor, StatusFlags, Suspended, assign, effective, invalid_opcode, register_of, step,
-    truncated,
+    Cursor, StatusFlags, Suspended, assign, effective, invalid_opcode, register_of, step, truncated,
 };
 
 /// MOV to a register, or of 64 bits to memory.

@@ -54,9 +54,7 @@ pub fn follow(
             dst,
             src,
         } => cmov(arch, cond, size, dst, src, next, at),
-        Instr::Nop | Instr::Pause | Instr::Endbr64 => {
-            Ok(step(arch, next, 0))
-        }
+        Instr::Nop | Instr::Pause | Instr::Endbr64 => { Ok(step(arch, next, 0)) }
         Instr::Stc => Ok(set_carry(arch, true, next)),
         Instr::Clc => Ok(set_carry(arch, false, next)),
         _ => Err(invalid_opcode()),

@@ -1,7 +1,7 @@
 -- What a row wants between two instructions, before it has anything to do with the instruction. Source: own.
 use Rattle.std.proofs.Common.{◌≡◌, ℕ, ◌<◌, Option, None, ap, sym, subst, refl, arith}
 use Rattle.std.specs.Prelude.{List, [], ◌∷◌, length, slice_index}
-use Rattle.cet_words.specs.Layout.{exit_word, pend_word, word_count, thread_limit}
+use Rattle.cet_words.specs.Layout.{exit_word, pend_word, thread_limit}
 use Rattle.cet_words.specs.Job.{JobData}
 use Rattle.cet_words.specs.declared.accesses.Access.TheVariants as access
 use Rattle.cet_isa.specs.declared.threads.Arch.{Arch}

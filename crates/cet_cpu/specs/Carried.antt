@@ -1,5 +1,5 @@
 -- A row that has come to an instruction which has nothing to do with the kernel. Source: own.
-use Rattle.std.specs.Prelude.{◌≡◌, ℕ, ◌≤◌, true, length, slice_index, Option, Some, None, Result, Ok, Err}
+use Rattle.std.specs.Prelude.{◌≡◌, ◌≤◌, true, length, slice_index, Option, Some, None, Result, Ok, Err}
 use Rattle.cet_words.specs.Job.{JobData}
 use Rattle.cet_isa.specs.Address.{canonical}
 use Rattle.cet_isa.specs.declared.threads.Arch.{Arch}
@@ -40,7 +40,7 @@ pub record ComesTo (job : JobData) (cpu : CpuData) (family : Family) : Type 0 wh
   pub opened : IsOpened job cpu.core.arch cpu.core.vals
   pub address : canonical cpu.core.arch.rip ≡ true
   pub code : KeepsCode job cpu
-  pub family : HasFamily cpu.code family
+  pub part : HasFamily cpu.code family
 
 -- an instruction ends its row with a record
 abbrev pub ended : Result Record Suspended → Result RowEnd Suspended

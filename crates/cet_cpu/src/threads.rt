@@ -99,14 +99,19 @@ pub fn first(job: &Job) -> Cpu
     cpu
 }
 
-/// The supervisor stack that a thread holds after the answer to an access with this mark.
-fn held_by(mark: Mark, answer: u64, held: Option<u8>) -> Option<u8>
-    ensures { result ≡ held_by mark answer held }
+/// The supervisor stack that a thread holds is that after the answer to an access with this mark.
+#[inline(always)]
+fn hold(held: &mut Option<u8>, mark: Mark, answer: u64)
+    ensures { held.new ≡ held_by mark answer held.old }
 {
     match mark {
-        Mark::Takes(k) => { if answer == token(k) { Some(k) } else { held } }
-        Mark::Gives => None,
-        Mark::Plain | Mark::Bears(_) => held,
+        Mark::Plain | Mark::Bears(_) => {}
+        Mark::Takes(k) => {
+            if answer == token(k) {
+                *held = Some(k);
+            }
+        }
+        Mark::Gives => *held = None,
     }
 }
 
@@ -363,10 +368,7 @@ impl Cpu {
         ensures code { KeepsCode job.now self.new }
     {
         let (access, mark) = self.next?;
-        match mark {
-            Mark::Plain => {}
-            _ => self.arch.held = held_by(mark, answer, self.arch.held),
-        }
+        hold(&mut self.arch.held, mark, answer);
         self.vals.add(access, answer);
         match opening(job, &self.arch, &self.vals) {
             Some(access) => {
@@ -415,10 +417,12 @@ impl Cpu {
             self.code = Some(code_at(job.image, self.arch.rip));
         }
         match &self.code {
-            Some(Code {
-                decoded: Decoded::Ok { instr, len: _ },
-                fetched: _,
-            }) => Some(family_of(instr)),
+            Some(
+                Code {
+                    decoded: Decoded::Ok { instr, len: _ },
+                    fetched: _,
+                },
+            ) => Some(family_of(instr)),
             _ => None,
         }
     }
@@ -433,11 +437,10 @@ impl Cpu {
         ensures waits { self.new.next ≡ self.old.next }
         ensures code { self.new.code ≡ self.old.code }
     {
-        let Some(Code {
-            decoded: Decoded::Ok { instr, len },
-            fetched: _,
-        }) = &self.code
-        else {
+        let Some(code) = &self.code else {
+            unreachable!()
+        };
+        let Decoded::Ok { instr, len } = &code.decoded else {
             unreachable!()
         };
         let next = self.arch.rip.wrapping_add(u64::from(*len));
@@ -460,11 +463,10 @@ impl Cpu {
         ensures waits { self.new.next ≡ self.old.next }
         ensures code { self.new.code ≡ self.old.code }
     {
-        let Some(Code {
-            decoded: Decoded::Ok { instr, len },
-            fetched: _,
-        }) = &self.code
-        else {
+        let Some(code) = &self.code else {
+            unreachable!()
+        };
+        let Decoded::Ok { instr, len } = &code.decoded else {
             unreachable!()
         };
         let next = self.arch.rip.wrapping_add(u64::from(*len));

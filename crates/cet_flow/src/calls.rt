@@ -75,12 +75,7 @@ pub fn call_relative(
     call(arch, next, relative(next, disp), at)
 }
 
-fn call_to(
-    arch: &mut Arch,
-    back: u64,
-    target: u64,
-    at: &mut Cursor,
-) -> Result<Record, Suspended>
+fn call_to(arch: &mut Arch, back: u64, target: u64, at: &mut Cursor) -> Result<Record, Suspended>
     requires { arch.old.count < 2 ^ 32 - 1 }
     ensures { Follows (play (call_to arch.old back target) at.old.left at.old.rest.now) arch.old arch.new result at.new.left at.new.rest.now }
 {

@@ -10,12 +10,7 @@ use cet_page::{Cursor, Suspended, set_register, step};
 
 /// PUSH. The value is read before RSP changes.
 #[tactic(auto, using(cet_page::proofs::ScriptLaws::play_bind), unfolding(cet_page::specs::Flow::push))]
-pub fn push(
-    arch: &mut Arch,
-    src: Operand,
-    next: u64,
-    at: &mut Cursor,
-) -> Result<Record, Suspended>
+pub fn push(arch: &mut Arch, src: Operand, next: u64, at: &mut Cursor) -> Result<Record, Suspended>
     requires { arch.old.count < 2 ^ 32 - 1 }
     ensures { Follows (play (push arch.old src next) at.old.left at.old.rest.now) arch.old arch.new result at.new.left at.new.rest.now }
 {

@@ -15,9 +15,7 @@ ghost use Rattle.cet_isa.specs.Reading.{decoded, read_length};
 use crate::checks::{Kind, Who, page_fault};
 use crate::cursors::{Cursor, Suspended};
 use cet_isa::Arch;
-use cet_words::{
-    Access, Image, Job, Segment, code_byte, page_of, segment_at, segment_byte,
-};
+use cet_words::{Access, Image, Job, Segment, code_byte, page_of, segment_at, segment_byte};
 
 /// The segment of so many bytes of code from an address on, where they lie in one page.
 #[tactic(auto, using(crate::proofs::Runs::page_holds))]

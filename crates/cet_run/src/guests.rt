@@ -150,7 +150,13 @@ impl Guests {
 
     /// The same, apart from the turns that bear nobody.
     #[inline(never)]
-    fn bear_child(&mut self, alloc: Global, job: &Job, at: usize, value: u64) -> Result<(), NoMemory>
+    fn bear_child(
+        &mut self,
+        alloc: Global,
+        job: &Job,
+        at: usize,
+        value: u64,
+    ) -> Result<(), NoMemory>
         requires guests { AreGuests job.now self.old.all.items self.old.live.items }
         requires range { at < length self.old.all.items }
         requires going { IsGoing (threads_of self.old.all.items) at }

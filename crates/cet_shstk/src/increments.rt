@@ -39,12 +39,7 @@ fn look_last(count: u8, addr: u64, at: &mut Cursor) -> Result<u32, Suspended>
 
 /// INCSSPQ by so many elements. The first and the last of them are touched; for a count of 0 both looks are at SSP.
 #[tactic(auto, using(cet_page::proofs::ScriptLaws::play_bind), unfolding(cet_page::specs::ShadowStacks::incsspq))]
-pub fn incsspq(
-    arch: &mut Arch,
-    count: u8,
-    next: u64,
-    at: &mut Cursor,
-) -> Result<Record, Suspended>
+pub fn incsspq(arch: &mut Arch, count: u8, next: u64, at: &mut Cursor) -> Result<Record, Suspended>
     requires { arch.old.count < 2 ^ 32 - 1 }
     ensures { Follows (play (incsspq arch.old count next) at.old.left at.old.rest.now) arch.old arch.new result at.new.left at.new.rest.now }
 {

@@ -46,12 +46,7 @@ fn no_restore_token(addr: u64, found: u64) -> Fault
 /// RSTORSSP at an address, where a misaligned address is #GP(0). The token is tested and replaced by one
 /// exchange, so of two threads that want it one gets it.
 #[tactic(auto, using(cet_page::proofs::ScriptLaws::play_bind), unfolding(cet_page::specs::ShadowStacks::rstorssp, cet_page::specs::Parts::compare_exchange_as))]
-pub fn rstorssp(
-    arch: &mut Arch,
-    addr: u64,
-    next: u64,
-    at: &mut Cursor,
-) -> Result<Record, Suspended>
+pub fn rstorssp(arch: &mut Arch, addr: u64, next: u64, at: &mut Cursor) -> Result<Record, Suspended>
     requires { arch.old.count < 2 ^ 32 - 1 }
     ensures { Follows (play (rstorssp arch.old addr next) at.old.left at.old.rest.now) arch.old arch.new result at.new.left at.new.rest.now }
 {

@@ -44,12 +44,7 @@ fn save(arch: &mut Arch, ssp: u64, next: u64, at: &mut Cursor) -> Result<Record,
 }
 
 /// The address of the token must be canonical, else #GP(0).
-fn save_checked(
-    arch: &mut Arch,
-    ssp: u64,
-    next: u64,
-    at: &mut Cursor,
-) -> Result<Record, Suspended>
+fn save_checked(arch: &mut Arch, ssp: u64, next: u64, at: &mut Cursor) -> Result<Record, Suspended>
     requires { arch.old.count < 2 ^ 32 - 1 }
     ensures { Follows (play (save_checked arch.old ssp next) at.old.left at.old.rest.now) arch.old arch.new result at.new.left at.new.rest.now }
 {

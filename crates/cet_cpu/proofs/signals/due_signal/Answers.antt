@@ -1,4 +1,4 @@
-use Rattle.std.proofs.Common.{◌≡◌, ◌∙◌, sym, ap, refl}
+use Rattle.std.proofs.Common.{◌∙◌, sym, ap, refl}
 use Rattle.std.specs.Prelude.{option_copied}
 use Rattle.cet_cpu.proofs.SignalLaws.{due_at}
 use Rattle.cet_cpu.proofs.signals.due_signal.Goals as goal

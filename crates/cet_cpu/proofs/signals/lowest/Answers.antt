@@ -1,5 +1,4 @@
-use Rattle.std.proofs.Common.{◌≡◌, ◌∙◌, sym, arith}
-use Rattle.std.proofs.lemmas.Bool.Decides.{nat_tests}
+use Rattle.std.proofs.Common.{◌∙◌, sym, arith}
 use Rattle.cet_cpu.proofs.SignalLaws.{lowest_here, lowest_later, lowest_end}
 use Rattle.cet_cpu.proofs.signals.lowest.Goals as goal
 
