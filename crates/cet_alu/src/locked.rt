@@ -57,7 +57,7 @@ pub fn lock_xadd(
     let found = at.fetch_add(word, added)?;
     let flags = sum(Size::Qword, found, added, false).flags.rflags();
     set_register(arch, reg, found);
-    Ok(step_with(arch, flags, next, found))
+    Ok(step_with(arch, next, flags, found))
 }
 
 /// RAX gets the word that was found, if it differs.
@@ -88,5 +88,5 @@ pub fn lock_cmpxchg(
         .flags
         .rflags();
     take_found(arch, found);
-    Ok(step_with(arch, flags, next, found))
+    Ok(step_with(arch, next, flags, found))
 }

@@ -181,5 +181,5 @@ pub fn set_carry(arch: &mut Arch, carry: bool, next: u64) -> Record
 {
     let mut flags = StatusFlags::of(arch.flags);
     flags.cf = carry;
-    step_with(arch, flags.rflags(), next, 0)
+    step_with(arch, next, flags.rflags(), 0)
 }

@@ -18,8 +18,8 @@ use cet_page::{Cursor, Next, Suspended, Vals, assign, invalid_opcode, next_addre
 use cet_words::Job;
 
 /// What an instruction of this crate comes to over the accesses that were made: its record, with the
-/// state changed in its place, an access that it wants, or a fault. `next` is the address of the next instruction. Every
-/// other instruction is an invalid opcode.
+/// state changed in its place, or an access that it wants or a fault, with the state as it was. `next` is
+/// the address of the next instruction. Every other instruction is an invalid opcode.
 pub fn follow(
     arch: &mut Arch,
     instr: &Instr,
@@ -54,7 +54,7 @@ pub fn follow(
             dst,
             src,
         } => cmov(arch, cond, size, dst, src, next, at),
-        Instr::Nop | Instr::Pause | Instr::Endbr64 => { Ok(step(arch, next, 0)) }
+        Instr::Nop | Instr::Pause | Instr::Endbr64 => Ok(step(arch, next, 0)),
         Instr::Stc => Ok(set_carry(arch, true, next)),
         Instr::Clc => Ok(set_carry(arch, false, next)),
         _ => Err(invalid_opcode()),

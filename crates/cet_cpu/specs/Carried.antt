@@ -1,4 +1,4 @@
--- A row that has come to an instruction which has nothing to do with the kernel. Source: own.
+-- A row that has come to the instruction at RIP. Source: own.
 use Rattle.std.specs.Prelude.{◌≡◌, ◌≤◌, true, length, slice_index, Option, Some, None, Result, Ok, Err}
 use Rattle.cet_words.specs.Job.{JobData}
 use Rattle.cet_isa.specs.Address.{canonical}

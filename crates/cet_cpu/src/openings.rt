@@ -1,9 +1,10 @@
 //! What a row opens with between two instructions: the loads of EXIT and of PEND.
 
-ghost use Rattle.std.specs.Prelude.{◌≡◌, ◌<◌, true, IfSome};
+ghost use Rattle.std.specs.Prelude.{◌≡◌, ◌<◌, true, false, None, IfSome};
 ghost use Rattle.cet_words.specs.Layout.{thread_limit};
 ghost use Rattle.cet_page.specs.Core.{row_played};
 ghost use Rattle.cet_page.specs.Plays.{Wanted};
+ghost use Rattle.cet_page.specs.Posting.{due_signal};
 ghost use Rattle.cet_page.specs.declared.cursors.Mark.{Mark};
 ghost use Rattle.cet_cpu.specs.Carried.{IsOpened};
 
@@ -11,6 +12,14 @@ use crate::signals::due_signal;
 use cet_isa::Arch;
 use cet_page::Vals;
 use cet_words::{Access, EXIT_WORD, Job, pend_word};
+
+/// Whether a fault or a listed signal is due.
+#[inline(always)]
+fn is_due(job: &Job, arch: &Arch) -> bool
+    ensures { result ≡ false → (arch.now.due ≡ None) × (due_signal job.now arch.now ≡ None) }
+{
+    arch.due.is_some() || due_signal(job, arch).is_some()
+}
 
 /// The access that a row wants, where it is one of the two that it opens with: no fault and no listed signal
 /// is due, and EXIT, once loaded, was 0. It is known without a play of the row.
@@ -20,7 +29,7 @@ pub fn opening(job: &Job, arch: &Arch, vals: &Vals) -> Option<Access>
     requires number { arch.now.number < thread_limit }
     ensures { IfSome result (λ access. Wanted (row_played job.now arch.now vals.now) access Mark.Plain) }
 {
-    if vals.done() > 1 || arch.due.is_some() || due_signal(job, arch).is_some() {
+    if vals.done() > 1 || is_due(job, arch) {
         return None;
     }
     if vals.done() == 0 {
@@ -43,6 +52,5 @@ pub fn is_opened(job: &Job, arch: &Arch, vals: &Vals) -> bool
         && vals.count() >= 2
         && vals.value(0) == 0
         && vals.value(1) & !arch.mask == 0
-        && arch.due.is_none()
-        && due_signal(job, arch).is_none()
+        && !is_due(job, arch)
 }

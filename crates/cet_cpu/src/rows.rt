@@ -7,7 +7,7 @@ ghost use Rattle.cet_page.specs.Script.{play};
 ghost use Rattle.cet_page.specs.Plays.{RefinesBy};
 ghost use Rattle.cet_page.specs.Finish.{IsMade};
 ghost use Rattle.cet_page.specs.Posting.{due_signal, pending_signal, posting};
-ghost use Rattle.cet_page.specs.Row.{row, row_from, after_signals, between, boundary, instruction, fetched, instruction_bytes, execute};
+ghost use Rattle.cet_page.specs.Row.{row, after_signals, between, boundary, instruction, fetched, instruction_bytes, execute};
 ghost use Rattle.cet_cpu.specs.Changes.{finish_with, Stays};
 ghost use Rattle.cet_cpu.specs.Code.{IsCode};
 ghost use Rattle.cet_cpu.specs.Due.{IsDue};

@@ -99,7 +99,7 @@ pub fn first(job: &Job) -> Cpu
     cpu
 }
 
-/// The supervisor stack that a thread holds is that after the answer to an access with this mark.
+/// Makes the supervisor stack that a thread holds that after the answer to an access with this mark.
 #[inline(always)]
 fn hold(held: &mut Option<u8>, mark: Mark, answer: u64)
     ensures { held.new ≡ held_by mark answer held.old }
@@ -239,6 +239,7 @@ impl Cpu {
         ensures restore { (p : ℕ) → AtRestore job.now self.old.core p → Restores job.now self.old.core self.new.core p answer result }
         ensures gate { AtGate job.now self.old.core → Enters job.now self.old.core self.new.core answer result }
     {
+        // Either arm waits by itself, so that most accesses, which complete no record, hand none on.
         match self.accept_answer(job, answer) {
             Some(noted) => {
                 self.await_access(job);
@@ -419,8 +420,8 @@ impl Cpu {
         match &self.code {
             Some(
                 Code {
-                    decoded: Decoded::Ok { instr, len: _ },
-                    fetched: _,
+                    decoded: Decoded::Ok { instr, .. },
+                    ..
                 },
             ) => Some(family_of(instr)),
             _ => None,
@@ -544,7 +545,7 @@ impl Cpu {
         noted
     }
 
-    /// The same, by a play of the row from its start.
+    /// Goes on by a play of the row from its start.
     #[inline(never)]
     #[tactic(auto, unfolding(cet_page::specs::Core::next_access))]
     fn go_on_by_row(&mut self, job: &Job) -> Option<Record>

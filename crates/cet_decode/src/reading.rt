@@ -5,7 +5,7 @@ ghost use Rattle.cet_isa.specs.Forms.{forms};
 ghost use Rattle.cet_isa.specs.Meaning.{operand_of};
 ghost use Rattle.cet_isa.specs.Spells.{has, allows, rex_pattern, places, imm_len, rex_in, modrm_in};
 ghost use Rattle.cet_isa.specs.Reading.{byte_at, cells_at, bytes_at, operand_at, read_at, form_at, row_at, any_at};
-ghost use Rattle.cet_decode.specs.Views.{pattern_view, place_view, wide_view, rex_view, imm_view, kind_view, form_view, found_view, Gives};
+ghost use Rattle.cet_decode.specs.Views.{pattern_view, place_view, wide_view, rex_view, imm_view, form_view, found_view, Gives};
 ghost use Rattle.cet_decode.specs.Lead.{rex_at, operand_behind, opcode_from, row_behind, next_of, takes_next, takes};
 
 use crate::addressing::{disp_count, sib_count};
@@ -99,7 +99,7 @@ fn bytes_of(count: usize, bytes: &[u8]) -> Result<(&[u8], &[u8]), Miss>
     Ok(bytes.split_at(count))
 }
 
-/// The SIB and the displacement that follow, 0 where there is none: with REX they say what mod and rm name.
+/// The SIB and the displacement that follow, 0 where there is none: with REX and ModRM they say what the field rm names.
 #[inline(always)]
 #[tactic(auto, using(crate::proofs::LeadLaws::operand_at_zero))]
 fn place_behind(rex: u8, modrm: u8, bytes: &[u8]) -> Result<(u8, i32, &[u8]), Miss>

@@ -10,8 +10,8 @@ use crate::jumps::relative;
 use cet_isa::{Arch, Operand, RSP, Record, Size, What, is_canonical};
 use cet_page::{Cursor, Kind, Suspended, Who, general_protection, word_in};
 
-/// A call ends that leaves the stack pointers so.
-fn called(arch: &mut Arch, target: u64, sp: u64, ssp: u64) -> Record
+/// Ends a call that leaves the stack pointers so; the answer is its record.
+fn end_call(arch: &mut Arch, target: u64, sp: u64, ssp: u64) -> Record
     requires { arch.old.count < 2 ^ 32 - 1 }
     ensures { Leaves (called arch.old target sp ssp) arch.new result }
 {
@@ -42,7 +42,7 @@ fn call(arch: &mut Arch, back: u64, target: u64, at: &mut Cursor) -> Result<Reco
     let shadow = at.look(Kind::ShadowStore, Who::User, ssp)?;
     at.store(word_in(page, sp), back)?;
     at.store(word_in(shadow, ssp), back)?;
-    Ok(called(arch, target, sp, ssp))
+    Ok(end_call(arch, target, sp, ssp))
 }
 
 /// A call to the next instruction, which pushes on the program stack alone.
@@ -56,7 +56,7 @@ fn call_next(arch: &mut Arch, back: u64, at: &mut Cursor) -> Result<Record, Susp
     let page = at.look(Kind::Store, Who::User, sp)?;
     at.store(word_in(page, sp), back)?;
     let ssp = arch.ssp;
-    Ok(called(arch, back, sp, ssp))
+    Ok(end_call(arch, back, sp, ssp))
 }
 
 /// A relative near call.

@@ -16,8 +16,8 @@ pub fn relative(next: u64, disp: i32) -> u64
     next.wrapping_add_signed(i64::from(disp))
 }
 
-/// A jump ends.
-pub fn jumped(arch: &mut Arch, target: u64) -> Record
+/// Ends a jump; the answer is its record.
+pub fn end_jump(arch: &mut Arch, target: u64) -> Record
     requires { arch.old.count < 2 ^ 32 - 1 }
     ensures { Leaves (jumped arch.old target) arch.new result }
 {
@@ -31,7 +31,7 @@ fn jump_to(arch: &mut Arch, target: u64) -> Result<Record, Suspended>
     if !is_canonical(target) {
         return Err(general_protection());
     }
-    Ok(jumped(arch, target))
+    Ok(end_jump(arch, target))
 }
 
 /// An indirect near jump.
@@ -59,5 +59,5 @@ pub fn jump_if(arch: &mut Arch, cond: Cond, disp: i32, next: u64) -> Record
     } else {
         next
     };
-    jumped(arch, target)
+    end_jump(arch, target)
 }

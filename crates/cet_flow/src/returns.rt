@@ -9,8 +9,8 @@ ghost use Rattle.cet_page.specs.Flow.{returned, ret, return_differs};
 use cet_isa::{Arch, Fault, FaultName, RSP, Record, What, is_canonical};
 use cet_page::{Cursor, Kind, Suspended, Who, general_protection, word_in};
 
-/// A return to this target ends.
-fn returned(arch: &mut Arch, bytes: u16, target: u64) -> Record
+/// Ends a return to this target; the answer is its record.
+fn end_return(arch: &mut Arch, bytes: u16, target: u64) -> Record
     requires { arch.old.count < 2 ^ 32 - 1 }
     ensures { Leaves (returned arch.old bytes target) arch.new result }
 {
@@ -59,5 +59,5 @@ pub fn ret(arch: &mut Arch, bytes: u16, at: &mut Cursor) -> Result<Record, Suspe
     if !is_canonical(word) {
         return Err(general_protection());
     }
-    Ok(returned(arch, bytes, word))
+    Ok(end_return(arch, bytes, word))
 }

@@ -10,7 +10,7 @@ ghost use Rattle.cet_page.specs.Row.{next_address};
 ghost use Rattle.cet_page.specs.Flow.{flow};
 
 use crate::calls::{call_indirect, call_relative};
-use crate::jumps::{jump_if, jump_indirect, jumped, relative};
+use crate::jumps::{end_jump, jump_if, jump_indirect, relative};
 use crate::returns::ret;
 use crate::stacks::{leave, pop, push};
 use cet_decode::instruction_length;
@@ -18,8 +18,9 @@ use cet_isa::{Arch, Instr, Record};
 use cet_page::{Cursor, Next, Suspended, Vals, invalid_opcode, next_address};
 use cet_words::Job;
 
-/// A call, return, push, pop or jump, as far as the cursor's accesses lead; `next` is the address of the
-/// next instruction. Every other instruction is an invalid opcode.
+/// What a call, return, push, pop or jump comes to over the accesses that were made: its record, with the
+/// state changed in its place, or an access that it wants or a fault, with the state as it was. `next` is
+/// the address of the next instruction. Every other instruction is an invalid opcode.
 pub fn follow(
     arch: &mut Arch,
     instr: &Instr,
@@ -37,7 +38,7 @@ pub fn follow(
         Instr::Push { src } => push(arch, src, next, at),
         Instr::Pop { dst } => pop(arch, dst, next, at),
         Instr::Leave => leave(arch, next, at),
-        Instr::JmpRel { disp } => Ok(jumped(arch, relative(next, disp))),
+        Instr::JmpRel { disp } => Ok(end_jump(arch, relative(next, disp))),
         Instr::JmpInd { target, .. } => jump_indirect(arch, target, next, at),
         Instr::Jcc { cond, disp } => Ok(jump_if(arch, cond, disp, next)),
         _ => Err(invalid_opcode()),

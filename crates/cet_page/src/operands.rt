@@ -173,8 +173,8 @@ pub fn set_register(arch: &mut Arch, reg: Reg, value: u64)
     arch.regs[reg.number() as usize] = value;
 }
 
-/// An instruction ends that leaves RIP and RFLAGS so; the answer is its record with a value.
-pub fn step_with(arch: &mut Arch, flags: u64, next: u64, value: u64) -> Record
+/// Ends an instruction that leaves RIP and RFLAGS so; the answer is its record, with a value.
+pub fn step_with(arch: &mut Arch, next: u64, flags: u64, value: u64) -> Record
     requires { arch.old.count < 2 ^ 32 - 1 }
     ensures { Leaves (stepped arch.old arch.old.regs next flags value) arch.new result }
 {
@@ -191,16 +191,16 @@ pub fn step_with(arch: &mut Arch, flags: u64, next: u64, value: u64) -> Record
     noted
 }
 
-/// An instruction ends that leaves RFLAGS as they are.
+/// Ends an instruction that leaves RFLAGS as they are; the answer is its record.
 pub fn step(arch: &mut Arch, next: u64, value: u64) -> Record
     requires { arch.old.count < 2 ^ 32 - 1 }
     ensures { Leaves (stepped arch.old arch.old.regs next arch.old.flags value) arch.new result }
 {
     let flags = arch.flags;
-    step_with(arch, flags, next, value)
+    step_with(arch, next, flags, value)
 }
 
-/// An instruction ends that gives a register a value.
+/// Ends an instruction that gives a register a value; the answer is its record.
 pub fn assign(arch: &mut Arch, reg: Reg, value: u64, next: u64) -> Record
     requires { arch.old.count < 2 ^ 32 - 1 }
     ensures { Leaves (assigned arch.old reg value next) arch.new result }
@@ -209,19 +209,20 @@ pub fn assign(arch: &mut Arch, reg: Reg, value: u64, next: u64) -> Record
     step(arch, next, value)
 }
 
-/// An instruction ends that gives a register what was computed, and RFLAGS the flags.
+/// Ends an instruction that gives a register what was computed, and RFLAGS the flags; the answer is its
+/// record.
 pub fn settle(arch: &mut Arch, reg: Reg, computed: Computed, next: u64) -> Record
     requires { arch.old.count < 2 ^ 32 - 1 }
     ensures { Leaves (settled arch.old reg computed next) arch.new result }
 {
     set_register(arch, reg, computed.value);
-    step_with(arch, computed.flags.rflags(), next, computed.value)
+    step_with(arch, next, computed.flags.rflags(), computed.value)
 }
 
-/// An instruction ends that gives RFLAGS alone the flags of what was computed.
+/// Ends an instruction that gives RFLAGS alone the flags of what was computed; the answer is its record.
 pub fn compare(arch: &mut Arch, computed: Computed, next: u64) -> Record
     requires { arch.old.count < 2 ^ 32 - 1 }
     ensures { Leaves (compared arch.old computed next) arch.new result }
 {
-    step_with(arch, computed.flags.rflags(), next, 0)
+    step_with(arch, next, computed.flags.rflags(), 0)
 }

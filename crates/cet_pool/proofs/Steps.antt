@@ -225,7 +225,7 @@ module _ (place : Place) (before mid : Live) (old : List Live) (ready : IsReady 
             (a.above child.core (sym a.bears));
       }
 
--- what `perform` tells of a pass's only thread, and its records
+-- what an access tells of a pass's only thread, and its records
 pub accessed : (place : Place) (before after : Live) (answer : Taken) → IsLive place before → Performs before.pass.view after.pass.view answer → IsOf place after.pass
     → after.records ≡ traced before.records answer.noted → Accessed place before after answer.child
 accessed place before after answer live p of records =

@@ -1,12 +1,12 @@
 //! A pass with the records of its thread, and the accesses that it makes.
 
-ghost use Rattle.std.specs.Prelude.{◌≡◌, None, OnOk, IfOk, IfSome};
+ghost use Rattle.std.specs.Prelude.{◌≡◌, None, OnOk, IfSome};
 ghost use Rattle.cet_cpu.specs.Cpu.{IsCpu};
 ghost use Rattle.cet_page.specs.Machine.{traced};
 ghost use Rattle.cet_page.specs.Within.{IsCore};
 ghost use Rattle.cet_shared.specs.Held.{IsOf, new_thread};
 ghost use Rattle.cet_shared.specs.Rule.{Among};
-ghost use Rattle.cet_pool.specs.Going.{Accessed, IsLive, IsReady, Went, own};
+ghost use Rattle.cet_pool.specs.Going.{Accessed, IsReady, Went, own};
 
 use cet_cpu::Cpu;
 use cet_isa::{End, Record};
@@ -114,6 +114,7 @@ fn step(
     ensures none { OnOk result (child.new ≡ None) }
 {
     access(alloc, job, shared, live, child)?;
+    // The place of a child is taken only where there is one, since that copies it whole.
     if child.is_some() {
         bear(alloc, shared, live, child, born)?;
     }

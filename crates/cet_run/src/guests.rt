@@ -148,7 +148,7 @@ impl Guests {
         self.bear_child(alloc, job, at, value)
     }
 
-    /// The same, apart from the turns that bear nobody.
+    /// The same, where one may be born: a function of its own, so that the turns that bear nobody stay short.
     #[inline(never)]
     fn bear_child(
         &mut self,

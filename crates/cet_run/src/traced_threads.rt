@@ -9,7 +9,7 @@ ghost use Rattle.cet_run.specs.Outcome.{thread_out};
 
 use crate::outcomes::{Records, ThreadOut};
 use cet_cpu::Cpu;
-use cet_isa::{End, Record};
+use cet_isa::End;
 use cet_words::{Job, NoMemory, Perform};
 use std::alloc::Global;
 use std::marker::Model;

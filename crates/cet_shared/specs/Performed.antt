@@ -37,7 +37,7 @@ pub record Moves (old : Held) (found : ℕ) (new : Held) : Type 0 where
   pub view : new ≡ moved old (left_by old.job (own old).core found)
   pub above : (child : Core) → (left_by old.job (own old).core found).child ≡ Some child → (own old).core.arch.number < child.arch.number
 
--- What `perform` leaves and answers: the pass's own thread made its next access, as one step of the table, and the answer is the
+-- What an access leaves and answers: the pass's own thread made its next access, as one step of the table, and the answer is the
 -- record, the child and the end that came of it.
 pub record Performs (old new : Held) (answer : Taken) : Type 0 where
   pub found : ℕ

@@ -37,7 +37,6 @@ pub struct Shared {
 
 impl Model for Shared {
     ghost use Rattle.std.specs.Prelude.{◌≡◌};
-    ghost use Rattle.cet_words.specs.Job.{IsJob};
     ghost use Rattle.cet_words.specs.Layout.{word_count};
     ghost use Rattle.cet_shared.specs.Held.{Place};
     ghost use Rattle.cet_shared.specs.Keys.{job_of};
@@ -105,7 +104,7 @@ impl Shared {
         pass.cpu.accept(job, value)
     }
 
-    /// Gives a child, which `perform` answered for this pass, a pass of its own.
+    /// Gives a child, which an access of this pass bore, a pass of its own.
     pub fn split_child(&self, pass: &mut Pass, child: Cpu) -> Pass
         requires pass { IsOf self.now pass.old }
         requires child { Among (new_thread child.core) pass.old.view.born }
@@ -153,7 +152,7 @@ impl Shared {
     }
 }
 
-/// The thread that is born where the next access has this answer.
+/// Puts the thread that is born where the next access has this answer into `child`, if any.
 fn bear(job: &Job, parent: &Cpu, answer: u64, child: &mut Option<Cpu>)
     requires state { IsCpu job.now parent.now }
     requires goes { parent.now.core.over ≡ None }
@@ -244,8 +243,8 @@ fn copy_part(closed: &Closed<(), Global>, into: &mut Plain, low: u32, high: u32)
     }
 }
 
-/// Has `into` have the words of a closed table. A part that is 0 there is not stored, so pages that
-/// nobody has stored to still cost nothing.
+/// Has `into` have the words of a closed table. In a part that is 0 there only what is held is stored to, so
+/// pages that nobody has stored to still cost nothing.
 fn copy_words(closed: &Closed<(), Global>, into: &mut Plain)
     requires count { slots_len closed.now.words ≡ word_count }
     requires full { IsFull closed.now.words }

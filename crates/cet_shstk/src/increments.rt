@@ -10,8 +10,8 @@ ghost use Rattle.cet_page.specs.ShadowStacks.{raised, raised_if, incsspq};
 use cet_isa::{Arch, Record, What};
 use cet_page::{Cursor, Kind, Suspended, Who};
 
-/// INCSSPQ ends.
-fn raised(arch: &mut Arch, count: u8, next: u64) -> Record
+/// Ends INCSSPQ; the answer is its record.
+fn end_incsspq(arch: &mut Arch, count: u8, next: u64) -> Record
     requires { arch.old.count < 2 ^ 32 - 1 }
     ensures { Leaves (raised arch.old count next) arch.new result }
 {
@@ -46,5 +46,5 @@ pub fn incsspq(arch: &mut Arch, count: u8, next: u64, at: &mut Cursor) -> Result
     let last = u64::from(count.max(1) - 1);
     let _first = at.look(Kind::ShadowLoad, Who::User, arch.ssp)?;
     let _last = look_last(count, arch.ssp.wrapping_add(8 * last), at)?;
-    Ok(raised(arch, count, next))
+    Ok(end_incsspq(arch, count, next))
 }

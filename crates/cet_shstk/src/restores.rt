@@ -12,8 +12,8 @@ use cet_page::{Cursor, Kind, Suspended, Who, previous_token, restore_token_at, w
 /// RFLAGS with CF, PF, AF, ZF, SF and OF clear.
 const CLEAR: u64 = 2;
 
-/// RSTORSSP ends.
-fn restored(arch: &mut Arch, addr: u64, next: u64) -> Record
+/// Ends RSTORSSP; the answer is its record.
+fn end_rstorssp(arch: &mut Arch, addr: u64, next: u64) -> Record
     requires { arch.old.count < 2 ^ 32 - 1 }
     ensures { Leaves (restored arch.old addr next) arch.new result }
 {
@@ -57,5 +57,5 @@ pub fn rstorssp(arch: &mut Arch, addr: u64, next: u64, at: &mut Cursor) -> Resul
     if found != token {
         return Err(Suspended::Fault(no_restore_token(addr, found)));
     }
-    Ok(restored(arch, addr, next))
+    Ok(end_rstorssp(arch, addr, next))
 }

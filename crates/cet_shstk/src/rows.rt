@@ -20,9 +20,10 @@ use cet_page::{
 };
 use cet_words::Job;
 
-/// An instruction on shadow stacks, as far as the cursor's accesses lead; `next` is the address of the
-/// next instruction. WRSSQ is never enabled, so it is an invalid opcode as every other instruction is, and
-/// WRUSSQ is the supervisor's, #GP(0).
+/// What an instruction on shadow stacks comes to over the accesses that were made: its record, with the
+/// state changed in its place, or an access that it wants or a fault, with the state as it was. `next` is
+/// the address of the next instruction. WRSSQ is never enabled, so it is an invalid opcode as every other
+/// instruction is, and WRUSSQ is the supervisor's, #GP(0).
 pub fn follow(
     arch: &mut Arch,
     instr: &Instr,
@@ -40,7 +41,7 @@ pub fn follow(
         Instr::Rdsspq { reg } => {
             let ssp = arch.ssp;
             Ok(assign(arch, reg, ssp, next))
-        },
+        }
         Instr::Rstorssp { mem } => {
             let addr = effective(arch, mem, next);
             rstorssp(arch, addr, next, at)

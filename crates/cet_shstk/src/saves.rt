@@ -12,8 +12,8 @@ use cet_page::{
     restore_token, saved_at, word_in,
 };
 
-/// SAVEPREVSSP ends.
-fn saved(arch: &mut Arch, addr: u64, next: u64) -> Record
+/// Ends SAVEPREVSSP; the answer is its record.
+fn end_saveprevssp(arch: &mut Arch, addr: u64, next: u64) -> Record
     requires { arch.old.count < 2 ^ 32 - 1 }
     ensures { Leaves (saved arch.old addr next) arch.new result }
 {
@@ -40,7 +40,7 @@ fn save(arch: &mut Arch, ssp: u64, next: u64, at: &mut Cursor) -> Result<Record,
     let addr = saved_at(ssp);
     let page = at.look(Kind::ShadowStore, Who::User, addr)?;
     at.store(word_in(page, addr), restore_token(ssp))?;
-    Ok(saved(arch, addr, next))
+    Ok(end_saveprevssp(arch, addr, next))
 }
 
 /// The address of the token must be canonical, else #GP(0).

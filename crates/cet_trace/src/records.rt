@@ -58,6 +58,7 @@ fn write_decimal(buf: &mut [u8], end: usize, number: u64) -> usize
     }
 }
 
+/// Writes a fault's name so that it ends at `end`, and answers where it starts.
 fn write_fault(buf: &mut [u8], end: usize, name: FaultName) -> usize
     requires { (3 ≤ end) × (end ≤ length buf.old) }
     ensures start { result + length (fault_name name) ≡ end }

@@ -2,7 +2,7 @@
 
 ghost use Rattle.std.specs.Prelude.{◌≡◌, ◌≤◌, ◌++◌, length, map, OnOk, IfOk};
 ghost use Rattle.std.specs.List.{flat_map, enumerate_from};
-ghost use Rattle.cet_trace.specs.Line.{line, word_text};
+ghost use Rattle.cet_trace.specs.Line.{word_text};
 ghost use Rattle.cet_trace.specs.Report.{thread_line, thread_text, entry_text, shown_from, shown_entries, stack_line, stack_text, process_text, process_words, report_of};
 
 use crate::lines::{Word, put_line};
