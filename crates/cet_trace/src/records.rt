@@ -157,6 +157,7 @@ pub(crate) fn put_records(
 {
     let mut buf = [0; PIECE * LINE];
     let mut rest = &records.as_slice()[from..];
+    out.reserve(alloc, LINE.saturating_mul(rest.len()));
     'pieces: while !rest.is_empty() {
         let (piece, after) = rest.split_at(rest.len().min(PIECE));
         let at = write_records(&mut buf, number, piece);

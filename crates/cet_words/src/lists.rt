@@ -64,6 +64,14 @@ impl<T> Items<T> {
         Ok(())
     }
 
+    /// Takes room for so many more items, so that appending them moves none. Where there is no such room the
+    /// list stays as it is, and grows as it is appended to.
+    pub fn reserve(&mut self, _alloc: Global, more: usize)
+        ensures { self.new ≡ self.old }
+    {
+        let _ = self.items.reserve(more);
+    }
+
     /// The number of items.
     pub fn len(&self) -> usize
         ensures { result ≡ length self.now }

@@ -123,20 +123,20 @@ impl Plain {
         clear_range(&mut self.kernel, FIRST_KERNEL_WORD, low, high);
     }
 
-    /// The word of a number.
+    /// The word of a number. Most accesses load one of the kernel's words or an entry of a page.
     #[tactic(auto, using(crate::proofs::HeldLaws::held_at))]
     fn get(&self, word: u32) -> u64
         requires { word < word_count }
         ensures { result ≡ slice_index self.now word }
     {
-        if word < FIRST_STACK_WORD {
+        if word >= FIRST_KERNEL_WORD {
+            held_word(&self.kernel, (word - FIRST_KERNEL_WORD) as usize)
+        } else if word < FIRST_STACK_WORD {
             held_word(&self.image, word as usize)
         } else if word < FIRST_SHADOW_WORD {
             held_word(&self.stack, (word - FIRST_STACK_WORD) as usize)
-        } else if word < FIRST_KERNEL_WORD {
-            held_word(&self.shadow, (word - FIRST_SHADOW_WORD) as usize)
         } else {
-            held_word(&self.kernel, (word - FIRST_KERNEL_WORD) as usize)
+            held_word(&self.shadow, (word - FIRST_SHADOW_WORD) as usize)
         }
     }
 
